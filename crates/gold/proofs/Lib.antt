@@ -1,0 +1,7 @@
+pub mod Binary
+pub mod Window
+pub mod Cores
+pub mod Pair
+pub mod Laws
+pub mod Loops
+pub mod Lent

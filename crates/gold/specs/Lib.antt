@@ -1,0 +1,3 @@
+pub mod Sequence
+pub mod Steps
+pub mod Window

@@ -1,0 +1,139 @@
+// The pseudo-random sequence c(n) of TS 36.211 7.2, up to 28 bits at a time. A register holds the next 31 values of its
+// sequence as a number, the first most significant (bit 30), and so does a word.
+ghost use mathlib.Core.Path.{_≡_};
+ghost use Prim.Native.Nat.{ℕ, _≤_, _-_, _/_, _%_, _^_};
+ghost use Rattle.gold.specs.Sequence.{binary, start2, bitsFrom, pairAt};
+ghost use Rattle.gold.specs.Steps.{after, wordOf};
+ghost use Rattle.gold.specs.Window.{window, feed1, feed2};
+
+// The register pair of document 01: the next 31 values of x1 and of x2.
+pub struct Registers {
+    pub x1: u32,
+    pub x2: u32,
+}
+
+// 59 values of a sequence in one number: the register, and the 28 that come next.
+fn widened(x: u32, y: u32) -> u64
+    ensures { λ z. ⌜ z ≡ window x y ⌝ }
+{
+    (x as u64) * 268435456 + ((y % 268435456) as u64)
+}
+
+// The sums x1(n+3) + x1(n), 28 of them at once.
+fn fed1(x: u32) -> u32
+    ensures { λ y. ⌜ y ≡ feed1 x ⌝ }
+{
+    x ^ x / 8
+}
+
+// The sums x2(n+3) + x2(n+2) + x2(n+1) + x2(n), 28 of them at once.
+fn fed2(x: u32) -> u32
+    ensures { λ y. ⌜ y ≡ feed2 x ⌝ }
+{
+    x ^ x / 2 ^ x / 4 ^ x / 8
+}
+
+// The register n steps on: 31 bits of the 59.
+fn moved(z: u64, n: u32) -> u32
+    requires { ⌜ n ≤ 28 ⌝ }
+    ensures { λ x. ⌜ x ≡ z / 2 ^ (28 - n) % 2 ^ 31 ⌝ }
+{
+    ((z >> (28 - n)) % 2147483648) as u32
+}
+
+// The first n of 31 bits.
+fn top(v: u32, n: u32) -> u32
+    requires { ⌜ n ≤ 28 ⌝ }
+    ensures { λ w. ⌜ w ≡ v % 2 ^ 31 / 2 ^ (31 - n) ⌝ }
+{
+    (v % 2147483648) >> (31 - n)
+}
+
+// The pair n steps on, all at once. Callers pass a constant or a modulation order for n.
+pub fn advance(r: Registers, n: u32) -> Registers
+    requires { ⌜ (1 ≤ n) × (n ≤ 28) ⌝ }
+    ensures { λ s. ⌜ s ≡ after r n ⌝ }
+{
+    let a = r.x1;
+    let b = r.x2;
+    Registers {
+        x1: moved(widened(a, fed1(a)), n),
+        x2: moved(widened(b, fed2(b)), n),
+    }
+}
+
+// The next n bits as a word, the first most significant. Callers pass a constant or a modulation order for n.
+pub fn word(r: Registers, n: u32) -> u32
+    requires { ⌜ (1 ≤ n) × (n ≤ 28) ⌝ }
+    ensures { λ w. ⌜ w ≡ wordOf r n ⌝ }
+{
+    top(r.x1 ^ r.x2, n)
+}
+
+// The pair any number of steps on.
+pub fn skip(r: Registers, n: usize) -> Registers
+    ensures { λ s. ⌜ s ≡ after r n ⌝ }
+{
+    let mut s = r;
+    let mut left = n;
+    while left > 28 {
+        s = advance(s, 28);
+        left -= 28;
+    }
+    if left == 0 {
+        return s;
+    }
+    advance(s, left as u32)
+}
+
+// The 31 low bits of c, the lowest most significant: a register that holds the start of x2.
+fn mirrored(c: u32) -> u32
+    ensures { λ x. ⌜ x ≡ binary (start2 c) 0 31 ⌝ }
+{
+    let mut x: u32 = 0;
+    let mut k: u32 = 0;
+    while k < 31 {
+        x = x * 2 + (c >> k) % 2;
+        k += 1;
+    }
+    x
+}
+
+// The pair at c(0), 1600 steps on from the start of x1 and x2. Bit 31 of c_init does not count.
+pub fn start(c_init: u32) -> Registers
+    ensures { λ r. ⌜ r ≡ pairAt «c_init» 0 ⌝ }
+{
+    let first = Registers {
+        x1: 1073741824,
+        x2: mirrored(c_init),
+    };
+    skip(first, 1600)
+}
+
+// The pair at c(first).
+pub fn pair_at(c_init: u32, first: usize) -> Registers
+    ensures { λ r. ⌜ r ≡ pairAt «c_init» first ⌝ }
+{
+    skip(start(c_init), first)
+}
+
+// The pair is lent and advanced in place: the thin step over `word` and `advance`. Callers pass a constant or a
+// modulation order for n.
+pub fn next_word(r: &mut Registers, n: u32) -> u32
+    requires { ⌜ (1 ≤ n) × (n ≤ 28) ⌝ }
+    ensures { λ w. ⌜ (w ≡ wordOf (now (r .entry)) n) × (now (r .exit) ≡ after (now (r .entry)) n) ⌝ }
+{
+    let was = *r;
+    *r = advance(was, n);
+    word(was, n)
+}
+
+// c(first), .., c(first + n - 1) as a word, from a pair of its own that it lends. Its parameters are plain, so that its
+// callers need no proof by hand. They pass a constant for n.
+pub fn word_from(c_init: u32, first: usize, n: u32) -> u32
+    requires { ⌜ (1 ≤ n) × (n ≤ 28) ⌝ }
+    ensures { λ w. ⌜ w ≡ bitsFrom «c_init» first n ⌝ }
+{
+    let mut r = pair_at(c_init, first);
+    next_word(&mut r, n)
+}
