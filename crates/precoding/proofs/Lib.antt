@@ -1,0 +1,4 @@
+pub mod Ports
+pub mod Rows
+pub mod Diversity
+pub mod Sums

@@ -1,0 +1,4 @@
+pub mod Layers
+pub mod Matrices
+pub mod Phich
+pub mod Places

@@ -1,0 +1,102 @@
+-- Each level of each unit is within one part in 2 ^ 22 of I / √u: one test that antt computes over the table, and the law that turns it into the bound.
+-- Assumes nothing.
+use mathlib.Core.Path.{_≡_, refl, sym, ap, _∙_}
+use mathlib.Core.Bool.{Bool, true, false, _&&_, Bool·beq}
+use Prim.Native.Nat.{ℕ, suc, _*_, _^_, _≤_, _<_, suc-le-suc}
+use native.Mathlib.Nat.{le-of-eq, mul-one}
+use native.Mathlib.Omega.{arith}
+use lib.Dec.{T, leb, leb→le}
+use lib.IntN.{ℤ, pos, negsuc, natAbs}
+use lib.Ieee.{Float, nan, inf, fin, binary32, up, down, mul, ofInt, ofBits}
+use lib.Ieee.Exact.{HasValue}
+use lib.Ieee.Back.{round-whole}
+use lib.Ieee.Fits.{and-l, and-r, down-pos}
+use mir.Syntax.{w8}
+use mir.Val.{SFits}
+use Rattle.base.specs.Signs.{negative}
+use Rattle.base.proofs.Computed.{allBelow, below-at, every}
+use Rattle.base.proofs.Fits.{abs8}
+use Rattle.sample.specs.declared.Row.{Row}
+use Rattle.sample.specs.declared.Scale.the-variants.{Levels}
+use Rattle.sample.specs.Units.{rows, scaleOf}
+use Rattle.sample.specs.Answer.{partOf}
+use Rattle.sample.specs.Bound.{low, high, Within, Close}
+use Rattle.sample.specs.Promise.{Exact}
+use Rattle.sample.proofs.Squares.{double, most-by, least-by}
+use Rattle.sample.proofs.Table.{found}
+
+-- ---- a level is an f32 exactly
+whole : (z : ℤ) → natAbs z ≤ 2 ^ 24 → HasValue (ofInt binary32 z) (negative z) (natAbs z) 1
+unfolding ofInt
+whole (pos n) h = round-whole binary32 false n h
+whole (negsuc n) h = round-whole binary32 true (suc n) h
+
+pub exactly : (z : ℤ) → SFits w8 z → Exact z (ofInt binary32 z)
+exactly z f = record { value = refl; exact = whole z (omega (arith, abs8 z f)) }
+
+-- ---- the test of one sample, w / d in size, and what it says
+abbrev sized : ℕ → ℤ → ℕ → ℕ → Bool
+sized u z w d = leb (low z * (d * d)) (2 ^ 44 * u * (w * w)) && leb (2 ^ 44 * u * (w * w)) (high z * (d * d))
+
+abbrev close : ℕ → ℤ → Float → Bool
+close u z nan = false
+close u z (inf s) = false
+close u z (fin s m e) = Bool·beq s (negative z) && sized u z (m * up e) (down e)
+
+same : (a b : Bool) → T (Bool·beq a b) → a ≡ b
+same true true t = refl
+same true false t = absurd t
+same false true t = absurd t
+same false false t = refl
+
+within : (u : ℕ) (z : ℤ) (s : Bool) (w d a t : ℕ) → 0 < d → s ≡ negative z → T (sized u z w d) → w * 2 ^ t ≡ a * d → Within u z s a t
+within u z s w d a t p e h v =
+    let l = leb (low z * (d * d)) (2 ^ 44 * u * (w * w)) in
+    let m = leb (2 ^ 44 * u * (w * w)) (high z * (d * d)) in
+    record {
+      sign = e;
+      least = rw (double t) (least-by (2 ^ 44 * u) (low z) a d w (2 ^ t) p (le-of-eq v) (leb→le (low z * (d * d)) (2 ^ 44 * u * (w * w)) (and-l l m h)));
+      most = rw (double t) (most-by (2 ^ 44 * u) (high z) a d w (2 ^ t) p (le-of-eq (sym v)) (leb→le (2 ^ 44 * u * (w * w)) (high z * (d * d)) (and-r l m h)));
+    }
+
+written : (s : Bool) (m : ℕ) (e : ℤ) → (r : Bool) × (a : ℕ) × (t : ℕ) × HasValue (fin s m e) r a (2 ^ t)
+written s m (pos k) = (s, m * 2 ^ k, 0, (refl, refl))
+written s m (negsuc k) = (s, m, suc k, (refl, ap (λ (n : ℕ). n * 2 ^ suc k) (mul-one m)))
+
+closed : (u : ℕ) (z : ℤ) (x : Float) → T (close u z x) → Close u z x
+closed u z nan h = absurd h
+closed u z (inf s) h = absurd h
+closed u z (fin s m e) h =
+    let b = Bool·beq s (negative z) in
+    let q = sized u z (m * up e) (down e) in
+    record {
+      number = tt;
+      written = written s m e;
+      within = λ r a t v. within u z r (m * up e) (down e) a t (down-pos e) (sym (v .0) ∙ same s (negative z) (and-l b q h)) (and-r b q h) (v .1);
+    }
+
+-- ---- each level of a row, 0 or above and below 0
+abbrev above : Row → ℕ → Bool
+above r n = close (r .unit) (pos n) (partOf (r .gain) (pos n))
+
+abbrev under : Row → ℕ → Bool
+under r n = close (r .unit) (negsuc n) (partOf (r .gain) (negsuc n))
+
+abbrev levels : Row → Bool
+levels r = allBelow (above r) (suc (r .limit)) && allBelow (under r) (r .limit)
+
+levels-at : (r : Row) → T (levels r) → (z : ℤ) → natAbs z ≤ r .limit → T (close (r .unit) z (partOf (r .gain) z))
+levels-at r t (pos n) h =
+    below-at (above r) (suc (r .limit)) (and-l (allBelow (above r) (suc (r .limit))) (allBelow (under r) (r .limit)) t) n (suc-le-suc h)
+levels-at r t (negsuc n) h =
+    below-at (under r) (r .limit) (and-r (allBelow (above r) (suc (r .limit))) (allBelow (under r) (r .limit)) t) n h
+
+-- ---- the table
+passes : T (every levels rows)
+unfolding mul ofInt ofBits
+passes = tt
+
+-- THE BOUND: for the unit of each row and each level z up to its limit
+pub bound : (b : ℕ) (r : Row) (z : ℤ) → scaleOf b ≡ Levels r → natAbs z ≤ r .limit → Close (r .unit) z (partOf (r .gain) z)
+unfolding scaleOf
+bound b r z e h = closed (r .unit) z (partOf (r .gain) z) (levels-at r (found levels rows passes b r e) z h)

@@ -1,0 +1,6 @@
+pub mod Table
+pub mod Squares
+pub mod Bounds
+pub mod Nearness
+pub mod Answers
+pub mod Readings

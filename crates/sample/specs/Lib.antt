@@ -1,0 +1,4 @@
+pub mod Units
+pub mod Answer
+pub mod Bound
+pub mod Promise

@@ -1,0 +1,198 @@
+// One grid element, three bytes, as a modem sample: silence, a phase step, or a pair of f32 (document 01, Samples).
+// A level I of unit u stands for I / √u: I as an f32, exactly, times the gain, the f32 nearest 1 / √u, rounded once.
+ghost use mathlib.Core.Path.{_≡_};
+ghost use lib.IntN.{natAbs};
+ghost use Rattle.base.specs.Bytes.{signedOf};
+ghost use Rattle.sample.specs.Units.{scaleOf};
+ghost use Rattle.sample.specs.Answer.{partOf, pointOf, silentOf, phaseOf, scaledOf};
+ghost use Rattle.sample.specs.Promise.{Exact, Gained, Sampled};
+
+// The pair of f32 of an element's I and J.
+pub struct Point {
+    pub re: f32,
+    pub im: f32,
+}
+
+// What an element means: `Phase` holds I of the phase −2πI/63.
+pub enum Sample {
+    Silence,
+    Phase(u8),
+    At(Point),
+}
+
+// Refused is refusal 9; `told` of specs/Answer.antt gives document 01's number and values of each case.
+pub enum SampleAnswer {
+    Is(Sample),
+    Refused,
+}
+
+// A unit of levels: its byte in the grid, the unit u itself, the largest level either way, and the f32 nearest 1 / √u.
+// Nothing computes with u: it is what the contracts hold the gain and the samples to.
+struct Row {
+    byte: u8,
+    unit: u16,
+    limit: u8,
+    gain: f32,
+}
+
+enum Scale {
+    Levels(Row),
+    Nothing,
+}
+
+const COUNT: usize = 7;
+
+// The table of units. A new unit is a new row here and in specs/Units.antt.
+const ROWS: [Row; COUNT] = [
+    Row {
+        byte: 1,
+        unit: 1,
+        limit: 8,
+        gain: 1.0,
+    },
+    Row {
+        byte: 2,
+        unit: 2,
+        limit: 8,
+        gain: 0.70710677,
+    },
+    Row {
+        byte: 4,
+        unit: 4,
+        limit: 8,
+        gain: 0.5,
+    },
+    Row {
+        byte: 10,
+        unit: 10,
+        limit: 8,
+        gain: 0.31622776,
+    },
+    Row {
+        byte: 20,
+        unit: 20,
+        limit: 8,
+        gain: 0.2236068,
+    },
+    Row {
+        byte: 42,
+        unit: 42,
+        limit: 8,
+        gain: 0.15430336,
+    },
+    Row {
+        byte: 84,
+        unit: 84,
+        limit: 8,
+        gain: 0.10910895,
+    },
+];
+
+// The row of a unit byte, if it has one.
+fn scale_of(unit: u8) -> Scale
+    ensures { λ r. ⌜ r ≡ scaleOf unit ⌝ }
+{
+    let mut k = 0;
+    while k < COUNT {
+        let row = ROWS[k];
+        if row.byte == unit {
+            return Scale::Levels(row);
+        }
+        k += 1;
+    }
+    Scale::Nothing
+}
+
+// The gain of a unit byte, and 0 where there is no such unit.
+pub fn gain(unit: u8) -> f32
+    ensures { λ r. ⌜ Gained unit r ⌝ }
+{
+    match scale_of(unit) {
+        Scale::Levels(row) => row.gain,
+        Scale::Nothing => 0.0,
+    }
+}
+
+// The size of a level, from its byte.
+fn size(b: u8) -> u8
+    ensures { λ r. ⌜ r ≡ natAbs (signedOf b) ⌝ }
+{
+    if b < 128 { b } else { 255 - b + 1 }
+}
+
+// A level as an f32, exactly.
+fn level(i: i8) -> f32
+    ensures { λ r. ⌜ Exact i r ⌝ }
+{
+    i as f32
+}
+
+// The sample of a level: one product.
+fn part(gain: f32, b: u8) -> f32
+    ensures { λ r. ⌜ r ≡ partOf gain (signedOf b) ⌝ }
+{
+    level(base::signed(b)) * gain
+}
+
+fn point_of(gain: f32, i: u8, j: u8) -> Point
+    ensures { λ r. ⌜ r ≡ pointOf gain (signedOf i) (signedOf j) ⌝ }
+{
+    Point {
+        re: part(gain, i),
+        im: part(gain, j),
+    }
+}
+
+fn silent(i: u8, j: u8) -> SampleAnswer
+    ensures { λ r. ⌜ r ≡ silentOf i j ⌝ }
+{
+    if i != 0 {
+        return SampleAnswer::Refused;
+    }
+    if j != 0 {
+        return SampleAnswer::Refused;
+    }
+    SampleAnswer::Is(Sample::Silence)
+}
+
+fn phase(i: u8, j: u8) -> SampleAnswer
+    ensures { λ r. ⌜ r ≡ phaseOf i j ⌝ }
+{
+    if 62 < i {
+        return SampleAnswer::Refused;
+    }
+    if j != 0 {
+        return SampleAnswer::Refused;
+    }
+    SampleAnswer::Is(Sample::Phase(i))
+}
+
+fn scaled(s: Scale, i: u8, j: u8) -> SampleAnswer
+    ensures { λ r. ⌜ r ≡ scaledOf s i j ⌝ }
+{
+    match s {
+        Scale::Levels(row) => {
+            if row.limit < size(i) {
+                return SampleAnswer::Refused;
+            }
+            if row.limit < size(j) {
+                return SampleAnswer::Refused;
+            }
+            SampleAnswer::Is(Sample::At(point_of(row.gain, i, j)))
+        }
+        Scale::Nothing => SampleAnswer::Refused,
+    }
+}
+
+// The sample of any three bytes of a grid: unit, I, J. Refused where they are no element.
+pub fn sample_at(unit: u8, i: u8, j: u8) -> SampleAnswer
+    ensures { λ r. ⌜ Sampled unit i j r ⌝ }
+{
+    if unit == 0 {
+        return silent(i, j);
+    }
+    if unit == 63 {
+        return phase(i, j);
+    }
+    scaled(scale_of(unit), i, j)
+}

@@ -1,0 +1,124 @@
+// Vectors of the sample: the gains, every level of every unit, and how many pairs of bytes each unit takes.
+use sample::Sample;
+use sample::SampleAnswer;
+
+const UNITS: [u8; 7] = [1, 2, 4, 10, 20, 42, 84];
+
+// How many answers of each kind.
+struct Counts {
+    silence: u32,
+    phase: u32,
+    point: u32,
+    refused: u32,
+}
+
+// The bits of a float that is a number.
+fn bits(x: f32) -> u32 {
+    if x != x { 0 } else { f32::to_bits(x) }
+}
+
+fn gain_line(unit: u8) {
+    print::text(b"gain ");
+    print::number(unit as u64);
+    print::space();
+    print::hex(bits(sample::gain(unit)));
+    print::line();
+}
+
+fn level_line(unit: u8, i: u8) {
+    print::text(b"level ");
+    print::number(unit as u64);
+    print::space();
+    print::level(base::signed(i));
+    print::space();
+    if let SampleAnswer::Is(s) = sample::sample_at(unit, i, 0) {
+        if let Sample::At(p) = s {
+            print::hex(bits(p.re));
+        }
+    }
+    print::line();
+}
+
+fn gains() {
+    let mut k = 0;
+    while k < 7 {
+        gain_line(UNITS[k]);
+        k += 1;
+    }
+}
+
+// The byte of the level n % 17 - 8.
+fn byte_at(n: usize) -> u8 {
+    let m = n % 17;
+    if m < 8 {
+        (m + 248) as u8
+    } else {
+        (m - 8) as u8
+    }
+}
+
+fn levels() {
+    let mut k = 0;
+    while k < 119 {
+        level_line(UNITS[k / 17], byte_at(k));
+        k += 1;
+    }
+}
+
+fn counted(c: Counts, a: SampleAnswer) -> Counts {
+    let mut d = c;
+    match a {
+        SampleAnswer::Is(s) => match s {
+            Sample::Silence => d.silence = std::num::wrapping_add_u32(d.silence, 1),
+            Sample::Phase(_) => d.phase = std::num::wrapping_add_u32(d.phase, 1),
+            Sample::At(_) => d.point = std::num::wrapping_add_u32(d.point, 1),
+        },
+        SampleAnswer::Refused => d.refused = std::num::wrapping_add_u32(d.refused, 1),
+    }
+    d
+}
+
+// Over all pairs of bytes.
+fn tally(unit: u8) -> Counts {
+    let mut c = Counts {
+        silence: 0,
+        phase: 0,
+        point: 0,
+        refused: 0,
+    };
+    let mut n: u32 = 0;
+    while n < 65536 {
+        c = counted(c, sample::sample_at(unit, (n / 256) as u8, (n % 256) as u8));
+        n += 1;
+    }
+    c
+}
+
+fn unit_line(unit: u8) {
+    let c = tally(unit);
+    print::text(b"unit ");
+    print::number(unit as u64);
+    print::space();
+    print::number(c.silence as u64);
+    print::space();
+    print::number(c.phase as u64);
+    print::space();
+    print::number(c.point as u64);
+    print::space();
+    print::number(c.refused as u64);
+    print::line();
+}
+
+fn units() {
+    let mut u: u32 = 0;
+    while u < 256 {
+        unit_line(u as u8);
+        u += 1;
+    }
+}
+
+fn main() {
+    gains();
+    levels();
+    units();
+}
