@@ -1,0 +1,6 @@
+pub mod Triangles
+pub mod Bits
+pub mod Recurrence
+pub mod Signals
+pub mod Groups
+pub mod Known

@@ -1,0 +1,3 @@
+pub mod Pss
+pub mod Sss
+pub mod Inner
