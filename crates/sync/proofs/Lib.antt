@@ -3,4 +3,3 @@ pub mod Bits
 pub mod Recurrence
 pub mod Signals
 pub mod Groups
-pub mod Known

@@ -1,0 +1,32 @@
+-- What the theorem cites. Document 01, "Known elements": the cases marked P. A row is what the definitions give, and what the
+-- paper says.
+use Prim.Native.Nat.{ℕ}
+use mathlib.Core.Path.{_≡_}
+use mathlib.Core.List.{List, [], _∷_, map}
+use lib.IntN.{ℤ, pos, negsuc}
+use Rattle.base.specs.declared.Pair.{Pair}
+use Rattle.modulation.specs.Symbols.{symbolOf}
+use Rattle.sync.specs.Pss.{pssRoot, pssPhase}
+use Rattle.sync.specs.Sss.{m0Of, m1Of}
+
+pub data Row : Type 1 where
+  row : {A : Type 0} → A → A → Row
+
+abbrev pub Agree : List Row → Type 1
+Agree [] = Unit {1}
+Agree (row a b ∷ rows) = (a ≡ b) × Agree rows
+
+abbrev pub pair : ℤ → ℤ → Pair
+pair i j = record { re = i; im = j }
+
+abbrev pub rows : List Row
+rows =
+    -- "D = 0, 29, 30, 167 give (m0, m1) = (0,1), (29,30), (0,2), (2,9)"
+    row (map m0Of (0 ∷ 29 ∷ 30 ∷ 167 ∷ [])) (0 ∷ 29 ∷ 0 ∷ 2 ∷ [])
+    ∷ row (map m1Of (0 ∷ 29 ∷ 30 ∷ 167 ∷ [])) (1 ∷ 30 ∷ 2 ∷ 9 ∷ [])
+    -- "w = 25, i = 0, 1, 2, 30, 31: 0, 25, 12, 33, 33"
+    ∷ row (pssRoot 0) 25
+    ∷ row (map (pssPhase 0) (0 ∷ 1 ∷ 2 ∷ 30 ∷ 31 ∷ [])) (0 ∷ 25 ∷ 12 ∷ 33 ∷ 33 ∷ [])
+    -- "101111 gives (−7, 7)"
+    ∷ row (symbolOf 6 0b101111) (pair (negsuc 6) (pos 7))
+    ∷ []

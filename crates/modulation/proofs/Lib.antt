@@ -1,0 +1,7 @@
+pub mod Levels
+pub mod Words
+pub mod Places
+pub mod Symbols
+pub mod Marks
+pub mod Lookup
+pub mod Formulas
