@@ -1,0 +1,15 @@
+pub mod His
+pub mod Correlation
+pub mod Lengths
+pub mod Parts
+pub mod Chips
+pub mod Slots
+pub mod Orthogonal
+pub mod Along
+pub mod Recovered
+pub mod Few
+pub mod Units
+pub mod Signed
+pub mod Turns
+pub mod Places
+pub mod Quad

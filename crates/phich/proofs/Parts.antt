@@ -1,0 +1,106 @@
+-- One HI's part at a place: by its group's places, as a turned wave, and that it is at most 1 either way. Assumes nothing.
+use Prim.Native.Nat.{ℕ, _+_, _-_, _*_, _/_, _%_, _≤_, _<_}
+use mathlib.Core.Path.{_≡_, refl, sym, ap, ap₂, _∙_, subst}
+use mathlib.Core.Bool.{Bool, true, false, cond, _&&_}
+use mathlib.Core.List.{[]}
+use native.Mathlib.Omega.{arith}
+use borrow.Author.Tests.{lt-leb, le-leb, le-ltb, lt-ltb}
+use lib.ListN.{getD}
+use lib.Dec.{T, eqb, leb, ltb, leb→le, ltb→lt}
+use lib.Ieee.Fits.{and-l, and-r}
+use lib.IntN.{natAbs}
+use Rattle.base.specs.declared.Pair.{Pair}
+use Rattle.base.specs.Pairs.{nil, turned, Small}
+use Rattle.base.proofs.Computed.{every, every-at}
+use Rattle.base.proofs.Fits.{abs-add, abs-minus}
+use Rattle.base.proofs.Pairs.{turned-nil, turned-small}
+use Rattle.phich.specs.declared.SignPair.{SignPair}
+use Rattle.phich.specs.declared.Hi.{Hi}
+use Rattle.phich.specs.Spreading.{Length, «±0», normal, extended, sequences, signAt, plainChip, chipAt}
+use Rattle.phich.specs.Units.{firstOf, has, chipNumber, partAt}
+use Rattle.phich.proofs.Lengths.{chip-mod, place-mod}
+
+-- ---- by the group's places
+has-not : (l : ℕ) (c : ℕ → ℕ) (h : Hi) (b i : ℕ) → has l h i ≡ false → partAt l c h b i ≡ nil
+unfolding partAt
+has-not l c h b i e = ap (λ (t : Bool). cond t (chipAt l c (h .sequence) b (chipNumber l h i)) nil) e
+
+has-so : (l : ℕ) (c : ℕ → ℕ) (h : Hi) (b i : ℕ) → has l h i ≡ true → partAt l c h b i ≡ chipAt l c (h .sequence) b (chipNumber l h i)
+unfolding partAt
+has-so l c h b i e = ap (λ (t : Bool). cond t (chipAt l c (h .sequence) b (chipNumber l h i)) nil) e
+
+module _ (l : ℕ) (c : ℕ → ℕ) (h : Hi) (b i : ℕ) where
+  pub part-below : i % 4 < firstOf l h → partAt l c h b i ≡ nil
+  unfolding has
+  part-below k = has-not l c h b i (ap (λ (t : Bool). t && ltb (i % 4) (firstOf l h + l)) (lt-leb (firstOf l h) (i % 4) k))
+
+  pub part-above : firstOf l h ≤ i % 4 → l ≤ i % 4 - firstOf l h → partAt l c h b i ≡ nil
+  unfolding has
+  part-above j k = has-not l c h b i (ap₂ (λ (t u : Bool). t && u) (le-leb (firstOf l h) (i % 4) j) (le-ltb (i % 4) (firstOf l h + l) (omega arith)))
+
+  pub part-in : firstOf l h ≤ i % 4 → i % 4 - firstOf l h < l → partAt l c h b i ≡ turned (c (chipNumber l h i)) (turned b (plainChip (signAt l (h .sequence) (i % 4 - firstOf l h))))
+  unfolding has chipAt
+  part-in j k =
+      has-so l c h b i (ap₂ (λ (t u : Bool). t && u) (le-leb (firstOf l h) (i % 4) j) (lt-ltb (i % 4) (firstOf l h + l) (omega arith)))
+      ∙ ap (λ (n : ℕ). turned (c (chipNumber l h i)) (turned b (plainChip (signAt l (h .sequence) n)))) (chip-mod l (i / 4) (i % 4 - firstOf l h) k)
+
+-- ---- the same scrambling bit for each group: a wave, without bit and scrambling, and its turns
+-- sequence q from the first place f on, at place i
+unfoldable pub waveAt : ℕ → ℕ → ℕ → ℕ → Pair
+waveAt l f q i = cond (leb f (i % 4) && ltb (i % 4) (f + l)) (plainChip (signAt l q (i % 4 - f))) nil
+
+inside : (f t l : ℕ) → leb f t && ltb t (f + l) ≡ true → (f ≤ t) × (t < f + l)
+inside f t l e =
+    let y : T (leb f t && ltb t (f + l)) = subst T (sym e) tt in
+    (leb→le f t (and-l (leb f t) (ltb t (f + l)) y), ltb→lt t (f + l) (and-r (leb f t) (ltb t (f + l)) y))
+
+pub part-wave : (l : ℕ) → Length l → (c : ℕ → ℕ) (h : Hi) (b i : ℕ) → partAt l c h b i ≡ turned (c (i / 4 * l + i % 4 % l)) (turned b (waveAt l (firstOf l h) (h .sequence) i))
+unfolding partAt has waveAt chipAt firstOf
+part-wave l ok c h b i = pick (leb (firstOf l h) (i % 4) && ltb (i % 4) (firstOf l h + l)) refl
+  where
+    pick : (t : Bool) → (leb (firstOf l h) (i % 4) && ltb (i % 4) (firstOf l h + l)) ≡ t → cond t (chipAt l c (h .sequence) b (chipNumber l h i)) nil ≡ turned (c (i / 4 * l + i % 4 % l)) (turned b (cond t (plainChip (signAt l (h .sequence) (i % 4 - firstOf l h))) nil))
+    pick true s =
+        let w = inside (firstOf l h) (i % 4) l s in
+        let m : i % 4 - firstOf l h ≡ i % 4 % l = place-mod l ok (h .group) (i % 4) (omega arith) (w .0) (w .1) in
+        ap₂ (λ (x y : ℕ). turned (c (i / 4 * l + x)) (turned b (plainChip (signAt l (h .sequence) y)))) m (chip-mod l (i / 4) (i % 4 - firstOf l h) (omega arith))
+    pick false s = sym (ap (turned (c (i / 4 * l + i % 4 % l))) (turned-nil b) ∙ turned-nil (c (i / 4 * l + i % 4 % l)))
+
+-- ---- sizes: every entry of a table is 1, -1, j or -j, by one test over the tables
+abbrev unit : SignPair → Bool
+unit w = leb (natAbs (w .re) + natAbs (w .im)) 1
+
+rows : (l : ℕ) → T (every (every unit) (sequences l))
+unfolding sequences normal extended
+rows l = pick (eqb l 4)
+  where
+    pick : (t : Bool) → T (every (every unit) (cond t normal extended))
+    pick true = tt
+    pick false = tt
+
+entry : (l q t : ℕ) → natAbs (signAt l q t .re) + natAbs (signAt l q t .im) ≤ 1
+unfolding signAt
+entry l q t =
+    leb→le _ 1 (every-at unit «±0» tt (getD (sequences l) q []) (every-at (every unit) [] tt (sequences l) (rows l) q) t)
+
+pub entry-of : (l q t : ℕ) {w : SignPair} → w ≡ signAt l q t → natAbs (w .re) + natAbs (w .im) ≤ 1
+entry-of l q t e = rw e (entry l q t)
+
+pub chip-small : (l q t : ℕ) → Small 1 (plainChip (signAt l q t))
+chip-small l q t =
+    let w = signAt l q t in
+    (omega (arith, entry l q t, abs-minus (w .re) (w .im)), omega (arith, entry l q t, abs-add (w .re) (w .im)))
+
+-- none is -128, so its signs can be turned, and once more
+pub chip-turns : (l q t : ℕ) {p : Pair} → p ≡ plainChip (signAt l q t) → Small 127 p
+chip-turns l q t e = let s = chip-small l q t in rw e (omega (arith, s .0), omega (arith, s .1))
+
+pub chip-turns-twice : (l q t b : ℕ) {p r : Pair} → p ≡ plainChip (signAt l q t) → r ≡ turned b p → Small 127 r
+chip-turns-twice l q t b {p} e f = rw f (turned-small b 127 p (chip-turns l q t e))
+
+pub part-small : (l : ℕ) (c : ℕ → ℕ) (h : Hi) (b i : ℕ) → Small 1 (partAt l c h b i)
+unfolding partAt chipAt
+part-small l c h b i = pick (has l h i)
+  where
+    pick : (t : Bool) → Small 1 (cond t (chipAt l c (h .sequence) b (chipNumber l h i)) nil)
+    pick true = turned-small (c (chipNumber l h i)) 1 _ (turned-small b 1 _ (chip-small l (h .sequence) ((chipNumber l h i) % l)))
+    pick false = (omega arith, omega arith)

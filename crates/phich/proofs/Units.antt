@@ -1,0 +1,120 @@
+-- An acknowledgement unit, for both lengths: its sums agree exactly when the bits of its HIs do, each bit is read back from
+-- them, they are 0 where the unit is empty, and at most eight either way. Assumes nothing.
+use Prim.Native.Nat.{ℕ, suc, _+_, _*_, _/_, _%_, _<_, _≤_, suc-le-suc, zero-le}
+use mathlib.Core.Path.{_≡_, refl, sym, ap, ap₂, _∙_, subst}
+use mathlib.Core.Logic.{_↔_}
+use mathlib.Core.Bool.{Bool, true, false, cond}
+use mathlib.Core.List.{List, [], _∷_}
+use native.Mathlib.Decide.{ℕ-discrete}
+use native.Mathlib.Omega.{arith}
+use borrow.Author.Tests.{ne-eqb}
+use lib.Dec.{eqb}
+use lib.ListN.{length, getD, drop}
+use Rattle.base.specs.Signs.{below}
+use Rattle.base.specs.Pairs.{nil, plus, Small}
+use Rattle.base.specs.Bits.{bitAt}
+use Rattle.base.specs.Tables.{table}
+use Rattle.base.proofs.Pairs.{plus-small}
+use Rattle.base.proofs.Tables.{table-at, table-same}
+use Rattle.phich.specs.declared.Hi.{Hi}
+use Rattle.phich.specs.His.{hisFrom, hiNumber, Distinct}
+use Rattle.phich.specs.Spreading.{Length}
+use Rattle.phich.specs.Units.{unitOf, firstOf, partAt, addedAt, sumAt, unitSums, countIn, Within, Ready, SameBits}
+use Rattle.phich.specs.Recovery.{bitIn}
+use Rattle.phich.proofs.Parts.{part-small}
+use Rattle.phich.proofs.Along.{along-same}
+use Rattle.phich.proofs.Recovered.{below-along}
+use Rattle.phich.proofs.Few.{few}
+
+-- ---- units and places of both prefixes, in the papers' words
+pub unit-normal : (h : Hi) → unitOf 4 h ≡ h .group
+unfolding unitOf
+unit-normal h = omega arith
+
+pub unit-extended : (h : Hi) → unitOf 2 h ≡ h .group / 2
+unfolding unitOf
+unit-extended h = omega arith
+
+pub first-normal : (h : Hi) → firstOf 4 h ≡ 0
+unfolding firstOf
+first-normal h = omega arith
+
+pub first-extended : (h : Hi) → firstOf 2 h ≡ 2 * (h .group % 2)
+unfolding firstOf
+first-extended h = omega arith
+
+-- ---- payload bits
+pub bit-le : (s : List ℕ) (n : ℕ) → bitAt s n ≤ 1
+unfolding bitAt
+bit-le s n = omega arith
+
+-- ---- what a plan of distinct pairs gives
+pub ready : (l m : ℕ) (plan : List ℕ) (at count : ℕ) → Length l → at + 3 * count ≤ length plan → Within l (hisFrom (drop at plan) count) → Distinct (hisFrom (drop at plan) count) → Ready l m plan at count
+ready l m plan at count ok h w d = record { spread = ok; held = h; known = w; few = few l ok m (hisFrom (drop at plan) count) w d }
+
+-- ---- sizes: an HI adds at most 1 either way, and only to its unit
+module _ (l : ℕ) (c : ℕ → ℕ) (m : ℕ) (i : ℕ) where
+  pub added-small : (h : Hi) (b : ℕ) → Small (cond (eqb (unitOf l h) m) 1 0) (addedAt l c m h b i)
+  unfolding addedAt
+  added-small h b = pick (eqb (unitOf l h) m)
+    where
+      pick : (t : Bool) → Small (cond t 1 0) (cond t (partAt l c h b i) nil)
+      pick true = part-small l c h b i
+      pick false = (omega arith, omega arith)
+
+  pub sum-small : (bit : ℕ → ℕ) (hs : List Hi) (k : ℕ) → Small (countIn l m hs) (sumAt l c m bit i hs k)
+  unfolding sumAt countIn
+  sum-small bit [] k = (omega arith, omega arith)
+  sum-small bit (h ∷ hs) k = plus-small (cond (eqb (unitOf l h) m) 1 0) (countIn l m hs) (addedAt l c m h (bit k) i) (sumAt l c m bit i hs (suc k)) (added-small h (bit k)) (sum-small bit hs (suc k))
+
+-- ---- "an empty unit still owns its elements, with sum 0"
+none-sum : (l : ℕ) (c : ℕ → ℕ) (m : ℕ) (bit : ℕ → ℕ) (i : ℕ) (hs : List Hi) (k : ℕ) → countIn l m hs ≡ 0 → sumAt l c m bit i hs k ≡ nil
+unfolding sumAt addedAt countIn
+none-sum l c m bit i [] k e = refl
+none-sum l c m bit i (h ∷ hs) k e = pick (eqb (unitOf l h) m) e (λ z. none-sum l c m bit i hs (suc k) z)
+  where
+    pick : (t : Bool) → cond t 1 0 + countIn l m hs ≡ 0 → (countIn l m hs ≡ 0 → sumAt l c m bit i hs (suc k) ≡ nil) → plus (cond t (partAt l c h (bit k) i) nil) (sumAt l c m bit i hs (suc k)) ≡ nil
+    pick true z ih = absurd (omega arith)
+    pick false z ih = ap (plus nil) (ih (omega arith))
+
+pub empty : (l : ℕ) (c : ℕ → ℕ) (m : ℕ) (bit : ℕ → ℕ) (hs : List Hi) → countIn l m hs ≡ 0 → unitSums l c m bit hs ≡ table 12 (λ i. nil)
+unfolding unitSums
+empty l c m bit hs e = table-same 12 _ _ (λ i. none-sum l c m bit i hs 0 e)
+
+-- ---- the same bits of a unit's HIs make the same sums
+agreed : (l : ℕ) (c : ℕ → ℕ) (m : ℕ) (bit bit′ : ℕ → ℕ) (i : ℕ) (hs : List Hi) (k : ℕ) → ((n : ℕ) → n < length hs → unitOf l (hiNumber hs n) ≡ m → bit (k + n) ≡ bit′ (k + n)) → sumAt l c m bit i hs k ≡ sumAt l c m bit′ i hs k
+unfolding sumAt addedAt
+agreed l c m bit bit′ i [] k h = refl
+agreed l c m bit bit′ i (g ∷ hs) k h =
+    ap₂ plus (pick (ℕ-discrete (unitOf l g) m))
+    (agreed l c m bit bit′ i hs (suc k) (λ n r u. let e : k + suc n ≡ suc k + n = omega arith in subst (λ (x : ℕ). bit x ≡ bit′ x) e (h (suc n) (suc-le-suc r) u)))
+  where
+    pick : Dec (unitOf l g ≡ m) → addedAt l c m g (bit k) i ≡ addedAt l c m g (bit′ k) i
+    pick (yes e) =
+        let z : k + 0 ≡ k = omega arith in
+        ap (λ (b : ℕ). cond (eqb (unitOf l g) m) (partAt l c g b i) nil) (subst (λ (x : ℕ). bit x ≡ bit′ x) z (h 0 (suc-le-suc zero-le) e))
+    pick (no e) = simp (ne-eqb _ _ e)
+
+module _ (l : ℕ) (ok : Length l) (c : ℕ → ℕ) (hs : List Hi) (w : Within l hs) (d : Distinct hs) where
+  at-place : (m : ℕ) (bit : ℕ → ℕ) (i : ℕ) → i < 12 → getD (unitSums l c m bit hs) i nil ≡ sumAt l c m bit i hs 0
+  unfolding unitSums
+  at-place m bit i r = table-at 12 (λ j. sumAt l c m bit j hs 0) nil i r
+
+  -- each sum is at most eight either way
+  pub small : (m : ℕ) (bit : ℕ → ℕ) (i : ℕ) → i < 12 → Small 8 (getD (unitSums l c m bit hs) i nil)
+  small m bit i r = rw (at-place m bit i r) (let s = sum-small l c m i bit hs 0 in (omega (arith, s .0, few l ok m hs w d), omega (arith, s .1, few l ok m hs w d)))
+
+  -- THE LAW: the bit of each HI is read back from its unit's sums
+  pub recovered : (bit : ℕ → ℕ) (n : ℕ) → bit n ≤ 1 → n < length hs → bitIn l c (hiNumber hs n) (unitSums l c (unitOf l (hiNumber hs n)) bit hs) ≡ bit n
+  unfolding bitIn
+  recovered bit n b r =
+      ap below (along-same l c (hiNumber hs n) _ (λ i. sumAt l c (unitOf l (hiNumber hs n)) bit i hs 0) (λ i k. at-place (unitOf l (hiNumber hs n)) bit i (omega arith)))
+      ∙ below-along l ok c hs n w d bit b r
+
+  -- and so a unit's sums are the same exactly where its bits are
+  pub exactly : (m : ℕ) (bit bit′ : ℕ → ℕ) → ((n : ℕ) → bit n ≤ 1) → ((n : ℕ) → bit′ n ≤ 1) → (unitSums l c m bit hs ≡ unitSums l c m bit′ hs) ↔ SameBits l m hs bit bit′
+  unfolding SameBits unitSums
+  exactly m bit bit′ b b′ = (
+    (λ e n r u. sym (recovered bit n (b n) r) ∙ ap (bitIn l c (hiNumber hs n)) (rw u e) ∙ recovered bit′ n (b′ n) r),
+    (λ same. table-same 12 _ _ (λ i. agreed l c m bit bit′ i hs 0 (λ n r u. let z : 0 + n ≡ n = omega arith in rw z (same n r u)))),
+  )
