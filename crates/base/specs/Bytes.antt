@@ -1,4 +1,4 @@
--- Document 01, Grid: an element on a port is three bytes, unit u, then I, J as signed bytes.
+-- What the promises cite. Document 01, Grid: an element on a port is three bytes, unit u, then I, J as signed bytes.
 use Prim.Native.Nat.{ℕ, suc, _-_}
 use mathlib.Core.Bool.{cond}
 use lib.Dec.{ltb}
