@@ -80,9 +80,9 @@ module _ {l : ℕ} {c : ℕ → ℕ} {m : ℕ} {plan : List ℕ} {at count : ℕ
       ∙ ap₂ (λ (y : Bool) (n : ℕ). plus (cond y (partAt l c (here plan at k) (bit k) i) nil) (sumAt l c m bit i (rest plan at count (k + 1)) n)) e (sym (add-one k))
 
   -- an HI of another unit
-  pub pass : (unitOf l (here plan at k) ≡ m → ⊥) → Turn l c m plan at count bit sums (k + 1)
-  pass ne =
-      let e = ne-eqb (unitOf l (here plan at k)) m ne in
+  pub pass : {h : Hi} → h ≡ here plan at k → (unitOf l h ≡ m → ⊥) → Turn l c m plan at count bit sums (k + 1)
+  pass is ne =
+      let e = ne-eqb (unitOf l (here plan at k)) m (λ u. ne (ap (unitOf l) is ∙ u)) in
       record {
         done = omega arith;
         full = t .full;
@@ -92,9 +92,9 @@ module _ {l : ℕ} {c : ℕ → ℕ} {m : ℕ} {plan : List ℕ} {at count : ℕ
       }
 
   -- an HI of the unit
-  pub add : unitOf l (here plan at k) ≡ m → Turn l c m plan at count bit (withHi l c (here plan at k) (bit k) sums) (k + 1)
+  with-here : unitOf l (here plan at k) ≡ m → Turn l c m plan at count bit (withHi l c (here plan at k) (bit k) sums) (k + 1)
   unfolding withHi
-  add u =
+  with-here u =
       let h = here plan at k in
       let e = eq-eqb (unitOf l h) m u in
       let f : ℕ → Pair = λ i. plus (getD sums i nil) (partAt l c h (bit k) i) in
@@ -114,6 +114,10 @@ module _ {l : ℕ} {c : ℕ → ℕ} {m : ℕ} {plan : List ℕ} {at count : ℕ
             ∙ ap (plus (getD sums i nil)) (sym (adds true e i))
             ∙ t .whole i r;
       }
+
+  pub add : {h : Hi} {b : ℕ} {new : List Pair} → h ≡ here plan at k → b ≡ bit k → unitOf l h ≡ m → new ≡ withHi l c h b sums → Turn l c m plan at count bit new (k + 1)
+  add is same u e =
+      rw (e ∙ ap₂ (λ (g : Hi) (x : ℕ). withHi l c g x sums) is same) (with-here (ap (unitOf l) (sym is) ∙ u))
 
 pub finish : {l : ℕ} {c : ℕ → ℕ} {m : ℕ} {plan : List ℕ} {at count : ℕ} {bit : ℕ → ℕ} {sums : List Pair} {k : ℕ} → Turn l c m plan at count bit sums k → count ≤ k → sums ≡ unitSums l c m bit (hisFrom (drop at plan) count)
 unfolding unitSums sumAt

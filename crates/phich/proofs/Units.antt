@@ -54,7 +54,7 @@ ready l m plan at count ok h w d = record { spread = ok; held = h; known = w; fe
 
 -- ---- sizes: an HI adds at most 1 either way, and only to its unit
 module _ (l : ℕ) (c : ℕ → ℕ) (m : ℕ) (i : ℕ) where
-  pub added-small : (h : Hi) (b : ℕ) → Small (cond (eqb (unitOf l h) m) 1 0) (addedAt l c m h b i)
+  added-small : (h : Hi) (b : ℕ) → Small (cond (eqb (unitOf l h) m) 1 0) (addedAt l c m h b i)
   unfolding addedAt
   added-small h b = pick (eqb (unitOf l h) m)
     where

@@ -3,7 +3,7 @@
 // c(0), .., c(11) as its twelve low bits, c(0) the most significant.
 use base::Pair;
 ghost use mathlib.Core.Path.{_≡_};
-ghost use Prim.Native.Nat.{ℕ, _+_, _*_, _≤_, _<_};
+ghost use Prim.Native.Nat.{_+_, _*_, _≤_, _<_};
 ghost use lib.ListN.{length, drop};
 ghost use lib.IntN.{natAbs};
 ghost use Rattle.base.specs.Signs.{by as bySign};

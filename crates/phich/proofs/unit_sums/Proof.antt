@@ -1,15 +1,12 @@
 -- `phich::unit_sums` meets its contract: what is summed and what is left make the whole sums. Assumes nothing.
-use Prim.Native.Nat.{ℕ, _-_}
+use Prim.Native.Nat.{_-_}
 use mathlib.Core.Logic.{⊎-elim}
-use mathlib.Core.Path.{_≡_, refl, sym, ap, ap₂, _∙_}
+use mathlib.Core.Path.{refl, sym, _∙_}
 use native.Mathlib.Omega.{arith}
 use Rattle.base.specs.Bits.{bitAt}
 use Rattle.base.specs.Tables.{table}
-use Rattle.phich.specs.declared.Hi.{Hi}
 use Rattle.phich.specs.Spreading.{wordBit}
-use Rattle.phich.specs.Units.{unitOf}
-use Rattle.phich.specs.Loops.{withHi}
-use Rattle.phich.proofs.Turns.{here, Turn, start, here-known, room, pass, add, finish}
+use Rattle.phich.proofs.Turns.{Turn, start, here-known, room, pass, add, finish}
 use Rattle.phich.proofs.unit_sums.Statement.{statement}
 use Rattle.phich.proofs.unit_sums.Tie as tie
 
@@ -52,14 +49,13 @@ loop-less c = omega (arith, c .before .before .before .loop-test .taken)
 
 loop-again : tie.Need-loop-again Inv-loop μ-loop
 loop-again c =
-    let a = c .before .before .before .before .before .before .before .args in
     let k = c .before .before .before .before .loop in
     let r = c .before .before .before .loop-test .taken in
     let h = c .before .before .hi-at .ensures in
-    let u : c .before .unit-of .result ≡ unitOf (a .l) (here (a .plan .now) (a .at) (k .k)) = c .before .unit-of .ensures ∙ ap (unitOf (a .l)) h in
+    let u = c .before .unit-of .ensures in
     ⊎-elim
-    (λ x. rw (x .3 ∙ x .2 .ensures ∙ ap₂ (λ (g : Hi) (b : ℕ). withHi (a .l) (wordBit (a .w)) g b (k .sums)) h (x .1 .ensures)) (add (k .inv) r (sym u ∙ x .0 .taken)))
-    (λ x. rw (x .1) (pass (k .inv) r (λ e. x .0 .left (u ∙ e))))
+    (λ x. rw (x .3) (add (k .inv) r h (x .1 .ensures) (sym u ∙ x .0 .taken) (x .2 .ensures)))
+    (λ x. rw (x .1) (pass (k .inv) r h (λ e. x .0 .left (u ∙ e))))
     (c .if1 .came)
 
 returns : tie.Need-returns Inv-loop μ-loop
