@@ -1,0 +1,14 @@
+-- Laws that the proofs cite. For the crates above: Valid, Counts, RowLaws. About lists alone: OneOf, Listed, Few.
+pub mod OneOf
+pub mod Listed
+pub mod Few
+mod Entries
+mod Reading
+pub mod RowLaws
+mod FieldLaws
+mod FaultLaws
+mod Turns
+mod Opening
+pub mod Valid
+pub mod Counts
+pub mod Known

@@ -1,0 +1,125 @@
+-- What the promises cite: the plan check. Document 01, Refusals: "From the input, first fault from left to right, in a command
+-- by number."
+use Prim.Native.Nat.{ℕ, _+_, _*_}
+use mathlib.Core.Bool.{Bool, true, false, not, cond, _||_}
+use mathlib.Core.List.{List, [], _∷_, _++_}
+use lib.ListN.{length}
+use lib.Dec.{eqb}
+use Rattle.plan.specs.Lists.{noneOf}
+use Rattle.plan.specs.Commands.{commands}
+use Rattle.plan.specs.Fields.{cellOk, frameOk, hiOk, samePair, userOk, clash}
+use Rattle.plan.specs.declared.Cell.{Cell}
+use Rattle.plan.specs.declared.Frame.{Frame}
+use Rattle.plan.specs.declared.Hi.{Hi}
+use Rattle.plan.specs.declared.User.{User}
+use Rattle.plan.specs.declared.Plan.{Plan}
+use Rattle.plan.specs.declared.Command.{Command}
+use Rattle.plan.specs.declared.Command.the-variants.{Cell as cell, Frame as frame, Hi as hi, User as user, End as end, Broken as broken}
+use Rattle.plan.specs.declared.Refusal.{Refusal}
+use Rattle.plan.specs.declared.Refusal.the-variants.{Unreadable, Order, CellField, FrameField, HiField, UserField, Used, Outside, GridLength, PayloadLength, SpareBit, NoPayload}
+use Rattle.plan.specs.declared.Fault.{Fault}
+use Rattle.plan.specs.declared.Fault.the-variants.{Nothing, Is}
+use Rattle.plan.specs.declared.Checked.{Checked}
+use Rattle.plan.specs.declared.Checked.the-variants.{Plan as accepted, Refused as refused}
+
+-- document 01's numbers: "1 unknown command, or the plan ends before its operands or before END; 2 out of order, or any byte
+-- after END, known command or not; 3 CELL field; 4 FRAME field; 5 HI group or sequence beyond the count, or pair used before;
+-- 6 USER field; 7 RNTI or block used before"; and of the calls above the plan check: "8 element query with k, s or port outside the
+-- grid", "10 grid not 36×N×S×P bytes; 11 payload length wrong; 12 a spare bit set (build only); 13 grid made by no payload (read
+-- only)". 9 is the sample call's own
+abbrev pub numberOf : Refusal → ℕ
+numberOf Unreadable = 1
+numberOf Order = 2
+numberOf CellField = 3
+numberOf FrameField = 4
+numberOf HiField = 5
+numberOf UserField = 6
+numberOf Used = 7
+numberOf Outside = 8
+numberOf GridLength = 10
+numberOf PayloadLength = 11
+numberOf SpareBit = 12
+numberOf NoPayload = 13
+
+-- what the commands so far have given. stage 0: none, 1: CELL, 2: FRAME and any HIs, 3: a USER, 4: END.
+-- start: the bytes of CELL and FRAME
+pub record State : Type 0 where
+  pub stage : ℕ
+  pub cell : Cell
+  pub frame : Frame
+  pub start : ℕ
+  pub his : List Hi
+  pub users : List User
+
+unfoldable pub begin : State
+begin =
+    record {
+      stage = 0;
+      cell = record { identity = 0; blocks = 0; prefix = 0; ports = 0; sixths = 0 };
+      frame = record { number = 0; subframe = 0; cfi = 0 };
+      start = 0;
+      his = [];
+      users = [];
+    }
+
+-- `need t r f`: refusal r unless t holds, and then f
+abbrev pub need : Bool → Refusal → Fault → Fault
+need true r f = f
+need false r f = Is r
+
+-- 5, by the HIs before; 6 and 7, by the USERs before
+unfoldable pub hiFault : Cell → List Hi → Hi → Fault
+hiFault c his h = need (hiOk c h) HiField (need (noneOf (samePair h) his) HiField Nothing)
+
+unfoldable pub userFault : Cell → List User → User → Fault
+userFault c users u = need (userOk c u) UserField (need (noneOf (clash u) users) Used Nothing)
+
+-- "Order: CELL, FRAME, any HIs, any USERs, END": a USER or END is due
+abbrev pub due : ℕ → Bool
+due stage = eqb stage 2 || eqb stage 3
+
+-- the first fault of a command, by number; after END every one is out of order, a broken one too
+unfoldable pub fault : State → Command → Fault
+fault st (cell c) = need (eqb (st .stage) 0) Order (need (cellOk c) CellField Nothing)
+fault st (frame f) = need (eqb (st .stage) 1) Order (need (frameOk f) FrameField Nothing)
+fault st (hi h) = need (eqb (st .stage) 2) Order (hiFault (st .cell) (st .his) h)
+fault st (user u) = need (due (st .stage)) Order (userFault (st .cell) (st .users) u)
+fault st end = need (due (st .stage)) Order Nothing
+fault st broken = need (not (eqb (st .stage) 4)) Order (Is Unreadable)
+
+-- the state after a command that has no fault
+unfoldable pub after : State → Command → State
+after st (cell c) = record { stage = 1; cell = c; frame = st .frame; start = st .start + 7; his = st .his; users = st .users }
+after st (frame f) = record { stage = 2; cell = st .cell; frame = f; start = st .start + 5; his = st .his; users = st .users }
+after st (hi h) = record { stage = 2; cell = st .cell; frame = st .frame; start = st .start; his = st .his ++ (h ∷ []); users = st .users }
+after st (user u) = record { stage = 3; cell = st .cell; frame = st .frame; start = st .start; his = st .his; users = st .users ++ (u ∷ []) }
+after st end = record { stage = 4; cell = st .cell; frame = st .frame; start = st .start; his = st .his; users = st .users }
+after st broken = st
+
+-- the plan of a state: an HI is 3 bytes
+unfoldable pub planOf : State → Plan
+planOf st =
+    record {
+      cell = st .cell;
+      frame = st .frame;
+      his = record { at = st .start; count = length (st .his) };
+      users = record { at = st .start + 3 * length (st .his); count = length (st .users) };
+    }
+
+-- the rest is looked at only where there is no fault
+abbrev pub unless : Fault → Checked → Checked
+unless (Is r) rest = refused r
+unless Nothing rest = rest
+
+-- "the plan ends .. before END" is a fault at its end
+unfoldable pub run : State → List Command → Checked
+run st [] = cond (eqb (st .stage) 4) (accepted (planOf st)) (refused Unreadable)
+run st (x ∷ xs) = unless (fault st x) (run (after st x) xs)
+
+unfoldable pub checkOf : List ℕ → Checked
+checkOf w = run begin (commands w)
+
+-- the answer as a number: 0, or the refusal's
+abbrev pub verdictOf : Checked → ℕ
+verdictOf (accepted p) = 0
+verdictOf (refused r) = numberOf r

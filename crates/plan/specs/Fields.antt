@@ -1,0 +1,60 @@
+-- What the promises cite: the ranges of the commands' fields. Document 01, Plan and payload; Owners (PHICH).
+use Prim.Native.Nat.{ℕ, _+_, _*_, _/_}
+use mathlib.Core.Bool.{Bool, cond, _&&_, _||_}
+use mathlib.Core.List.{List, [], _∷_}
+use lib.Dec.{leb, ltb, eqb}
+use Rattle.plan.specs.Lists.{oneOf}
+use Rattle.plan.specs.declared.Cell.{Cell}
+use Rattle.plan.specs.declared.Frame.{Frame}
+use Rattle.plan.specs.declared.Hi.{Hi}
+use Rattle.plan.specs.declared.User.{User}
+
+-- "blocks N (15, 25, 50, 75, 100)"
+abbrev pub widths : List ℕ
+widths = 15 ∷ 25 ∷ 50 ∷ 75 ∷ 100 ∷ []
+
+-- "ports P (1, 2, 4)"
+abbrev pub portCounts : List ℕ
+portCounts = 1 ∷ 2 ∷ 4 ∷ []
+
+-- "g (1, 3, 6, 12), which is N_g in sixths"
+abbrev pub sixthCounts : List ℕ
+sixthCounts = 1 ∷ 3 ∷ 6 ∷ 12 ∷ []
+
+-- "modulation Q (2, 4, 6 bits)"
+abbrev pub orders : List ℕ
+orders = 2 ∷ 4 ∷ 6 ∷ []
+
+-- "identity C (0–503); blocks N; prefix (0 normal, 1 extended); ports P; g"
+unfoldable pub cellOk : Cell → Bool
+cellOk c = leb (c .identity) 503 && oneOf (c .blocks) widths && leb (c .prefix) 1 && oneOf (c .ports) portCounts && oneOf (c .sixths) sixthCounts
+
+-- "frame F (0–1023); subframe f (0–9); CFI (1–3)"
+unfoldable pub frameOk : Frame → Bool
+frameOk f = leb (f .number) 1023 && leb (f .subframe) 9 && leb 1 (f .cfi) && leb (f .cfi) 3
+
+-- document 01's units: "PHICH: ceil(gN/48) groups (extended twice that); normal unit = group, extended unit = groups 2m, 2m+1"
+unfoldable pub unitsOf : Cell → ℕ
+unitsOf c = (c .sixths * c .blocks + 47) / 48
+
+unfoldable pub groupsOf : Cell → ℕ
+groupsOf c = cond (eqb (c .prefix) 1) (2 * unitsOf c) (unitsOf c)
+
+-- "sequences 0–7, extended 0–3"
+unfoldable pub sequencesOf : Cell → ℕ
+sequencesOf c = cond (eqb (c .prefix) 1) 4 8
+
+-- "5 HI group or sequence beyond the count, or pair used before": the first part, and two HIs of one pair
+unfoldable pub hiOk : Cell → Hi → Bool
+hiOk c h = ltb (h .group) (groupsOf c) && ltb (h .sequence) (sequencesOf c)
+
+unfoldable pub samePair : Hi → Hi → Bool
+samePair h e = eqb (h .group) (e .group) && eqb (h .sequence) (e .sequence)
+
+-- "RNTI u16 (1–65535); modulation Q; first block; count, at least 1, first + count ≤ N"
+unfoldable pub userOk : Cell → User → Bool
+userOk c u = leb 1 (u .rnti) && leb (u .rnti) 65535 && oneOf (u .order) orders && leb 1 (u .count) && leb (u .first + u .count) (c .blocks)
+
+-- "7 RNTI or block used before": two users have an RNTI or a block in common
+unfoldable pub clash : User → User → Bool
+clash u v = eqb (u .rnti) (v .rnti) || ltb (u .first) (v .first + v .count) && ltb (v .first) (u .first + u .count)
