@@ -1,0 +1,15 @@
+-- Laws that the proofs cite. For the crates above: OneOwner (theorem A), Asked (the owner query), Few (ranges of an accepted plan), Known.
+-- The rest is about tests and lists, and about each part of the layout in turn.
+mod Logic
+pub mod Lists
+pub mod Pilot
+pub mod Ring
+pub mod Groups
+pub mod Units
+pub mod Few
+pub mod Fixed
+pub mod Partition
+mod Ways
+pub mod OneOwner
+pub mod Asked
+pub mod Known

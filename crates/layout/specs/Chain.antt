@@ -1,0 +1,97 @@
+-- For the inner contracts and loops only: the owner of a place by few tests in turn, as the code finds it. proofs/OneOwner.antt: it is
+-- the owner whose rule holds.
+use Prim.Native.Nat.{ℕ, _+_, _-_, _*_, _/_, _%_}
+use mathlib.Core.Bool.{Bool, true, false, _&&_, _||_}
+use mathlib.Core.List.{List, [], _∷_}
+use lib.Dec.{leb, ltb, eqb}
+use Rattle.plan.specs.Fields.{unitsOf}
+use Rattle.plan.specs.Rows.{usersOf}
+use Rattle.plan.specs.declared.Cell.{Cell}
+use Rattle.plan.specs.declared.Frame.{Frame}
+use Rattle.plan.specs.declared.User.{User}
+use Rattle.plan.specs.declared.Plan.{Plan}
+use Rattle.plan.specs.declared.Refusal.{Refusal}
+use Rattle.plan.specs.declared.Refusal.the-variants.{Unreadable}
+use Rattle.plan.specs.declared.Checked.{Checked}
+use Rattle.plan.specs.declared.Checked.the-variants.{Plan as accepted, Refused as refused}
+use Rattle.layout.specs.Choice.{if_then_else_}
+use Rattle.layout.specs.Rules.{slotOf, inSlot, standsAt, marked, centre, used, pbchArea, isFormat, number, left}
+use Rattle.layout.specs.Owners.{slotOfCell, controlSymbols, blocksHave}
+use Rattle.layout.specs.declared.Mark.the-variants.{Primary, Secondary}
+use Rattle.layout.specs.declared.Owner.{Owner}
+use Rattle.layout.specs.declared.Owner.the-variants.{Crs, Sync, Pbch, Pcfich, Phich, User as UserOf, Held, Idle}
+
+-- the port below 4 whose reference signal a four-port cell has at the place, 4 for none
+abbrev pub pickPort : Bool → Bool → ℕ → ℕ → ℕ
+pickPort a b p q = if a then p else if b then q else 4
+
+unfoldable pub pilotIn : ℕ → ℕ → ℕ → Bool → Bool → ℕ
+pilotIn L l n a b =
+    if eqb l 0 then pickPort a b 0 1
+    else if eqb (l + 3) L then pickPort b a 0 1
+    else if eqb l 1 then (if eqb n 0 then pickPort a b 2 3 else pickPort b a 2 3)
+    else 4
+
+unfoldable pub pilot : ℕ → ℕ → ℕ → ℕ → ℕ
+pilot L C s k = pilotIn L (inSlot L s) (slotOf L s) (standsAt C k 0) (standsAt C k 3)
+
+-- how far number n lies past C's around the h groups left: the first M from 0, h/3 and 2h/3 on are the units'
+abbrev pub past : ℕ → ℕ → ℕ → ℕ
+past C h n = (n + (h - C % h)) % h
+
+unfoldable pub unitIn : ℕ → ℕ → ℕ → Owner
+unitIn h M d =
+    if ltb d M then Phich d
+    else if leb (1 * h / 3) d && ltb d (1 * h / 3 + M) then Phich (d - 1 * h / 3)
+    else if leb (2 * h / 3) d && ltb d (2 * h / 3 + M) then Phich (d - 2 * h / 3)
+    else Idle
+
+-- group t of symbol 0, and subcarrier k there
+unfoldable pub groupAt : ℕ → ℕ → ℕ → ℕ → Owner
+groupAt C N M t = if isFormat C N t then Pcfich else unitIn (left N) M (past C (left N) (number C N t))
+
+unfoldable pub controlAt : ℕ → ℕ → ℕ → ℕ → Owner
+controlAt C N M k = if eqb (k % 3) (C % 3) then Idle else groupAt C N M (k / 6)
+
+unfoldable pub syncArea : ℕ → ℕ → ℕ → ℕ → ℕ → Bool
+syncArea L N f s k = marked f && (eqb (s + 1) L || eqb (s + 2) L) && centre N k
+
+-- the owner above the users, or idle
+unfoldable pub fixedAt : Cell → Frame → ℕ → ℕ → Owner
+fixedAt c f s k =
+    let L = slotOfCell c in
+    let q = pilot L (c .identity) s k in
+    if ltb q (c .ports) then Crs q
+    else if eqb s 0 then controlAt (c .identity) (c .blocks) (unitsOf c) k
+    else if syncArea L (c .blocks) (f .subframe) s k
+    then (if used (c .blocks) k then Sync (if eqb (s + 1) L then Primary else Secondary) else Held)
+    else if pbchArea L (c .blocks) (f .subframe) s k
+    then (if ltb q 4 then Held else Pbch)
+    else Idle
+
+-- the first user whose blocks have subcarrier k in slot n, numbered from i on
+unfoldable pub userFrom : ℕ → List User → ℕ → ℕ → Owner
+userFrom i [] n k = Idle
+userFrom i (u ∷ us) n k = if blocksHave u n k then UserOf i else userFrom (i + 1) us n k
+
+unfoldable pub isIdle : Owner → Bool
+isIdle (Crs q) = false
+isIdle (Sync m) = false
+isIdle Pbch = false
+isIdle Pcfich = false
+isIdle (Phich m) = false
+isIdle (UserOf i) = false
+isIdle Held = false
+isIdle Idle = true
+
+unfoldable pub ownerAt : List ℕ → Plan → ℕ → ℕ → Owner
+ownerAt w p s k =
+    let o = fixedAt (p .cell) (p .frame) s k in
+    if isIdle o
+    then (if ltb s (controlSymbols (p .cell) (p .frame)) then Idle else userFrom 0 (usersOf w p) (slotOf (slotOfCell (p .cell)) s) k)
+    else o
+
+-- a check's refusal; a plan has none, and nobody asks for it
+abbrev pub refusalOf : Checked → Refusal
+refusalOf (accepted p) = Unreadable
+refusalOf (refused r) = r

@@ -1,0 +1,5 @@
+pub mod Choice
+pub mod Rules
+pub mod Owners
+pub mod Query
+pub mod Chain
