@@ -1,0 +1,218 @@
+-- THEOREM B: the counts of all owners add up to the grid's places, and so do those of the nine kinds. Document 01, Owners: "For any plan
+-- the owner counts add up to 12N×S". Assumes that the plan check answers with the plan, and theorem A: every place has one owner.
+use Prim.Native.Nat.{ℕ, zero, suc, _+_, _*_, _≤_, _<_}
+use mathlib.Core.Path.{_≡_, refl, sym, ap, _∙_}
+use mathlib.Core.Bool.{Bool, true, false, _&&_}
+use mathlib.Core.List.{List, [], _∷_, _++_}
+use native.Mathlib.Nat.{mul-one, mul-comm, not-suc-le-zero, le-of-suc-le-suc}
+use native.Mathlib.Omega.{arith}
+use lib.Dec.{leb, ltb, eqb}
+use lib.ListN.{length}
+use borrow.Author.Tests.{ltb-true}
+use Rattle.base.specs.Tables.{table}
+use Rattle.plan.specs.Fields.{unitsOf}
+use Rattle.plan.specs.Check.{checkOf}
+use Rattle.plan.specs.Rows.{usersOf}
+use Rattle.plan.specs.Valid.{Valid}
+use Rattle.plan.specs.declared.Cell.{Cell}
+use Rattle.plan.specs.declared.User.{User}
+use Rattle.plan.specs.declared.Plan.{Plan}
+use Rattle.plan.specs.declared.Checked.the-variants.{Plan as accepted}
+use Rattle.plan.proofs.Listed.{and-left}
+use Rattle.plan.proofs.Valid.{valid}
+use Rattle.layout.specs.Choice.{if_then_else_, one}
+use Rattle.layout.specs.Rules.{slotOf, crs, inGroup, phich}
+use Rattle.layout.specs.Owners.{slotOfCell, symbols, carriers, controlSymbols, fixedRule, above, userHas, userRule, owns, owners}
+use Rattle.layout.specs.declared.Mark.the-variants.{Primary, Secondary}
+use Rattle.layout.specs.declared.Owner.{Owner}
+use Rattle.layout.specs.declared.Owner.the-variants.{Crs, Sync, Pbch, Pcfich, Phich, User as UserOf, Held, Idle}
+use Rattle.counts.specs.Sums.{sumTo, sumOf}
+use Rattle.layout.proofs.OneOwner.{one-owner}
+use Rattle.counts.specs.Counts.{countOf, kindOf, kinds, kindCount}
+use Rattle.counts.proofs.Logic.{by-test, clash, is-false}
+use Rattle.counts.proofs.Sums.{sum-const, swap, list-same}
+use Rattle.counts.proofs.Ranges.{big, few-ports, few-units}
+
+-- ---- an owner whose rule holds somewhere is in the list
+data In {A : Type 0} : A → List A → Type 0 where
+  here : {a : A} {l : List A} → In a (a ∷ l)
+  there : {a b : A} {l : List A} → In a l → In a (b ∷ l)
+
+in-left : {A : Type 0} {a : A} {l : List A} (m : List A) → In a l → In a (l ++ m)
+in-left m In.here = In.here
+in-left m (In.there i) = In.there (in-left m i)
+
+in-right : {A : Type 0} {a : A} (l : List A) {m : List A} → In a m → In a (l ++ m)
+in-right [] i = i
+in-right (b ∷ l) i = In.there (in-right l i)
+
+in-table : (n : ℕ) (f : ℕ → Owner) (i : ℕ) → i < n → In (f i) (table n f)
+unfolding table
+in-table zero f i l = absurd (not-suc-le-zero l)
+in-table (suc n) f zero l = In.here
+in-table (suc n) f (suc i) l = In.there (in-table n (λ j. f (suc j)) i (le-of-suc-le-suc l))
+
+has-index : (us : List User) (i n k : ℕ) → userHas us i n k ≡ true → i < length us
+unfolding userHas
+has-index [] i n k e = clash e refl
+has-index (u ∷ us) zero n k e = omega arith
+has-index (u ∷ us) (suc i) n k e = omega (arith, has-index us i n k e)
+
+port-in : (c : Cell) (q : ℕ) → q < 4 → In (Crs q) (above c)
+unfolding above
+port-in c zero l = In.here
+port-in c (suc zero) l = In.there In.here
+port-in c (suc (suc zero)) l = In.there (In.there In.here)
+port-in c (suc (suc (suc zero))) l = In.there (In.there (In.there In.here))
+port-in c (suc (suc (suc (suc q)))) l = absurd (omega arith)
+
+module _ (w : List ℕ) (p : Plan) (ok : Valid w p) (s k : ℕ) where
+  above-in : (o : Owner) → fixedRule (p .cell) (p .frame) o s k ≡ true → In o (above (p .cell))
+  unfolding above fixedRule crs phich
+  above-in (Crs q) e =
+      let l : q < p .cell .ports = ltb-true _ _ (and-left (ltb q (p .cell .ports)) _ e) in
+      port-in (p .cell) q (omega (arith, few-ports (p .cell .ports) (ok .cell .ports)))
+  above-in (Sync Primary) e = In.there (In.there (In.there (In.there In.here)))
+  above-in (Sync Secondary) e = In.there (In.there (In.there (In.there (In.there In.here))))
+  above-in Pbch e = In.there (In.there (In.there (In.there (In.there (In.there In.here)))))
+  above-in Pcfich e = In.there (In.there (In.there (In.there (In.there (In.there (In.there In.here))))))
+  above-in Held e = In.there (In.there (In.there (In.there (In.there (In.there (In.there (In.there In.here)))))))
+  above-in (Phich m) e =
+      let t = ltb m (unitsOf (p .cell)) in
+      let g = inGroup (p .cell .identity) s k in
+      In.there (In.there (In.there (In.there (In.there (In.there (In.there (In.there (In.there
+      (in-table (unitsOf (p .cell)) Phich m (ltb-true _ _ (and-left t g (and-left (t && g) _ e))))))))))))
+  above-in (UserOf i) e = clash e refl
+  above-in Idle e = clash e refl
+
+  owner-in : (o : Owner) → owns w p o s k ≡ true → In o (owners w p)
+  unfolding owns owners userRule
+  owner-in (Crs q) e = In.there (in-left _ (above-in (Crs q) e))
+  owner-in (Sync m) e = In.there (in-left _ (above-in (Sync m) e))
+  owner-in Pbch e = In.there (in-left _ (above-in Pbch e))
+  owner-in Pcfich e = In.there (in-left _ (above-in Pcfich e))
+  owner-in (Phich m) e = In.there (in-left _ (above-in (Phich m) e))
+  owner-in Held e = In.there (in-left _ (above-in Held e))
+  owner-in Idle e = In.here
+  owner-in (UserOf i) e =
+      let n = slotOf (slotOfCell (p .cell)) s in
+      let t = userHas (usersOf w p) i n k in
+      let g = leb (controlSymbols (p .cell) (p .frame)) s in
+      In.there (in-right (above (p .cell)) (in-table (length (usersOf w p)) UserOf i (has-index (usersOf w p) i n k (and-left t g (and-left (t && g) _ e)))))
+
+-- ---- no owner is in the list twice: it is in the order of these codes
+abbrev code : Owner → ℕ
+code Idle = 0
+code (Crs q) = 1 + q
+code (Sync Primary) = 5
+code (Sync Secondary) = 6
+code Pbch = 7
+code Pcfich = 8
+code Held = 9
+code (Phich m) = 10 + m
+code (UserOf i) = 1010 + i
+
+abbrev Rise : ℕ → List Owner → Type 0
+Rise b [] = Unit {0}
+Rise b (o ∷ os) = (b ≤ code o) × Rise (suc (code o)) os
+
+rise-users : (n b c : ℕ) (f : ℕ → Owner) → ((i : ℕ) → code (f i) ≡ b + i) → c ≤ b → Rise c (table n f)
+unfolding table
+rise-users zero b c f h l = tt
+rise-users (suc n) b c f h l =
+    (omega (arith, h 0), rise-users n (b + 1) (suc (code (f 0))) (λ i. f (suc i)) (λ i. omega (arith, h (suc i))) (omega (arith, h 0)))
+
+rise-units : (n b c e : ℕ) (f : ℕ → Owner) (rest : List Owner) → ((i : ℕ) → code (f i) ≡ b + i) → c ≤ b → b + n ≤ e → ((d : ℕ) → d ≤ e → Rise d rest) → Rise c (table n f ++ rest)
+unfolding table
+rise-units zero b c e f rest h l m r = r c (omega arith)
+rise-units (suc n) b c e f rest h l m r =
+    (omega (arith, h 0), rise-units n (b + 1) (suc (code (f 0))) e (λ i. f (suc i)) rest (λ i. omega (arith, h (suc i))) (omega (arith, h 0)) (omega arith) r)
+
+rises : (w : List ℕ) (p : Plan) → Valid w p → Rise 0 (owners w p)
+unfolding owners above
+rises w p ok = (
+  omega arith,
+  (
+    omega arith,
+    (
+      omega arith,
+      (
+        omega arith,
+        (
+          omega arith,
+          (
+            omega arith,
+            (
+              omega arith,
+              (
+                omega arith,
+                (
+                  omega arith,
+                  (
+                    omega arith,
+                    rise-units (unitsOf (p .cell)) 10 10 1010 Phich (table (length (usersOf w p)) UserOf) (λ i. refl) (omega arith)
+                        (omega (arith, few-units (p .cell) (ok .cell .sixths) (big (p .cell .blocks) (ok .cell .blocks) .1)))
+                        (λ d l. rise-users (length (usersOf w p)) 1010 d UserOf (λ i. refl) l),
+                  ),
+                ),
+              ),
+            ),
+          ),
+        ),
+      ),
+    ),
+  ),
+)
+
+-- ---- so one of the list has the place
+module _ (t : Owner → Bool) (a : Owner) (only : (o : Owner) → t o ≡ true → o ≡ a) where
+  none : (b : ℕ) (os : List Owner) → Rise b os → code a < b → sumOf os (λ o. one (t o)) ≡ 0
+  unfolding sumOf
+  none b [] r l = refl
+  none b (o ∷ os) r l =
+      let n : t o ≡ false = is-false (t o) (λ e. let z : code o ≡ code a = ap code (only o e) in omega arith) in
+      rw (n, none (suc (code o)) os (r .1) (omega arith)) refl
+
+  once : (b : ℕ) (os : List Owner) → Rise b os → In a os → t a ≡ true → sumOf os (λ o. one (t o)) ≡ 1
+  unfolding sumOf
+  once b (o ∷ os) r In.here e = rw (e, none (suc (code a)) os (r .1) (omega arith)) refl
+  once b (o ∷ os) r (In.there i) e =
+      by-test (t o)
+      (λ x. rw (x, none (suc (code o)) os (r .1) (let z : code o ≡ code a = ap code (only o x) in omega arith)) refl)
+      (λ x. rw (x, once (suc (code o)) os (r .1) i e) refl)
+
+kind-once : (o : Owner) (x : ℕ) → sumTo kinds (λ j. if eqb (kindOf o) j then x else 0) ≡ x
+unfolding sumTo
+kind-once (Crs q) x = omega arith
+kind-once (Sync Primary) x = omega arith
+kind-once (Sync Secondary) x = omega arith
+kind-once Pbch x = omega arith
+kind-once Pcfich x = omega arith
+kind-once (Phich m) x = omega arith
+kind-once (UserOf i) x = omega arith
+kind-once Held x = omega arith
+kind-once Idle x = omega arith
+
+module _ (w : List ℕ) (p : Plan) (e : checkOf w ≡ accepted p) where
+  place-one : (s k : ℕ) → s < symbols (p .cell) → k < carriers (p .cell) → sumOf (owners w p) (λ o. one (owns w p o s k)) ≡ 1
+  place-one s k l m =
+      let a = one-owner w p e s k l m in
+      let ok = valid w p e in
+      once (λ o. owns w p o s k) (a .0) (a .2) 0 (owners w p) (rises w p ok) (owner-in w p ok s k (a .0) (a .1)) (a .1)
+
+  -- THEOREM B
+  pub counts-add-up : sumOf (owners w p) (countOf w p) ≡ carriers (p .cell) * symbols (p .cell)
+  unfolding countOf
+  counts-add-up =
+      let S = symbols (p .cell) in
+      let K = carriers (p .cell) in
+      swap S (owners w p) (λ o s. sumTo K (λ k. one (owns w p o s k)))
+      ∙ sum-const S K _ (λ s l. swap K (owners w p) (λ o k. one (owns w p o s k)) ∙ sum-const K 1 _ (λ k m. place-one s k l m) ∙ mul-one K)
+      ∙ mul-comm S K
+
+  pub kinds-add-up : sumTo kinds (kindCount w p) ≡ carriers (p .cell) * symbols (p .cell)
+  unfolding kindCount
+  kinds-add-up =
+      sym (swap kinds (owners w p) (λ o j. if eqb (kindOf o) j then countOf w p o else 0))
+      ∙ list-same (owners w p) _ (countOf w p) (λ o. kind-once o (countOf w p o))
+      ∙ counts-add-up

@@ -1,0 +1,16 @@
+-- Laws that the proofs cite. For the crates above: UserElements, UserSizes, AllUsers, AddUp, FixedCounts, KindCounts.
+pub mod Logic
+pub mod Sums
+pub mod Ranges
+pub mod Signals
+pub mod Halves
+pub mod UserElements
+pub mod UserSizes
+pub mod AllUsers
+pub mod AddUp
+pub mod Groups
+pub mod FixedCounts
+pub mod KindCounts
+pub mod Known
+pub mod Ways
+pub mod KindWays

@@ -1,0 +1,72 @@
+-- Tests and their parts, and a rule of tests by its truth table. Assumes nothing.
+use Prim.Native.Nat.{ℕ, zero, suc}
+use mathlib.Core.Path.{_≡_, refl, sym, _∙_}
+use mathlib.Core.Bool.{Bool, true, false, not, _&&_, true≢false}
+use lib.Dec.{T}
+use Rattle.layout.specs.Choice.{if_then_else_}
+use lib.Ieee.Fits.{and-l, and-r}
+
+pub by-test : {X : Type 0} (b : Bool) → (b ≡ true → X) → (b ≡ false → X) → X
+by-test true t f = t refl
+by-test false t f = f refl
+
+pub clash : {X : Type 0} {b : Bool} → b ≡ true → b ≡ false → X
+clash p q = absurd (true≢false (sym p ∙ q))
+
+pub both : {a b : Bool} → a ≡ true → b ≡ true → a && b ≡ true
+both {a} {b} p q = rw (p, q) refl
+
+pub is-false : (b : Bool) → (b ≡ true → ⊥) → b ≡ false
+is-false true h = absurd (h refl)
+is-false false h = refl
+
+-- two tests are equal that hold together
+pub same-test : (a b : Bool) → (a ≡ true → b ≡ true) → (b ≡ true → a ≡ true) → a ≡ b
+same-test true b f g = sym (f refl)
+same-test false b f g = sym (is-false b (λ e. clash (g e) refl))
+
+-- what holds of both branches, each under its test's answer, holds of the choice
+pub on-if : {A : Type 0} (P : A → Type 0) (b : Bool) {x y : A} → (b ≡ true → P x) → (b ≡ false → P y) → P (if b then x else y)
+on-if P true f g = f refl
+on-if P false f g = g refl
+
+-- ---- truth tables: a rule of n tests that antt computes at all their answers holds at any
+abbrev pub Rule : ℕ → Type 0
+Rule zero = Bool
+Rule (suc n) = Bool → Rule n
+
+abbrev pub everyWay : (n : ℕ) → Rule n → Bool
+everyWay zero t = t
+everyWay (suc n) f = everyWay n (f true) && everyWay n (f false)
+
+abbrev pub Holds : (n : ℕ) → Rule n → Type 0
+Holds zero t = T t
+Holds (suc n) f = (b : Bool) → Holds n (f b)
+
+at-answer : (f : Bool → Bool) (b : Bool) → T (f true && f false) → T (f b)
+at-answer f true t = and-l (f true) (f false) t
+at-answer f false t = and-r (f true) (f false) t
+
+pub by-table : (n : ℕ) (f : Rule n) → T (everyWay n f) → Holds n f
+by-table zero t h = h
+by-table (suc n) f h = λ b. by-table n (f b) (at-answer (λ a. everyWay n (f a)) b h)
+
+-- both answers are the same
+abbrev pub agree : Bool → Bool → Bool
+agree true b = b
+agree false b = not b
+
+pub agreed : (a b : Bool) → T (agree a b) → a ≡ b
+agreed true true h = refl
+agreed true false h = absurd h
+agreed false true h = absurd h
+agreed false false h = refl
+
+abbrev pub implies : Bool → Bool → Bool
+implies true b = b
+implies false b = true
+
+pub follows : (a b : Bool) → T (implies a b) → a ≡ true → b ≡ true
+follows true true h e = refl
+follows true false h e = absurd h
+follows false b h e = clash e refl
