@@ -1,11 +1,15 @@
 -- The known elements of document 01 hold of the definitions, jointly. Assumes nothing.
 use mathlib.Core.Path.{_≡_, refl}
 use Rattle.base.specs.Digits.{dig}
+use Rattle.base.specs.Tables.{table}
+use Rattle.layout.specs.Rules.{formatGroup, isFormat, unitNumber}
+use Rattle.places.specs.Counts.{cnt, nth}
+use Rattle.places.specs.Quads.{isLeft, unitGroup}
 use Rattle.modulation.specs.Symbols.{bitsOf, evens, odds, level, symbolOf}
 use Rattle.sync.specs.Pss.{pssRoot, pssT, pssPhase}
 use Rattle.sync.specs.Sss.{qPrime, qOf, eOf, m0Of, m1Of}
 use Rattle.known.specs.Rows.{Agree, rows}
 
 pub known-elements : Agree rows
-unfolding qPrime qOf eOf m0Of m1Of pssRoot pssT pssPhase bitsOf evens odds level symbolOf dig
-known-elements = (refl, (refl, (refl, (refl, (refl, tt)))))
+unfolding table formatGroup isFormat unitNumber cnt nth isLeft unitGroup qPrime qOf eOf m0Of m1Of pssRoot pssT pssPhase bitsOf evens odds level symbolOf dig
+known-elements = (refl, (refl, (refl, (refl, (refl, (refl, (refl, (refl, tt))))))))

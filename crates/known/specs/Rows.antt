@@ -5,6 +5,9 @@ use mathlib.Core.Path.{_≡_}
 use mathlib.Core.List.{List, [], _∷_, map}
 use lib.IntN.{ℤ, pos, negsuc}
 use Rattle.base.specs.declared.Pair.{Pair}
+use Rattle.base.specs.Tables.{table}
+use Rattle.layout.specs.Rules.{formatGroup}
+use Rattle.places.specs.Quads.{unitGroup}
 use Rattle.modulation.specs.Symbols.{symbolOf}
 use Rattle.sync.specs.Pss.{pssRoot, pssPhase}
 use Rattle.sync.specs.Sss.{m0Of, m1Of}
@@ -29,4 +32,9 @@ rows =
     ∷ row (map (pssPhase 0) (0 ∷ 1 ∷ 2 ∷ 30 ∷ 31 ∷ [])) (0 ∷ 25 ∷ 12 ∷ 33 ∷ 33 ∷ [])
     -- "101111 gives (−7, 7)"
     ∷ row (symbolOf 6 0b101111) (pair (negsuc 6) (pos 7))
+    -- "N = 15, C = 0: PCFICH groups 0, 7, 15, 22; PHICH unit 0 groups 1, 10, 20"
+    ∷ row (table 4 (formatGroup 0 15)) (0 ∷ 7 ∷ 15 ∷ 22 ∷ [])
+    ∷ row (table 3 (unitGroup 0 15 0)) (1 ∷ 10 ∷ 20 ∷ [])
+    -- "N = 15, C = 503: PCFICH groups 23, 0, 8, 15"
+    ∷ row (table 4 (formatGroup 503 15)) (23 ∷ 0 ∷ 8 ∷ 15 ∷ [])
     ∷ []

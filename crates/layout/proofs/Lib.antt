@@ -12,4 +12,3 @@ pub mod Partition
 mod Ways
 pub mod OneOwner
 pub mod Asked
-pub mod Known

@@ -1,7 +1,8 @@
 -- The owner above the users, or the user that has the block.
 use borrow.Author.Needs.{needs}
 use native.Mathlib.Omega.{arith}
-use Rattle.layout.proofs.Few.{blocks-least, ports-most, sixths-most, users-most}
+use Rattle.layout.proofs.Few.{blocks-least, ports-most, sixths-most}
+use Rattle.plan.proofs.Counts.{users-most}
 use Rattle.layout.proofs.Fixed.{slot-length}
 use Rattle.layout.proofs.Ways.{end-fixed, end-control, end-user}
 use Rattle.layout.proofs.owner_at.Statement.{statement}

@@ -1,0 +1,44 @@
+-- `counted::with_plan` meets its contract. Assumes nothing.
+use mathlib.Core.Path.{_≡_, refl, sym, _∙_}
+use native.Mathlib.Omega.{arith}
+use Rattle.counted.proofs.Ways.{plan-is, plan-refused}
+use borrow.Author.Needs.{needs}
+use Rattle.counted.proofs.with_plan.Statement.{statement}
+use Rattle.counted.proofs.with_plan.Tie as tie
+
+check-requires : tie.Need-check-requires
+check-requires c κs = search needs
+
+enum-known-p : tie.Need-enum-known-p
+enum-known-p c = search needs
+
+with-payload-requires : tie.Need-with-payload-requires
+with-payload-requires c κs = sym (c .before .before .before .check .ensures) ∙ c .before .p .given .1
+
+enum-known-r : tie.Need-enum-known-r
+enum-known-r c = search needs
+
+number-requires : tie.Need-number-requires
+number-requires c κs = search needs
+
+refused-requires : tie.Need-refused-requires
+refused-requires c κs = search needs
+
+returns : tie.Need-returns
+returns c = c .with-payload .ensures ∙ plan-is (c .before .before .before .before .before .before .before .args .plan .now) (c .before .before .before .before .before .before .before .args .payload .now) _ _ (c .before .before .before .before .check .ensures) (c .before .before .p .given .1)
+
+returns-2 : tie.Need-returns-2
+returns-2 c = c .refused .ensures ∙ plan-refused (c .before .before .before .before .before .before .before .before .args .plan .now) (c .before .before .before .before .before .before .before .before .args .payload .now) _ _ _ (c .before .before .before .before .before .check .ensures) (c .before .before .before .r .given .1) (c .before .number .ensures)
+
+pub with-plan-spec : {M : Type 1} → statement M
+with-plan-spec =
+    tie.close
+    (tie.spec
+    check-requires
+    enum-known-p
+    with-payload-requires
+    enum-known-r
+    number-requires
+    refused-requires
+    returns
+    returns-2)

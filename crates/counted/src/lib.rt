@@ -1,0 +1,64 @@
+// What gridcount answers for an input: the counts of the nine kinds of owners, or a refusal (document 01, Known elements).
+ghost use mathlib.Core.Path.{_≡_};
+ghost use Rattle.plan.specs.Check.{checkOf};
+ghost use Rattle.plan.specs.declared.Checked.the-variants.{Plan as accepted};
+ghost use Rattle.counted.specs.Gridcount.{refusedBy, acceptedWith, countedOf, gridcountOf};
+use base::wide;
+use plan::Checked;
+use plan::Plan;
+
+// The refusal's number, or 0 and the counts in the order of the lines: CRS, PSS, SSS, PBCH, PCFICH, PHICH, PDSCH, held, idle.
+pub struct Counted {
+    pub refusal: u8,
+    pub counts: [usize; 9],
+}
+
+fn refused(number: u8) -> Counted
+    ensures { λ r. ⌜ r ≡ refusedBy number ⌝ }
+{
+    Counted {
+        refusal: number,
+        counts: [0; 9],
+    }
+}
+
+// An accepted plan: the payload's length and spare bits are left to look at.
+fn with_payload(plan: &[u8], p: Plan, payload: &[u8]) -> Counted
+    requires { ⌜ checkOf (now plan) ≡ accepted p ⌝ }
+    ensures { λ r. ⌜ r ≡ acceptedWith (now (plan .entry)) p (now (payload .entry)) ⌝ }
+{
+    if payload.len() != payload::payload_length(plan, p) {
+        return refused(11);
+    }
+    if payload::spare_clear(plan, p, payload) {
+        let counts = counts::kind_counts(plan, p);
+        return Counted {
+            refusal: 0,
+            counts: counts,
+        };
+    }
+    refused(12)
+}
+
+fn with_plan(plan: &[u8], payload: &[u8]) -> Counted
+    ensures { λ r. ⌜ r ≡ countedOf (now (plan .entry)) (now (payload .entry)) ⌝ }
+{
+    match plan::check(plan) {
+        Checked::Plan(p) => with_payload(plan, p, payload),
+        Checked::Refused(r) => refused(plan::number(r)),
+    }
+}
+
+// The whole input: a two-byte plan length, the plan, the payload.
+pub fn gridcount(input: &[u8]) -> Counted
+    ensures { λ r. ⌜ r ≡ gridcountOf (now (input .entry)) ⌝ }
+{
+    if input.len() < 2 {
+        return refused(1);
+    }
+    let end = 2 + (wide(input[0]) * 256 + wide(input[1]));
+    if input.len() < end {
+        return refused(1);
+    }
+    with_plan(&input[2..end], &input[end..])
+}

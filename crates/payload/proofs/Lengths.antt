@@ -1,0 +1,193 @@
+-- The lengths, as the code finds them. Assumes nothing.
+use Prim.Native.Nat.{ℕ, zero, suc, _+_, _-_, _*_, _/_, _≤_, _<_}
+use mathlib.Core.Path.{_≡_, refl, sym, ap, subst}
+use mathlib.Core.Bool.{Bool, true, false}
+use mathlib.Core.List.{List, [], _∷_}
+use native.Mathlib.Nat.{mul-le-mul, not-suc-le-zero}
+use native.Mathlib.Numerals.{sub-one}
+use native.Mathlib.Omega.{arith}
+use lib.Dec.{eqb, leb, leb→le}
+use lib.ListN.{length, drop}
+use borrow.Author.Tests.{eq-eqb, ne-eqb}
+use Rattle.plan.specs.Lists.{Every}
+use Rattle.plan.specs.Fields.{orders}
+use Rattle.plan.specs.Commands.{userOf}
+use Rattle.plan.specs.Check.{checkOf}
+use Rattle.plan.specs.Rows.{nextOf, usersFrom, usersOf}
+use Rattle.plan.specs.Valid.{UserIn, Valid}
+use Rattle.plan.specs.declared.Cell.{Cell}
+use Rattle.plan.specs.declared.Frame.{Frame}
+use Rattle.plan.specs.declared.User.{User}
+use Rattle.plan.specs.declared.Plan.{Plan}
+use Rattle.plan.specs.declared.Checked.the-variants.{Plan as accepted}
+use Rattle.plan.proofs.OneOf.{among-holds}
+use Rattle.plan.proofs.Valid.{valid}
+use Rattle.plan.proofs.RowLaws.{row-next, row-zero}
+use Rattle.layout.specs.Choice.{if_then_else_}
+use Rattle.layout.specs.Rules.{slotLength}
+use Rattle.layout.specs.Owners.{symbols}
+use Rattle.counts.specs.Users.{userElements}
+use Rattle.payload.specs.Sections.{sectionBytes, bytesOf}
+use Rattle.payload.specs.Payload.{pbchBits, userBits, heads, userSections, payloadLength, usersStart, gridLength}
+use Rattle.payload.specs.Bits.{tally}
+use Rattle.payload.specs.Loops.{elementsOf, UserReady, Ready}
+use Rattle.payload.proofs.Sections.{length-is}
+use Rattle.payload.proofs.Room.{ready}
+
+-- ---- PBCH, symbols, the grid
+module _ (c : Cell) (f : Frame) where
+  pub pbch-none : (f .subframe ≡ 0 → ⊥) → 0 ≡ pbchBits c f
+  unfolding pbchBits
+  pbch-none n = rw (ne-eqb (f .subframe) 0 n) refl
+
+  pub pbch-extended : f .subframe ≡ 0 → c .prefix ≡ 1 → 432 ≡ pbchBits c f
+  unfolding pbchBits
+  pbch-extended e x = rw (eq-eqb (f .subframe) 0 e, eq-eqb (c .prefix) 1 x) refl
+
+  pub pbch-normal : f .subframe ≡ 0 → (c .prefix ≡ 1 → ⊥) → 480 ≡ pbchBits c f
+  unfolding pbchBits
+  pbch-normal e x = rw (eq-eqb (f .subframe) 0 e, ne-eqb (c .prefix) 1 x) refl
+
+pub symbols-extended : (c : Cell) → c .prefix ≡ 1 → 12 ≡ symbols c
+unfolding slotLength
+symbols-extended c x = rw (eq-eqb (c .prefix) 1 x) refl
+
+pub symbols-normal : (c : Cell) → (c .prefix ≡ 1 → ⊥) → 14 ≡ symbols c
+unfolding slotLength
+symbols-normal c x = rw (ne-eqb (c .prefix) 1 x) refl
+
+pub symbols-most : (c : Cell) → symbols c ≤ 14
+unfolding slotLength
+symbols-most c = pick (eqb (c .prefix) 1)
+  where
+    pick : (t : Bool) → 2 * (if t then 6 else 7) ≤ 14
+    pick true = omega arith
+    pick false = omega arith
+
+pub rows-most : (n s : ℕ) → n < 256 → s ≤ 14 → 36 * n * s ≤ 128520
+rows-most n s h k = mul-le-mul {n₂ = 9180} {m₂ = 14} (omega arith) k
+
+pub grid-most : (n s q : ℕ) → n < 256 → s ≤ 14 → q < 256 → 36 * n * s * q ≤ 32772600
+grid-most n s q h k l = mul-le-mul {n₂ = 128520} {m₂ = 255} (rows-most n s h k) (omega arith)
+
+pub grid-is : (p : Plan) (n s q : ℕ) → n ≡ p .cell .blocks → s ≡ symbols (p .cell) → q ≡ p .cell .ports → 36 * n * s * q ≡ gridLength p
+unfolding gridLength
+grid-is p n s q en es eq = rw (en, es, eq) refl
+
+-- ---- a user's bits
+order-most : (c : Cell) (u : User) → UserIn c u → u .order ≤ 6
+order-most c u h = leb→le (u .order) 6 (among-holds (λ n. leb n 6) orders (u .order) tt (h .order))
+
+bits-most : (c : Cell) (f : Frame) (u : User) → UserIn c u → userBits c f u ≤ 6 * userElements c f (u .first) (u .count)
+unfolding userBits
+bits-most c f u h = mul-le-mul {n₂ = 6} {m₂ = userElements c f (u .first) (u .count)} (order-most c u h) (omega arith)
+
+pub user-fits : (c : Cell) (f : Frame) (u : User) → UserReady c f u → userBits c f u ≤ 100800
+user-fits c f u h = omega (arith, bits-most c f u (h .user), h .fits)
+
+pub bits-is : (c : Cell) (f : Frame) (u : User) (o g : ℕ) → o ≡ u .order → g ≡ userElements c f (u .first) (u .count) → o * g ≡ userBits c f u
+unfolding userBits
+bits-is c f u o g eo eg = rw (eo, eg) refl
+
+bytes-most : (c : Cell) (f : Frame) (us : List User) → Every (UserIn c) us → bytesOf (userSections c f us) ≤ 6 * elementsOf c f us
+unfolding userSections bytesOf elementsOf tally
+bytes-most c f [] h = omega arith
+bytes-most c f (u ∷ us) h = omega (arith, bits-most c f u (h .0), bytes-most c f us (h .1))
+
+-- ---- the users in turn
+pub next-user : (w : List ℕ) (at n : ℕ) (u : User) → 0 < n → u ≡ userOf (drop at w) → (to : ℕ) → to ≡ nextOf w at → usersFrom (drop at w) n ≡ u ∷ usersFrom (drop to w) (n - 1)
+next-user w at zero u h e to q = absurd (not-suc-le-zero h)
+next-user w at (suc n) u h e to q = rw (sub-one, e, q) (row-next userOf w at n)
+
+module _ (c : Cell) (f : Frame) (u : User) (us rest : List User) (e : us ≡ u ∷ rest) where
+  cons-ready : Ready c f us → Ready c f (u ∷ rest)
+  cons-ready r = subst (λ (l : List User). Ready c f l) e r
+
+  pub ready-user : Ready c f us → UserReady c f u
+  unfolding elementsOf tally
+  ready-user r = let s = cons-ready r in record { cell = s .cell; frame = s .frame; user = s .users .0; fits = omega (arith, s .fits) }
+
+  pub ready-rest : Ready c f us → Ready c f rest
+  unfolding elementsOf tally
+  ready-rest r = let s = cons-ready r in record { cell = s .cell; frame = s .frame; users = s .users .1; fits = omega (arith, s .fits) }
+
+  pub bytes-next : bytesOf (userSections c f us) ≡ sectionBytes (userBits c f u) + bytesOf (userSections c f rest)
+  unfolding userSections bytesOf
+  bytes-next = ap (λ (l : List User). bytesOf (userSections c f l)) e
+
+pub ready-fits : (c : Cell) (f : Frame) (us : List User) → Ready c f us → bytesOf (userSections c f us) ≤ 100800
+ready-fits c f us r = omega (arith, bytes-most c f us (r .users), r .fits)
+
+pub bytes-none : (w : List ℕ) (c : Cell) (f : Frame) (at n : ℕ) → n ≤ 0 → bytesOf (userSections c f (usersFrom (drop at w) n)) ≡ 0
+unfolding userSections bytesOf
+bytes-none w c f at n h = rw (row-zero userOf (drop at w) n (omega arith)) refl
+
+-- ---- the start of the users' sections, and all sections
+module _ (p : Plan) (a : ℕ) (ea : a ≡ pbchBits (p .cell) (p .frame)) where
+  pub start-is : (x y : ℕ) → x ≡ sectionBytes a → y ≡ sectionBytes (p .his .count) → x + y ≡ usersStart p
+  unfolding usersStart heads bytesOf
+  start-is x y ex ey = rw (← ea) (omega arith)
+
+pbch-most : (c : Cell) (f : Frame) → pbchBits c f ≤ 480
+unfolding pbchBits
+pbch-most c f = pick (eqb (f .subframe) 0) (eqb (c .prefix) 1)
+  where
+    pick : (t u : Bool) → (if t then (if u then 432 else 480) else 0) ≤ 480
+    pick true true = omega arith
+    pick true false = omega arith
+    pick false u = omega arith
+
+start-most : (w : List ℕ) (p : Plan) → Valid w p → usersStart p ≤ 61 + length w / 24
+unfolding usersStart heads bytesOf
+start-most w p v = omega (arith, pbch-most (p .cell) (p .frame), v .users-at, v .inside)
+
+module _ (w : List ℕ) (p : Plan) (e : checkOf w ≡ accepted p) where
+  pub plan-ready : Ready (p .cell) (p .frame) (usersFrom (drop (p .users .at) w) (p .users .count))
+  unfolding usersOf
+  plan-ready = ready w p e
+
+  module _ (a b : ℕ) (ea : a ≡ usersStart p) (eb : b ≡ bytesOf (userSections (p .cell) (p .frame) (usersFrom (drop (p .users .at) w) (p .users .count)))) where
+    pub length-room : a + b ≤ 100861 + length w / 24
+    length-room = omega (arith, start-most w p (valid w p e), ready-fits (p .cell) (p .frame) (usersFrom (drop (p .users .at) w) (p .users .count)) plan-ready)
+
+    pub length-found : a + b ≡ payloadLength w p
+    unfolding usersOf
+    length-found = rw (ea, eb) (sym (length-is w p))
+
+-- ---- the loop of users_length: so many bytes for the users before position at, and left users from there on
+pub record Going (w : List ℕ) (c : Cell) (f : Frame) (start count bytes at left : ℕ) : Type 0 where
+  pub ready : Ready c f (usersFrom (drop at w) left)
+  pub so-far : bytes + bytesOf (userSections c f (usersFrom (drop at w) left)) ≡ bytesOf (userSections c f (usersFrom (drop start w) count))
+  pub most : bytesOf (userSections c f (usersFrom (drop start w) count)) ≤ 100800
+
+pub going-first : (w : List ℕ) (c : Cell) (f : Frame) (start count : ℕ) → Ready c f (usersFrom (drop start w) count) → Going w c f start count 0 start count
+going-first w c f start count r = record { ready = r; so-far = omega arith; most = ready-fits c f (usersFrom (drop start w) count) r }
+
+module _ {w : List ℕ} {c : Cell} {f : Frame} {start count bytes at left : ℕ} (g : Going w c f start count bytes at left) where
+  pub going-end : left ≤ 0 → bytes ≡ bytesOf (userSections c f (usersFrom (drop start w) count))
+  going-end h = omega (arith, g .so-far, bytes-none w c f at left h)
+
+  module _ (h : 0 < left) (u : User) (e : u ≡ userOf (drop at w)) where
+    pub going-user : UserReady c f u
+    going-user = ready-user c f u (usersFrom (drop at w) left) (usersFrom (drop (nextOf w at) w) (left - 1)) (next-user w at left u h e (nextOf w at) refl) (g .ready)
+
+    module _ (s : ℕ) (es : s ≡ sectionBytes (userBits c f u)) where
+      pub going-room : bytes + s ≤ 100800
+      going-room =
+          omega (
+            arith,
+            g .so-far,
+            g .most,
+            bytes-next c f u (usersFrom (drop at w) left) (usersFrom (drop (nextOf w at) w) (left - 1)) (next-user w at left u h e (nextOf w at) refl),
+          )
+
+      pub going-next : (to : ℕ) → to ≡ nextOf w at → Going w c f start count (bytes + s) to (left - 1)
+      going-next to q =
+          let all = usersFrom (drop at w) left in
+          let rest = usersFrom (drop to w) (left - 1) in
+          let z : all ≡ u ∷ rest = next-user w at left u h e to q in
+          record {
+            ready = ready-rest c f u all rest z (g .ready);
+            so-far = omega (arith, g .so-far, bytes-next c f u all rest z);
+            most = g .most;
+          }

@@ -1,0 +1,4 @@
+pub mod Sections
+pub mod Payload
+pub mod Bits
+pub mod Loops

@@ -1,0 +1,164 @@
+// The payload of a plan (document 01, Plan and payload; Refusals 10 to 12): its sections, its length, and its spare bits.
+ghost use mathlib.Core.Path.{_≡_};
+ghost use Prim.Native.Nat.{ℕ, _+_, _≤_};
+ghost use lib.ListN.{length, drop};
+ghost use Rattle.plan.specs.Check.{checkOf};
+ghost use Rattle.plan.specs.Rows.{usersFrom};
+ghost use Rattle.plan.specs.declared.Checked.the-variants.{Plan as accepted};
+ghost use Rattle.layout.specs.Owners.{symbols};
+ghost use Rattle.payload.specs.Sections.{sectionBytes, bytesOf, spareAt, sparesFrom};
+ghost use Rattle.payload.specs.Payload.{pbchBits, userBits, heads, userSections, payloadLength, usersStart, gridLength, noneSet, spareClear};
+ghost use Rattle.payload.specs.Loops.{UserReady, Ready};
+use base::wide;
+use counts::user_count;
+use plan::Cell;
+use plan::Frame;
+use plan::Plan;
+use plan::User;
+use plan::next_at;
+use plan::user_at;
+
+// The bytes of a section, written so that no sum wraps.
+pub fn section_bytes(bits: usize) -> usize
+    ensures { λ r. ⌜ r ≡ sectionBytes bits ⌝ }
+{
+    bits / 8 + (bits % 8 + 7) / 8
+}
+
+// The bits of the PBCH section: 0 where the subframe has none.
+pub fn pbch_bits(c: Cell, f: Frame) -> usize
+    ensures { λ r. ⌜ r ≡ pbchBits c f ⌝ }
+{
+    if f.subframe != 0 {
+        return 0;
+    }
+    if c.prefix == 1 { 432 } else { 480 }
+}
+
+// The bits of a user's section. Whoever calls has the user from an accepted plan.
+pub fn user_bits(c: Cell, f: Frame, u: User) -> usize
+    requires { ⌜ UserReady c f u ⌝ }
+    ensures { λ r. ⌜ r ≡ userBits c f u ⌝ }
+{
+    wide(u.order) * user_count(c, f, u.first, u.count)
+}
+
+// The symbols of a subframe.
+fn symbols_of(c: Cell) -> usize
+    ensures { λ r. ⌜ r ≡ symbols c ⌝ }
+{
+    if c.prefix == 1 { 12 } else { 14 }
+}
+
+// The bytes of a plan's grid.
+pub fn grid_length(p: Plan) -> usize
+    ensures { λ r. ⌜ r ≡ gridLength p ⌝ }
+{
+    let c = p.cell;
+    36 * wide(c.blocks) * symbols_of(c) * wide(c.ports)
+}
+
+// The byte at which the first user's section starts.
+pub fn users_start(p: Plan) -> usize
+    ensures { λ r. ⌜ r ≡ usersStart p ⌝ }
+{
+    section_bytes(pbch_bits(p.cell, p.frame)) + section_bytes(p.his.count)
+}
+
+// The bytes of the sections of count users, whose commands stand from position start on.
+fn users_length(plan: &[u8], c: Cell, f: Frame, start: usize, count: usize) -> usize
+    requires { ⌜ Ready c f (usersFrom (drop start (now plan)) count) ⌝ }
+    ensures { λ r. ⌜ r ≡ bytesOf (userSections c f (usersFrom (drop start (now (plan .entry))) count)) ⌝ }
+{
+    let mut bytes: usize = 0;
+    let mut at = start;
+    let mut left = count;
+    while 0 < left {
+        bytes = bytes + section_bytes(user_bits(c, f, user_at(plan, at)));
+        at = next_at(plan, at);
+        left = left - 1;
+    }
+    bytes
+}
+
+// The bytes of a plan's payload. Whoever calls has p from the plan check.
+pub fn payload_length(plan: &[u8], p: Plan) -> usize
+    requires { ⌜ checkOf (now plan) ≡ accepted p ⌝ }
+    ensures { λ r. ⌜ r ≡ payloadLength (now (plan .entry)) p ⌝ }
+{
+    users_start(p) + users_length(plan, p.cell, p.frame, p.users.at, p.users.count)
+}
+
+// Whether the spare bits of a section of so many bits are 0. They are the lowest bits of its last byte.
+fn section_clear(payload: &[u8], at: usize, bits: usize) -> bool
+    requires { ⌜ at + sectionBytes bits ≤ length (now payload) ⌝ }
+    ensures { λ r. ⌜ r ≡ noneSet (now (payload .entry)) (spareAt at bits) ⌝ }
+{
+    let used = bits % 8;
+    if used == 0 {
+        return true;
+    }
+    let last = at + bits / 8;
+    wide(payload[last]) % (256 >> used) == 0
+}
+
+// The same of the sections before the users'.
+fn heads_clear(p: Plan, payload: &[u8]) -> bool
+    requires { ⌜ usersStart p ≤ length (now payload) ⌝ }
+    ensures { λ r. ⌜ r ≡ noneSet (now (payload .entry)) (sparesFrom 0 (heads p)) ⌝ }
+{
+    let pbch = pbch_bits(p.cell, p.frame);
+    if section_clear(payload, 0, pbch) {
+        section_clear(payload, section_bytes(pbch), p.his.count)
+    } else {
+        false
+    }
+}
+
+// The same of the sections of count users, whose commands stand from position start on and whose sections from byte first on.
+fn users_clear(
+    plan: &[u8],
+    c: Cell,
+    f: Frame,
+    start: usize,
+    count: usize,
+    payload: &[u8],
+    first: usize,
+) -> bool
+    requires { ⌜ Ready c f (usersFrom (drop start (now plan)) count) × (first + bytesOf (userSections c f (usersFrom (drop start (now plan)) count)) ≤ length (now payload)) ⌝ }
+    ensures { λ r. ⌜ r ≡ noneSet (now (payload .entry)) (sparesFrom first (userSections c f (usersFrom (drop start (now (plan .entry))) count))) ⌝ }
+{
+    let mut byte = first;
+    let mut at = start;
+    let mut rest = count;
+    while 0 < rest {
+        let bits = user_bits(c, f, user_at(plan, at));
+        if !section_clear(payload, byte, bits) {
+            return false;
+        }
+        byte = byte + section_bytes(bits);
+        at = next_at(plan, at);
+        rest = rest - 1;
+    }
+    true
+}
+
+// Whether every spare bit of a payload is 0. Whoever calls has p from the plan check, and has compared the payload's length.
+pub fn spare_clear(plan: &[u8], p: Plan, payload: &[u8]) -> bool
+    requires { ⌜ (checkOf (now plan) ≡ accepted p) × (length (now payload) ≡ payloadLength (now plan) p) ⌝ }
+    ensures { λ r. ⌜ r ≡ spareClear (now (plan .entry)) p (now (payload .entry)) ⌝ }
+{
+    if heads_clear(p, payload) {
+        users_clear(
+            plan,
+            p.cell,
+            p.frame,
+            p.users.at,
+            p.users.count,
+            payload,
+            users_start(p),
+        )
+    } else {
+        false
+    }
+}

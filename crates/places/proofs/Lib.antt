@@ -1,0 +1,12 @@
+-- Laws that the proofs cite. For the crates above: Counts and Some know nothing of grids; Numbers, Quads and Listing (places and
+-- indices of every owner, PCFICH and PHICH by quads), Halves (rows, half block by half block), Known.
+pub mod Counts
+pub mod Some
+pub mod Quads
+pub mod Channels
+pub mod Numbers
+pub mod Listing
+mod Inserted
+mod Ways
+mod Free
+pub mod Halves

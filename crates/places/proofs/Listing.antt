@@ -1,0 +1,208 @@
+-- THE LAW OF PLACES: under an accepted plan each owner's places are listed by placeOf, each once, and indexOf undoes it.
+-- Assumes nothing beyond the plan check's answer.
+use Prim.Native.Nat.{ℕ, _+_, _*_, _/_, _%_, _≤_, _<_}
+use mathlib.Core.Path.{_≡_, refl, sym, ap, _∙_}
+use mathlib.Core.Logic.{_↔_}
+use mathlib.Core.Bool.{Bool, true, false, not, _&&_, and-assoc}
+use mathlib.Core.List.{List}
+use native.Mathlib.Nat.{mod-lt, mod-eq-of-lt, div-eq-of-lt, div-add-mod', zero-mul}
+use native.Mathlib.Omega.{arith}
+use lib.Dec.{eqb, ltb}
+use borrow.Author.Tests.{eq-eqb, eqb-true, lt-ltb, le-ltb, ltb-true, ltb-false}
+use Rattle.plan.specs.Check.{checkOf}
+use Rattle.plan.specs.Fields.{unitsOf}
+use Rattle.plan.specs.declared.Cell.{Cell}
+use Rattle.plan.specs.declared.Plan.{Plan}
+use Rattle.plan.specs.declared.Checked.the-variants.{Plan as accepted}
+use Rattle.plan.proofs.Listed.{and-left, and-right}
+use Rattle.layout.specs.Rules.{groupOf, inGroup, formatGroup, isFormat, pcfich, unitHas, phich}
+use Rattle.layout.specs.Owners.{carriers, fixedRule, owns}
+use Rattle.layout.specs.declared.Owner.{Owner}
+use Rattle.layout.specs.declared.Owner.the-variants.{Crs, Sync, Pbch, Pcfich, Phich, User as UserOf, Held, Idle}
+use Rattle.layout.proofs.Few.{blocks-least, blocks-most, sixths-most}
+use Rattle.layout.proofs.Units.{units-fit}
+use Rattle.places.specs.Counts.{Listed}
+use Rattle.places.specs.Quads.{keeps, quadPlace, unitGroup, quadsPlace, quadsIndex, InQuads}
+use Rattle.places.specs.Places.{placeNumber, symbolOf, carrierOf, placesOf, ownsAt, countOf, orderOf, placeBy, indexBy, placeOf, indexOf, PlacesListed}
+use Rattle.places.proofs.Counts.{by-test, listed-nth, listed-none, listed-count}
+use Rattle.places.proofs.Quads.{Groups, quads-listed, quads-exactly, quads-at}
+use Rattle.places.proofs.Channels.{format-groups, unit-groups}
+use Rattle.places.proofs.Numbers.{first-row}
+
+-- ---- a rule of symbol 0, over the numbers of all places
+module _ (own rule : ℕ → Bool) (W T m : ℕ) (at index : ℕ → ℕ) (some : 0 < W) (fit : W ≤ T) (same : (t : ℕ) → own t ≡ eqb (t / W) 0 && rule (t % W)) (l : Listed rule W m at index) where
+  at-first : (j : ℕ) → j < m → (0 * W + at j) % W ≡ at j
+  at-first j h = let e : 0 * W + at j ≡ at j = omega (arith, zero-mul W) in ap (λ (x : ℕ). x % W) e ∙ mod-eq-of-lt (l .inside j h)
+
+  owned-row : (j : ℕ) → j < m → own (0 * W + at j) ≡ true
+  owned-row j h =
+      let e : 0 * W + at j ≡ at j = omega (arith, zero-mul W) in
+      let z : (0 * W + at j) / W ≡ 0 = ap (λ (x : ℕ). x / W) e ∙ div-eq-of-lt (l .inside j h) in
+      same (0 * W + at j) ∙ rw (eq-eqb _ _ z, at-first j h) (l .owned j h)
+
+  in-row : (t : ℕ) → own t ≡ true → t % W ≡ t
+  in-row t e =
+      let z : t / W ≡ 0 = eqb-true (t / W) 0 (and-left (eqb (t / W) 0) (rule (t % W)) (sym (same t) ∙ e)) in
+      let d : t / W * W ≡ 0 = ap (λ (x : ℕ). x * W) z ∙ zero-mul W in
+      omega (arith, div-add-mod' t W)
+
+  in-rule : (t : ℕ) → own t ≡ true → rule (t % W) ≡ true
+  in-rule t e = and-right (eqb (t / W) 0) (rule (t % W)) (sym (same t) ∙ e)
+
+  row-listed : Listed own T m (λ (j : ℕ). 0 * W + at j) (λ (t : ℕ). index (t % W))
+  row-listed =
+      record {
+        inside = λ j h. omega (arith, zero-mul W, l .inside j h);
+        owned = owned-row;
+        back = λ j h. ap index (at-first j h) ∙ l .back j h;
+        below = λ t h e. l .below (t % W) (mod-lt t some) (in-rule t e);
+        again = λ t h e. let a = l .again (t % W) (mod-lt t some) (in-rule t e) in omega (arith, zero-mul W, in-row t e);
+      }
+
+-- ---- the rules of PCFICH and of a PHICH unit, at a place
+module _ (C N : ℕ) where
+  pub pcfich-is : (s k : ℕ) → pcfich C N s k ≡ eqb s 0 && (keeps (C % 3) k && isFormat C N (k / 6))
+  unfolding pcfich inGroup groupOf keeps
+  pcfich-is s k = and-assoc (eqb s 0) (not (eqb (k % 3) (C % 3))) (isFormat C N (k / 6))
+
+  pub phich-is : (M m s k : ℕ) → m < M → phich C N M m s k ≡ eqb s 0 && (keeps (C % 3) k && unitHas C N m 0 (k / 6))
+  unfolding phich inGroup groupOf keeps unitHas
+  phich-is M m s k h = rw (lt-ltb m M h) (and-assoc (eqb s 0) (not (eqb (k % 3) (C % 3))) (unitHas C N m 0 (k / 6)))
+
+  pub phich-none : (M m s k : ℕ) → M ≤ m → phich C N M m s k ≡ false
+  unfolding phich
+  phich-none M m s k h = rw (le-ltb m M h) refl
+
+-- index 4i + j of PCFICH and of a unit
+module _ (w : List ℕ) (p : Plan) where
+  pub pcfich-place :
+      (i j : ℕ) → j < 4
+      → placeOf w p Pcfich (4 * i + j) ≡ placeNumber (p .cell) 0 (quadPlace (p .cell .identity) (formatGroup (p .cell .identity) (p .cell .blocks) i) j)
+  unfolding placeOf placeBy orderOf
+  pcfich-place i j h = ap (placeNumber (p .cell) 0) (quads-at (p .cell .identity) (formatGroup (p .cell .identity) (p .cell .blocks)) i j h)
+
+  pub phich-place :
+      (m i j : ℕ) → j < 4
+      → placeOf w p (Phich m) (4 * i + j) ≡ placeNumber (p .cell) 0 (quadPlace (p .cell .identity) (unitGroup (p .cell .identity) (p .cell .blocks) m i) j)
+  unfolding placeOf placeBy orderOf
+  phich-place m i j h = ap (placeNumber (p .cell) 0) (quads-at (p .cell .identity) (unitGroup (p .cell .identity) (p .cell .blocks) m) i j h)
+
+-- ---- a channel of quads with the rule of its groups
+module _ (c : Cell) (n : ℕ) (group : ℕ → ℕ) (has : ℕ → Bool) (some : 0 < carriers c) (gs : Groups n (2 * c .blocks) group has) where
+  by-quads :
+      (own : ℕ → Bool) → ((t : ℕ) → own t ≡ eqb (symbolOf c t) 0 && (keeps (c .identity % 3) (carrierOf c t) && has (carrierOf c t / 6)))
+      → Listed own (placesOf c) (4 * n) (λ (j : ℕ). placeNumber c 0 (quadsPlace (c .identity) group j)) (λ (t : ℕ). quadsIndex (c .identity) n group (carrierOf c t))
+  by-quads own same =
+      let e : 6 * (2 * c .blocks) ≡ carriers c = omega arith in
+      row-listed own (λ (k : ℕ). keeps (c .identity % 3) k && has (k / 6)) (carriers c) (placesOf c) (4 * n) (quadsPlace (c .identity) group) (quadsIndex (c .identity) n group) some (first-row c) same
+      (rw e at (quads-listed (c .identity) n (2 * c .blocks) group has gs))
+
+  at-quads :
+      (s k : ℕ) → k < carriers c → (r : Bool) → r ≡ eqb s 0 && (keeps (c .identity % 3) k && has (k / 6))
+      → (r ≡ true) ↔ ((s ≡ 0) × InQuads (c .identity) n group k)
+  at-quads s k in-k r e = (to, from)
+    where
+      exactly : (keeps (c .identity % 3) k && has (k / 6) ≡ true) ↔ InQuads (c .identity) n group k
+      exactly = quads-exactly (c .identity) n (2 * c .blocks) group has gs k (omega arith)
+
+      to : r ≡ true → (s ≡ 0) × InQuads (c .identity) n group k
+      to h =
+          let both : eqb s 0 && (keeps (c .identity % 3) k && has (k / 6)) ≡ true = sym e ∙ h in
+          (eqb-true s 0 (and-left (eqb s 0) (keeps (c .identity % 3) k && has (k / 6)) both), exactly .0 (and-right (eqb s 0) (keeps (c .identity % 3) k && has (k / 6)) both))
+
+      from : (s ≡ 0) × InQuads (c .identity) n group k → r ≡ true
+      from h = e ∙ rw (eq-eqb s 0 (h .0)) (exactly .1 (h .1))
+
+module _ (w : List ℕ) (p : Plan) (o : Owner) (m : ℕ) (l : Listed (ownsAt w p o) (placesOf (p .cell)) m (placeOf w p o) (indexOf w p o)) where
+  count-is : countOf w p o ≡ m
+  unfolding countOf
+  count-is = listed-count m (ownsAt w p o) (placesOf (p .cell)) (placeOf w p o) (indexOf w p o) l
+
+  counted : PlacesListed w p o
+  counted = rw count-is l
+
+module _ (w : List ℕ) (p : Plan) (ok : checkOf w ≡ accepted p) where
+  pub some-carriers : 0 < carriers (p .cell)
+  some-carriers = omega (arith, blocks-least w p ok)
+
+  -- what the functions require
+  pub ranges : (6 ≤ p .cell .blocks) × (2 * p .cell .blocks < 512) × (unitsOf (p .cell) < 256)
+  ranges = (omega (arith, blocks-least w p ok), omega (arith, blocks-most w p ok), omega (arith, blocks-most w p ok, units-fit (p .cell) (sixths-most w p ok) (omega (arith, blocks-least w p ok))))
+
+  pub pcfich-groups : Groups 4 (2 * p .cell .blocks) (formatGroup (p .cell .identity) (p .cell .blocks)) (isFormat (p .cell .identity) (p .cell .blocks))
+  pcfich-groups = format-groups (p .cell .identity) (p .cell .blocks) (omega (arith, blocks-least w p ok))
+
+  pub phich-groups :
+      (m : ℕ) → m < unitsOf (p .cell)
+      → Groups 3 (2 * p .cell .blocks) (unitGroup (p .cell .identity) (p .cell .blocks) m) (unitHas (p .cell .identity) (p .cell .blocks) m 0)
+  phich-groups m h =
+      unit-groups (p .cell .identity) (p .cell .blocks) (omega (arith, blocks-least w p ok)) m
+      (omega (arith, units-fit (p .cell) (sixths-most w p ok) (omega (arith, blocks-least w p ok))))
+
+  pcfich-at :
+      (t : ℕ)
+      → ownsAt w p Pcfich t ≡ eqb (symbolOf (p .cell) t) 0 && (keeps (p .cell .identity % 3) (carrierOf (p .cell) t) && isFormat (p .cell .identity) (p .cell .blocks) (carrierOf (p .cell) t / 6))
+  unfolding ownsAt owns fixedRule
+  pcfich-at t = pcfich-is (p .cell .identity) (p .cell .blocks) (symbolOf (p .cell) t) (carrierOf (p .cell) t)
+
+  phich-at :
+      (m : ℕ) → m < unitsOf (p .cell) → (t : ℕ)
+      → ownsAt w p (Phich m) t ≡ eqb (symbolOf (p .cell) t) 0 && (keeps (p .cell .identity % 3) (carrierOf (p .cell) t) && unitHas (p .cell .identity) (p .cell .blocks) m 0 (carrierOf (p .cell) t / 6))
+  unfolding ownsAt owns fixedRule
+  phich-at m h t = phich-is (p .cell .identity) (p .cell .blocks) (unitsOf (p .cell)) m (symbolOf (p .cell) t) (carrierOf (p .cell) t) h
+
+  no-unit : (m : ℕ) → unitsOf (p .cell) ≤ m → (t : ℕ) → ownsAt w p (Phich m) t ≡ false
+  unfolding ownsAt owns fixedRule
+  no-unit m h t = phich-none (p .cell .identity) (p .cell .blocks) (unitsOf (p .cell)) m (symbolOf (p .cell) t) (carrierOf (p .cell) t) h
+
+  pcfich-listed : Listed (ownsAt w p Pcfich) (placesOf (p .cell)) 16 (placeOf w p Pcfich) (indexOf w p Pcfich)
+  unfolding placeOf indexOf placeBy indexBy orderOf
+  pcfich-listed = by-quads (p .cell) 4 (formatGroup (p .cell .identity) (p .cell .blocks)) (isFormat (p .cell .identity) (p .cell .blocks)) some-carriers pcfich-groups (ownsAt w p Pcfich) pcfich-at
+
+  phich-listed :
+      (m : ℕ) → m < unitsOf (p .cell)
+      → Listed (ownsAt w p (Phich m)) (placesOf (p .cell)) 12 (placeOf w p (Phich m)) (indexOf w p (Phich m))
+  unfolding placeOf indexOf placeBy indexBy orderOf
+  phich-listed m h = by-quads (p .cell) 3 (unitGroup (p .cell .identity) (p .cell .blocks) m) (unitHas (p .cell .identity) (p .cell .blocks) m 0) some-carriers (phich-groups m h) (ownsAt w p (Phich m)) (phich-at m h)
+
+  -- PCFICH has sixteen places, a unit twelve
+  pub pcfich-count : countOf w p Pcfich ≡ 16
+  pcfich-count = count-is w p Pcfich 16 pcfich-listed
+
+  pub phich-count : (m : ℕ) → m < unitsOf (p .cell) → countOf w p (Phich m) ≡ 12
+  phich-count m h = count-is w p (Phich m) 12 (phich-listed m h)
+
+  unit-listed : (m : ℕ) → PlacesListed w p (Phich m)
+  unit-listed m =
+      by-test (ltb m (unitsOf (p .cell)))
+      (λ e. counted w p (Phich m) 12 (phich-listed m (ltb-true m (unitsOf (p .cell)) e)))
+      (λ e. counted w p (Phich m) 0 (listed-none (ownsAt w p (Phich m)) (placesOf (p .cell)) (placeOf w p (Phich m)) (indexOf w p (Phich m)) (no-unit m (ltb-false m (unitsOf (p .cell)) e))))
+
+  -- THE LAW
+  pub listed : (o : Owner) → PlacesListed w p o
+  unfolding countOf placeOf indexOf placeBy indexBy orderOf
+  listed (Crs q) = listed-nth (ownsAt w p (Crs q)) (placesOf (p .cell))
+  listed (Sync m) = listed-nth (ownsAt w p (Sync m)) (placesOf (p .cell))
+  listed Pbch = listed-nth (ownsAt w p Pbch) (placesOf (p .cell))
+  listed Pcfich = counted w p Pcfich 16 pcfich-listed
+  listed (Phich m) = unit-listed m
+  listed (UserOf i) = listed-nth (ownsAt w p (UserOf i)) (placesOf (p .cell))
+  listed Held = listed-nth (ownsAt w p Held) (placesOf (p .cell))
+  listed Idle = listed-nth (ownsAt w p Idle) (placesOf (p .cell))
+
+  -- THE LAW OF QUADS: PCFICH's rule holds just at the places of its four quads, a unit's at those of its three
+  pub pcfich-exactly :
+      (s k : ℕ) → k < carriers (p .cell)
+      → (owns w p Pcfich s k ≡ true) ↔ ((s ≡ 0) × InQuads (p .cell .identity) 4 (formatGroup (p .cell .identity) (p .cell .blocks)) k)
+  unfolding owns fixedRule
+  pcfich-exactly s k in-k =
+      at-quads (p .cell) 4 (formatGroup (p .cell .identity) (p .cell .blocks)) (isFormat (p .cell .identity) (p .cell .blocks)) some-carriers pcfich-groups s k in-k
+      (pcfich (p .cell .identity) (p .cell .blocks) s k) (pcfich-is (p .cell .identity) (p .cell .blocks) s k)
+
+  pub phich-exactly :
+      (m : ℕ) → m < unitsOf (p .cell) → (s k : ℕ) → k < carriers (p .cell)
+      → (owns w p (Phich m) s k ≡ true) ↔ ((s ≡ 0) × InQuads (p .cell .identity) 3 (unitGroup (p .cell .identity) (p .cell .blocks) m) k)
+  unfolding owns fixedRule
+  phich-exactly m h s k in-k =
+      at-quads (p .cell) 3 (unitGroup (p .cell .identity) (p .cell .blocks) m) (unitHas (p .cell .identity) (p .cell .blocks) m 0) some-carriers (phich-groups m h) s k in-k
+      (phich (p .cell .identity) (p .cell .blocks) (unitsOf (p .cell)) m s k) (phich-is (p .cell .identity) (p .cell .blocks) (unitsOf (p .cell)) m s k h)

@@ -1,0 +1,63 @@
+-- The place number and its inverse. Assumes only that the grid is not empty.
+use Prim.Native.Nat.{ℕ, suc, _+_, _*_, _/_, _%_, _≤_, _<_}
+use mathlib.Core.Path.{_≡_, ap₂, _∙_}
+use mathlib.Core.List.{List}
+use native.Mathlib.Nat.{add-zero, div-add-mod', mod-lt, mul-add-div-right, mul-add-mod-self-right, div-eq-of-lt, mod-eq-of-lt, suc-mul, div-lt-iff-lt-mul, mul-le-mul-right}
+use native.Mathlib.Omega.{arith}
+use lib.Dec.{eqb}
+use Rattle.plan.specs.declared.Cell.{Cell}
+use Rattle.plan.specs.declared.Plan.{Plan}
+use Rattle.layout.specs.Rules.{slotLength}
+use Rattle.layout.specs.Owners.{symbols, carriers, owns}
+use Rattle.layout.specs.declared.Owner.{Owner}
+use Rattle.places.specs.Places.{placeNumber, symbolOf, carrierOf, placesOf, ownsAt}
+use Rattle.places.proofs.Counts.{by-test}
+
+-- ---- row s of rows of W, and t's row and position
+pub at-div : (s W k : ℕ) → k < W → (s * W + k) / W ≡ s
+at-div s W k h = mul-add-div-right (omega arith) s k ∙ (rw (div-eq-of-lt h) (add-zero s))
+
+pub at-mod : (s W k : ℕ) → k < W → (s * W + k) % W ≡ k
+at-mod s W k h = mul-add-mod-self-right s W k ∙ mod-eq-of-lt h
+
+pub row-inside : (s S W k : ℕ) → s < S → k ≤ W → s * W + k ≤ S * W
+row-inside s S W k h l = omega (arith, mul-le-mul-right W h, suc-mul s W)
+
+pub slot-length : (e : ℕ) → (6 ≤ slotLength e) × (slotLength e ≤ 7)
+unfolding slotLength
+slot-length e = by-test (eqb e 1) (λ d. rw d (omega arith)) (λ d. rw d (omega arith))
+
+module _ (c : Cell) where
+  -- "S = 14 symbols (extended 12)"
+  pub symbols-most : symbols c ≤ 14
+  symbols-most = omega (arith, slot-length (c .prefix))
+
+  pub symbols-least : 12 ≤ symbols c
+  symbols-least = omega (arith, slot-length (c .prefix))
+
+  pub place-symbol : (s k : ℕ) → k < carriers c → symbolOf c (placeNumber c s k) ≡ s
+  place-symbol s k h = at-div s (carriers c) k h
+
+  pub place-carrier : (s k : ℕ) → k < carriers c → carrierOf c (placeNumber c s k) ≡ k
+  place-carrier s k h = at-mod s (carriers c) k h
+
+  pub place-both : (t : ℕ) → placeNumber c (symbolOf c t) (carrierOf c t) ≡ t
+  place-both t = div-add-mod' t (carriers c)
+
+  pub place-inside : (s k : ℕ) → s < symbols c → k < carriers c → placeNumber c s k < placesOf c
+  place-inside s k h l = omega (arith, row-inside s (symbols c) (carriers c) (suc k) h l)
+
+  module _ (some : 0 < carriers c) (t : ℕ) where
+    pub carrier-inside : carrierOf c t < carriers c
+    carrier-inside = mod-lt t some
+
+    pub symbol-inside : t < placesOf c → symbolOf c t < symbols c
+    symbol-inside h = div-lt-iff-lt-mul some .1 h
+
+  pub first-row : carriers c ≤ placesOf c
+  first-row = let l : 1 ≤ symbols c = omega (arith, symbols-least) in omega (arith, mul-le-mul-right (carriers c) l)
+
+-- the owner's rule at the number of (s, k)
+pub owns-at : (w : List ℕ) (p : Plan) (o : Owner) (s k : ℕ) → k < carriers (p .cell) → ownsAt w p o (placeNumber (p .cell) s k) ≡ owns w p o s k
+unfolding ownsAt
+owns-at w p o s k h = ap₂ (owns w p o) (place-symbol (p .cell) s k h) (place-carrier (p .cell) s k h)

@@ -1,0 +1,13 @@
+-- The two answers.
+use Rattle.places.proofs.Ways.{one-yes, one-no}
+use Rattle.places.proofs.one_below.Statement.{statement}
+use Rattle.places.proofs.one_below.Tie as tie
+
+returns : tie.Need-returns
+returns c = one-yes _ _ (c .if1 .taken)
+
+returns-2 : tie.Need-returns-2
+returns-2 c = one-no _ _ (c .if1 .left)
+
+pub one-below-spec : {M : Type 1} → statement M
+one-below-spec = tie.close (tie.spec returns returns-2)

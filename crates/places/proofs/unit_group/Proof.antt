@@ -1,0 +1,67 @@
+-- The number and the groups of PCFICH below it are the group.
+use native.Mathlib.Omega.{arith}
+use Rattle.places.proofs.Ways.{unit-sum}
+use borrow.Author.Needs.{needs}
+use Rattle.places.proofs.unit_group.Statement.{statement}
+use Rattle.places.proofs.unit_group.Tie as tie
+
+format-group-requires : tie.Need-format-group-requires
+format-group-requires c κs = search needs
+
+format-group-requires-2 : tie.Need-format-group-requires-2
+format-group-requires-2 c κs = search needs
+
+format-group-requires-3 : tie.Need-format-group-requires-3
+format-group-requires-3 c κs = search needs
+
+format-group-requires-4 : tie.Need-format-group-requires-4
+format-group-requires-4 c κs = search needs
+
+unit-number-requires : tie.Need-unit-number-requires
+unit-number-requires c κs = search needs
+
+step-requires : tie.Need-step-requires
+step-requires c κs = search needs
+
+step-requires-2 : tie.Need-step-requires-2
+step-requires-2 c κs = search needs
+
+add-result : tie.Need-add-result
+add-result c = search needs
+
+step-requires-3 : tie.Need-step-requires-3
+step-requires-3 c κs = search needs
+
+add-result-2 : tie.Need-add-result-2
+add-result-2 c = search needs
+
+step-requires-4 : tie.Need-step-requires-4
+step-requires-4 c κs = search needs
+
+add-result-3 : tie.Need-add-result-3
+add-result-3 c = search needs
+
+add-result-4 : tie.Need-add-result-4
+add-result-4 c = search needs
+
+returns : tie.Need-returns
+returns c = unit-sum (c .before .before .before .before .before .before .before .before .before .args .cell .identity) (c .before .before .before .before .before .before .before .before .before .args .cell .blocks) (c .before .before .before .before .before .before .before .before .before .args .m) (c .before .before .before .before .before .before .before .before .before .args .i) (omega arith) (c .before .before .before .before .before .before .before .before .format-group .ensures) (c .before .before .before .before .before .before .before .format-group2 .ensures) (c .before .before .before .before .before .before .format-group3 .ensures) (c .before .before .before .before .before .format-group4 .ensures) (c .before .before .before .before .unit-number .ensures .0) (c .before .before .before .step .ensures .0) (c .before .before .step2 .ensures .0) (c .before .step3 .ensures .0) (c .step4 .ensures .0)
+
+pub unit-group-spec : {M : Type 1} → statement M
+unit-group-spec =
+    tie.close
+    (tie.spec
+    format-group-requires
+    format-group-requires-2
+    format-group-requires-3
+    format-group-requires-4
+    unit-number-requires
+    step-requires
+    step-requires-2
+    add-result
+    step-requires-3
+    add-result-2
+    step-requires-4
+    add-result-3
+    add-result-4
+    returns)

@@ -1,0 +1,5 @@
+pub mod Counts
+pub mod Quads
+pub mod Places
+pub mod Steps
+pub mod Halves

@@ -1,0 +1,69 @@
+-- What the promises cite: every place by one number, and the places of each owner in the order in which its values fill them.
+-- Document 01, Grid and Owners. w is a plan's bytes, p the plan that the plan check answers with.
+use Prim.Native.Nat.{ℕ, _+_, _*_, _/_, _%_}
+use mathlib.Core.Bool.{Bool}
+use mathlib.Core.List.{List}
+use Rattle.plan.specs.declared.Cell.{Cell}
+use Rattle.plan.specs.declared.Plan.{Plan}
+use Rattle.layout.specs.Rules.{formatGroup}
+use Rattle.layout.specs.Owners.{symbols, carriers, owns}
+use Rattle.layout.specs.declared.Owner.{Owner}
+use Rattle.layout.specs.declared.Owner.the-variants.{Crs, Sync, Pbch, Pcfich, Phich, User as UserOf, Held, Idle}
+use Rattle.places.specs.Counts.{cnt, nth, Listed}
+use Rattle.places.specs.Quads.{unitGroup, quadsPlace, quadsIndex}
+
+-- document 01's place (s, k) as a number: an element on port p is at ((p×S+s)×12N+k)×3. In ascending numbers k goes first, then s
+abbrev pub placeNumber : Cell → ℕ → ℕ → ℕ
+placeNumber c s k = s * carriers c + k
+
+abbrev pub symbolOf : Cell → ℕ → ℕ
+symbolOf c t = t / carriers c
+
+abbrev pub carrierOf : Cell → ℕ → ℕ
+carrierOf c t = t % carriers c
+
+abbrev pub placesOf : Cell → ℕ
+placesOf c = symbols c * carriers c
+
+-- the owner's rule at place number t
+unfoldable pub ownsAt : List ℕ → Plan → Owner → ℕ → Bool
+ownsAt w p o t = owns w p o (symbolOf (p .cell) t) (carrierOf (p .cell) t)
+
+-- "its element count (a user's G) is the number of its places, ports not multiplied"
+unfoldable pub countOf : List ℕ → Plan → Owner → ℕ
+countOf w p o = cnt (ownsAt w p o) (placesOf (p .cell))
+
+-- the order of an owner's places: "k first, then s", or by quads, n of them, quad i in group `group i` of symbol 0
+pub data Order : Type 0 where
+  ascending : Order
+  quads : ℕ → (ℕ → ℕ) → Order
+
+unfoldable pub orderOf : Cell → Owner → Order
+orderOf c (Crs q) = ascending
+orderOf c (Sync m) = ascending
+orderOf c Pbch = ascending
+orderOf c Pcfich = quads 4 (formatGroup (c .identity) (c .blocks))
+orderOf c (Phich m) = quads 3 (unitGroup (c .identity) (c .blocks) m)
+orderOf c (UserOf i) = ascending
+orderOf c Held = ascending
+orderOf c Idle = ascending
+
+unfoldable pub placeBy : Cell → (ℕ → Bool) → Order → ℕ → ℕ
+placeBy c own ascending j = nth own (placesOf c) j
+placeBy c own (quads n group) j = placeNumber c 0 (quadsPlace (c .identity) group j)
+
+unfoldable pub indexBy : Cell → (ℕ → Bool) → Order → ℕ → ℕ
+indexBy c own ascending t = cnt own t
+indexBy c own (quads n group) t = quadsIndex (c .identity) n group (carrierOf c t)
+
+-- THE PLACE of the owner's index j, and the index of its place t
+unfoldable pub placeOf : List ℕ → Plan → Owner → ℕ → ℕ
+placeOf w p o j = placeBy (p .cell) (ownsAt w p o) (orderOf (p .cell) o) j
+
+unfoldable pub indexOf : List ℕ → Plan → Owner → ℕ → ℕ
+indexOf w p o t = indexBy (p .cell) (ownsAt w p o) (orderOf (p .cell) o) t
+
+-- the two undo each other on the owner's places and on the indices below its count. proofs/Listing.antt: so for every owner of an
+-- accepted plan
+abbrev pub PlacesListed : List ℕ → Plan → Owner → Type 0
+PlacesListed w p o = Listed (ownsAt w p o) (placesOf (p .cell)) (countOf w p o) (placeOf w p o) (indexOf w p o)

@@ -1,0 +1,12 @@
+-- For the inner contracts only: the groups of PCFICH that stand below a group left, found without a list of groups.
+use Prim.Native.Nat.{ℕ, _+_}
+use lib.Dec.{ltb}
+use Rattle.layout.specs.Choice.{one}
+
+-- how many of the groups a, b, c, d stand below t
+abbrev pub belowOf : ℕ → ℕ → ℕ → ℕ → ℕ → ℕ
+belowOf a b c d t = one (ltb a t) + one (ltb b t) + one (ltb c t) + one (ltb d t)
+
+-- 1 where at most n of the other groups stand below t
+abbrev pub stepOf : ℕ → ℕ → ℕ → ℕ → ℕ → ℕ → ℕ
+stepOf a b c d n t = one (ltb t (n + 1 + belowOf a b c d t))

@@ -1,0 +1,152 @@
+//! Document 01's known elements, and the tables against the formulas that say the same.
+
+use judge::control::{
+    cfi_bits, pcfich_groups, pcfich_places, phich_places, phich_unit_groups, places_of_group,
+};
+use judge::generate::{example_input, example_variant_input};
+use judge::modulation::{map_symbol, table, unmap_symbol};
+use judge::plan::{Cell, Frame};
+use judge::sequence::sequence;
+use judge::sync::{pss, sss, SSS_PAIRS};
+use judge::{gridcount, Complex, Place};
+
+fn cell(identity: usize, blocks: usize) -> Cell {
+    Cell { identity, blocks, extended: false, ports: 1, g: 1 }
+}
+
+#[test]
+fn sss_pairs_are_those_of_the_formula() {
+    for (d, pair) in SSS_PAIRS.iter().enumerate() {
+        let q1 = d / 30;
+        let q = (d + q1 * (q1 + 1) / 2) / 30;
+        let e = d + q * (q + 1) / 2;
+        let m0 = e % 31;
+        assert_eq!(*pair, (m0, (m0 + e / 31 + 1) % 31), "D = {d}");
+    }
+    let known = [0, 29, 30, 167].map(|d| SSS_PAIRS[d]);
+    assert_eq!(known, [(0, 1), (29, 30), (0, 2), (2, 9)]);
+}
+
+#[test]
+fn pss_known_phases() {
+    let phases = pss(&cell(0, 15));
+    assert_eq!([0, 1, 2, 30, 31].map(|i| phases[i]), [0, 25, 12, 33, 33]);
+    // d(n) = d(61 − n), for every root.
+    for identity in 0..3 {
+        let phases = pss(&cell(identity, 15));
+        assert!((0..62).all(|i| phases[i] == phases[61 - i] && phases[i] < 63));
+    }
+}
+
+/// The three m-sequences of 6.11.2.1 written out.
+const S: [i32; 31] = [
+    1, 1, 1, 1, -1, 1, 1, -1, 1, -1, -1, 1, 1, -1, -1, -1, -1, -1, 1, 1, 1, -1, -1, 1, -1, -1, -1, 1, -1, 1,
+    -1,
+];
+const C: [i32; 31] = [
+    1, 1, 1, 1, -1, 1, -1, 1, -1, -1, -1, 1, -1, -1, 1, 1, 1, -1, -1, -1, -1, -1, 1, 1, -1, -1, 1, -1, 1, 1,
+    -1,
+];
+const Z: [i32; 31] = [
+    1, 1, 1, 1, -1, -1, -1, 1, 1, -1, -1, 1, -1, -1, -1, -1, -1, 1, -1, 1, 1, 1, -1, 1, 1, -1, 1, -1, 1, -1,
+    -1,
+];
+
+#[test]
+fn sss_from_written_sequences() {
+    for identity in 0..504 {
+        let (m0, m1) = SSS_PAIRS[identity / 3];
+        let id2 = identity % 3;
+        for subframe in [0, 5] {
+            let d = sss(&cell(identity, 15), &Frame { frame: 0, subframe, cfi: 1 });
+            let (even, odd) = if subframe == 0 { (m0, m1) } else { (m1, m0) };
+            for n in 0..31 {
+                assert_eq!(d[2 * n], S[(n + even) % 31] * C[(n + id2) % 31]);
+                let z = Z[(n + even % 8) % 31];
+                assert_eq!(d[2 * n + 1], S[(n + odd) % 31] * C[(n + id2 + 3) % 31] * z);
+            }
+        }
+    }
+}
+
+#[test]
+fn the_sequence_by_registers() {
+    // With c_init = 0 the sequence is x1 alone; x1(1569) .. x1(1599), lowest first, is a number in common use.
+    let mut x1 = 0x54D2_1B24u32;
+    for _ in 0..31 {
+        x1 = x1 >> 1 | (((x1 >> 3) ^ x1) & 1) << 30;
+    }
+    let c = sequence(0, 31);
+    assert_eq!(x1, c.iter().enumerate().fold(0, |word, (i, bit)| word | u32::from(*bit) << i));
+    for c_init in [1, 503, 0x1234_5678, 65535 * 16384 + 512 * 9 + 503, (1 << 31) - 1] {
+        let (mut x1, mut x2) = (1u32, c_init);
+        let mut bits = vec![];
+        for _ in 0..1600 + 3000 {
+            bits.push(((x1 ^ x2) & 1) as u8);
+            x1 = x1 >> 1 | (((x1 >> 3) ^ x1) & 1) << 30;
+            x2 = x2 >> 1 | (((x2 >> 3) ^ (x2 >> 2) ^ (x2 >> 1) ^ x2) & 1) << 30;
+        }
+        assert_eq!(sequence(c_init, 3000), bits[1600..]);
+    }
+}
+
+/// Document 01's formulas for I (even bits) and J (odd bits).
+fn level(bits: &[i32]) -> i32 {
+    let sign: Vec<i32> = bits.iter().map(|bit| 1 - 2 * bit).collect();
+    match sign.len() {
+        1 => sign[0],
+        2 => sign[0] * (2 - sign[1]),
+        _ => sign[0] * (4 - sign[1] * (2 - sign[2])),
+    }
+}
+
+#[test]
+fn modulation_tables_are_those_of_the_formulas() {
+    for q in [2, 4, 6] {
+        assert_eq!(table(q).len(), 1 << q);
+        for (at, (number, i, j)) in table(q).iter().enumerate() {
+            assert_eq!(at, *number as usize);
+            let bits: Vec<i32> = (0..q).rev().map(|bit| i32::from(number >> bit & 1)).collect();
+            let even: Vec<i32> = bits.iter().step_by(2).copied().collect();
+            let odd: Vec<i32> = bits.iter().skip(1).step_by(2).copied().collect();
+            assert_eq!((*i, *j), (level(&even), level(&odd)), "{bits:?}");
+            let bits: Vec<u8> = bits.iter().map(|bit| *bit as u8).collect();
+            assert_eq!(unmap_symbol(map_symbol(&bits), q), Some(*number));
+        }
+        assert_eq!(unmap_symbol(Complex::new(0, 1), q), None);
+    }
+    assert_eq!(map_symbol(&[1, 0, 1, 1, 1, 1]), Complex::new(-7, 7));
+}
+
+#[test]
+fn cfi_codewords_repeat() {
+    for (cfi, word) in [(1, [0, 1, 1]), (2, [1, 0, 1]), (3, [1, 1, 0])] {
+        let repeated: Vec<u8> = (0..32).map(|i| word[i % 3]).collect();
+        assert_eq!(cfi_bits(cfi), repeated);
+    }
+}
+
+#[test]
+fn control_groups_at_fifteen_blocks() {
+    assert_eq!(pcfich_groups(&cell(0, 15)), [0, 7, 15, 22]);
+    assert_eq!(phich_unit_groups(&cell(0, 15), 0), [1, 10, 20]);
+    assert_eq!(pcfich_groups(&cell(503, 15)), [23, 0, 8, 15]);
+    // C = 0: k mod 3 = 0 is left out.
+    let ks = [1, 2, 4, 5];
+    assert_eq!(places_of_group(&cell(0, 15), 0), ks.map(|k| Place { s: 0, k }));
+    assert_eq!(pcfich_places(&cell(0, 15))[..4], ks.map(|k| Place { s: 0, k }));
+    assert_eq!(phich_places(&cell(0, 15), 0)[..4], ks.map(|k| Place { s: 0, k: k + 6 }));
+}
+
+#[test]
+fn gridcount_tables() {
+    assert_eq!(example_input().len(), 2 + 22 + 564);
+    assert_eq!(
+        gridcount(&example_input()),
+        "CRS 120\nPSS 0\nSSS 0\nPBCH 0\nPCFICH 16\nPHICH 12\nPDSCH 2250\nheld 0\nidle 122\n"
+    );
+    assert_eq!(
+        gridcount(&example_variant_input()),
+        "CRS 120\nPSS 62\nSSS 62\nPBCH 240\nPCFICH 16\nPHICH 12\nPDSCH 1830\nheld 56\nidle 122\n"
+    );
+}

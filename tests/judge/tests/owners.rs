@@ -1,0 +1,146 @@
+//! Owners and their counts.
+
+use judge::generate::{any_plan, null_symbol_plan, Fixed, Random, COMBINATIONS};
+use judge::owners::{layout, Owner, KINDS};
+use judge::plan::Plan;
+use judge::{check, counts, owner, owner_numbers, Place};
+
+fn empty_plan(combination: usize, identity: usize) -> Plan {
+    let fixed = Fixed::combination(combination, identity, 0);
+    let frame = judge::plan::Frame { frame: 0, subframe: fixed.subframe, cfi: fixed.cfi };
+    Plan { cell: fixed.cell(), frame, his: vec![], users: vec![] }
+}
+
+#[test]
+fn counts_of_the_fixed_channels() {
+    // Every combination with every rest of C: that no two rules claim one place is checked on the way.
+    for combination in 0..COMBINATIONS {
+        let identity = (combination * 5) % 504;
+        let plan = empty_plan(combination, identity);
+        let (cell, frame) = (plan.cell, plan.frame);
+        let count = layout(&plan).counts();
+        assert_eq!(count.iter().sum::<usize>(), cell.subcarriers() * cell.symbols());
+        let crs = [0, 8, 16, 0, 24][cell.ports] * cell.blocks;
+        let sync = if frame.subframe % 5 == 0 { 62 } else { 0 };
+        let pbch = match (frame.subframe, cell.extended) {
+            (0, false) => 240,
+            (0, true) => 216,
+            _ => 0,
+        };
+        // Absent ports' holes in the PBCH area: 12 for each of four ports in a symbol with references.
+        let holes = match (frame.subframe, cell.ports, cell.extended) {
+            (0, 1, false) => 12 + 24,
+            (0, 1, true) => 12 + 24 + 12,
+            (0, 2, _) => 24,
+            _ => 0,
+        };
+        let held = holes + if sync > 0 { 20 } else { 0 };
+        let phich = 12 * cell.phich_units();
+        assert_eq!(count[..6], [crs, sync, sync, pbch, 16, phich], "{plan:?}");
+        assert_eq!((count[6], count[7]), (0, held), "{plan:?}");
+    }
+}
+
+#[test]
+fn all_identities() {
+    for identity in 0..504 {
+        for combination in [0, 7, 1234, 2345] {
+            let plan = empty_plan(combination, identity);
+            let count = layout(&plan).counts();
+            assert_eq!(count.iter().sum::<usize>(), plan.cell.subcarriers() * plan.cell.symbols());
+        }
+    }
+}
+
+#[test]
+fn users_add_up() {
+    let mut random = Random::new(21);
+    for _ in 0..400 {
+        let bytes = any_plan(&mut random);
+        let plan = check(&bytes).unwrap();
+        let (cell, frame) = (plan.cell, plan.frame);
+        let layout = layout(&plan);
+        let count = layout.counts();
+        assert_eq!(count.iter().sum::<usize>(), cell.subcarriers() * cell.symbols());
+        assert_eq!(counts(&bytes), Ok(count));
+        assert_eq!(count[6], layout.user_elements());
+        for (number, (user, places)) in plan.users.iter().zip(&layout.users).enumerate() {
+            // "k first, then s", in its blocks, from CFI on.
+            assert!(places.windows(2).all(|two| (two[0].s, two[0].k) < (two[1].s, two[1].k)));
+            for place in places {
+                assert!((user.first..user.first + user.count).contains(&(place.k / 12)));
+                assert!(place.s >= frame.cfi);
+                assert_eq!(layout.owner(*place), Owner::User(number));
+            }
+            assert!(!places.is_empty());
+            assert!(cell.ports == 1 || places.len() % 2 == 0);
+        }
+        // No idle place where a user could stand.
+        for s in frame.cfi..cell.symbols() {
+            for k in 0..cell.subcarriers() {
+                if layout.owner(Place { s, k }) == Owner::Idle {
+                    assert!(plan.users.iter().all(|u| !(u.first..u.first + u.count).contains(&(k / 12))));
+                }
+            }
+        }
+        let numbers = owner_numbers(&bytes).unwrap();
+        let (s, k) = (random.below(cell.symbols()), random.below(cell.subcarriers()));
+        for port in 0..cell.ports {
+            assert_eq!(owner(&bytes, s, k, port), Ok(numbers[s * cell.subcarriers() + k]));
+        }
+    }
+    assert_eq!(KINDS.len(), 9);
+}
+
+#[test]
+fn the_plan_with_null_symbols() {
+    let bytes = null_symbol_plan();
+    let plan = check(&bytes).unwrap();
+    let places = layout(&plan).users[0].len();
+    assert_eq!(places % 4, 2);
+    // Block 4 has subcarriers 48..59, the centre 72 starts at 54. Symbols 1..11 of twelve, less four
+    // references in five of them, less the upper half of SSS and PSS, less its 4 + 4 + 6 + 4 of PBCH.
+    assert_eq!(places, 11 * 12 - 5 * 4 - 2 * 6 - 18);
+}
+
+#[test]
+fn null_symbols_come_only_there() {
+    // Four ports, one block each: only the blocks that the centre 72 cuts, with the extended prefix, an odd
+    // number of blocks and f = 0, have a count that is no multiple of four.
+    for combination in 0..COMBINATIONS {
+        let fixed = Fixed::combination(combination, combination % 504, 0);
+        let mut plan = empty_plan(combination, combination % 504);
+        if fixed.ports != 4 {
+            continue;
+        }
+        plan.users = (0..fixed.blocks)
+            .map(|first| judge::plan::UserCommand { rnti: 1 + first, bits: 2, first, count: 1 })
+            .collect();
+        let cut = |block: usize| {
+            let centre = plan.cell.centre();
+            block == centre.start / 12 || block == centre.end / 12
+        };
+        for (block, places) in layout(&plan).users.iter().enumerate() {
+            let null = fixed.prefix == 1 && fixed.blocks % 2 == 1 && fixed.subframe == 0 && cut(block);
+            assert_eq!(places.len() % 4, if null { 2 } else { 0 }, "{fixed:?} block {block}");
+        }
+    }
+}
+
+#[test]
+fn holes_of_absent_ports() {
+    // One port, C = 0, f = 0: k = 3 of symbol 0 is idle; 6N − 36 + 3 of symbol 7 is held.
+    let plan = [0x10, 0, 0, 15, 0, 1, 1, 0x11, 0, 0, 0, 1, 0x30, 0, 1, 2, 0, 15, 0];
+    assert_eq!(owner(&plan, 0, 0, 0), Ok(0));
+    assert_eq!(owner(&plan, 0, 3, 0), Ok(513));
+    assert_eq!(owner(&plan, 7, 54, 0), Ok(0));
+    assert_eq!(owner(&plan, 7, 57, 0), Ok(512));
+    assert_eq!(owner(&plan, 7, 55, 0), Ok(32));
+    assert_eq!(owner(&plan, 7, 3, 0), Ok(256));
+    assert_eq!(owner(&plan, 8, 54, 0), Ok(512));
+    assert_eq!(owner(&plan, 6, 54, 0), Ok(512));
+    assert_eq!(owner(&plan, 6, 59, 0), Ok(16));
+    assert_eq!(owner(&plan, 5, 59, 0), Ok(17));
+    assert_eq!(owner(&plan, 0, 1, 0), Ok(33));
+    assert_eq!(owner(&plan, 0, 7, 0), Ok(64));
+}

@@ -1,0 +1,71 @@
+//! Samples: exact f32, the paper's bound, and refusal 9.
+
+use judge::sample::{gain, sample, sample_numbers, scaled, Sample, LEVEL_UNITS};
+
+#[test]
+fn gains_are_nearest() {
+    for unit in LEVEL_UNITS {
+        let gain = gain(unit);
+        let (m, t, u) = (u128::from(gain.mantissa), gain.exponent, u128::from(unit));
+        // |m/2^t − 1/√u| is less than half a last place: (2m − 1)² u < 2^(2t+2) < (2m + 1)² u.
+        assert!((2 * m - 1) * (2 * m - 1) * u < 1 << (2 * t + 2));
+        assert!((2 * m + 1) * (2 * m + 1) * u > 1 << (2 * t + 2));
+        let double = 1.0 / f64::from(unit).sqrt();
+        assert_eq!(scaled(1, unit), (double as f32).to_bits());
+    }
+}
+
+#[test]
+fn products_are_those_of_f32() {
+    for unit in LEVEL_UNITS {
+        let gain = f32::from_bits(scaled(1, unit));
+        for level in -8..=8i8 {
+            assert_eq!(scaled(level, unit), (f32::from(level) * gain).to_bits(), "{level} in {unit}");
+        }
+    }
+    assert_eq!(scaled(0, 2), 0);
+}
+
+/// (2^22−1)²I²2^(2t) ≤ 2^44·u·a² ≤ (2^22+1)²I²2^(2t) for the sample a/2^t.
+#[test]
+fn the_bound_by_squares() {
+    for unit in LEVEL_UNITS {
+        for level in -8..=8i32 {
+            let bits = scaled(level as i8, unit);
+            let exponent = (bits >> 23) & 255;
+            let mantissa = if bits << 1 == 0 { 0 } else { u128::from(bits & 0x7F_FFFF | 0x80_0000) };
+            let t = if mantissa == 0 { 0 } else { 127 + 23 - exponent };
+            let square = (level * level) as u128 * (1 << (2 * t));
+            let middle = (1u128 << 44) * u128::from(unit) * mantissa * mantissa;
+            let (low, high) = ((1u128 << 22) - 1, (1u128 << 22) + 1);
+            assert!(low * low * square <= middle && middle <= high * high * square, "{level} in {unit}");
+            assert_eq!(bits >> 31 == 1, level < 0);
+        }
+    }
+}
+
+#[test]
+fn what_is_an_element() {
+    assert_eq!(sample(0, 0, 0), Ok(Sample::Silence));
+    assert_eq!(sample(0, 1, 0), Err(9));
+    assert_eq!(sample(0, 0, 255), Err(9));
+    assert_eq!(sample(63, 62, 0), Ok(Sample::Phase(62)));
+    assert_eq!(sample(63, 63, 0), Err(9));
+    assert_eq!(sample(63, 255, 0), Err(9));
+    assert_eq!(sample(63, 0, 1), Err(9));
+    assert_eq!(sample(2, 0, 0), Ok(Sample::Point { i: 0, j: 0 }));
+    assert_eq!(sample(1, 8, 248), Ok(Sample::Point { i: 8f32.to_bits(), j: (-8f32).to_bits() }));
+    assert_eq!(sample(1, 9, 0), Err(9));
+    assert_eq!(sample(1, 0, 247), Err(9));
+    assert_eq!(sample(84, 128, 0), Err(9));
+    assert_eq!(sample(4, 255, 1), Ok(Sample::Point { i: (-0.5f32).to_bits(), j: 0.5f32.to_bits() }));
+    let mut elements = 0;
+    for unit in 0..=255 {
+        for i in 0..=255 {
+            for j in 0..=255 {
+                elements += usize::from(sample_numbers(unit, i, j)[0] >= 0);
+            }
+        }
+    }
+    assert_eq!(elements, 1 + 63 + 7 * 17 * 17);
+}
