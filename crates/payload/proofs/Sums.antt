@@ -34,11 +34,6 @@ unfolding sumBelow
 sum-none zero = refl
 sum-none (suc n) = omega (arith, sum-none n)
 
-pub sum-most : (f : ℕ → ℕ) → ((i : ℕ) → f i ≤ 1) → (n : ℕ) → sumBelow f n ≤ n
-unfolding sumBelow
-sum-most f h zero = omega arith
-sum-most f h (suc n) = omega (arith, sum-most f h n, h n)
-
 pub sum-first : (f : ℕ → ℕ) (n : ℕ) → sumBelow f (suc n) ≡ f 0 + sumBelow (λ i. f (suc i)) n
 unfolding sumBelow
 sum-first f zero = omega arith
@@ -149,23 +144,6 @@ span-sum a b (suc n) =
 pub occurs-span : (a n b : ℕ) → occurs b (span a n) ≡ within a n b
 unfolding occurs span
 occurs-span a n b = tally-table (λ (x : ℕ). one (eqb x b)) n (λ (j : ℕ). a + j) ∙ span-sum a b n
-
--- how many of the first N positions are among the n from a on
-size-at : (a n N : ℕ) → sumBelow (within a n) N ≡ (N - a) - (N - a - n)
-unfolding sumBelow
-size-at a n zero = omega arith
-size-at a n (suc N) = pick (ltb N a) (ltb N (a + n)) refl refl (size-at a n N)
-  where
-    pick : (t u : Bool) → ltb N a ≡ t → ltb N (a + n) ≡ u → sumBelow (within a n) N ≡ (N - a) - (N - a - n) → sumBelow (within a n) N + within a n N ≡ (suc N - a) - (suc N - a - n)
-    pick true u e f ih = let h : N < a = ltb-true N a e in omega (arith, within-below a n N h)
-    pick false true e f ih =
-        let h : a ≤ N = ltb-false N a e in
-        let k : N < a + n = ltb-true N (a + n) f in
-        omega (arith, within-in a n N h k)
-    pick false false e f ih = let k : a + n ≤ N = ltb-false N (a + n) f in omega (arith, within-above a n N k)
-
-pub span-size : (a n N : ℕ) → a + n ≤ N → sumBelow (within a n) N ≡ n
-span-size a n N h = omega (arith, size-at a n N)
 
 -- ---- membership
 pub among-occurs : (b : ℕ) (xs : List ℕ) → Among b xs → 1 ≤ occurs b xs
