@@ -20,7 +20,7 @@ use Rattle.plan.proofs.Checked.{the-type}
 use Rattle.plan.proofs.OneOf.{not-in}
 use Rattle.plan.proofs.Listed.{and-left, and-right}
 use Rattle.layout.specs.Owners.{numberOf, symbols, carriers, gridPlace, owns, ownerOf}
-use Rattle.layout.specs.Chain.{ownerAt, refusalOf}
+use Rattle.layout.specs.Chain.{refusalOf}
 use Rattle.layout.specs.Query.{inGrid, answerTo, ownerQueryOf, answerOf}
 use Rattle.layout.specs.declared.Owner.{Owner}
 use Rattle.layout.specs.declared.OwnerAnswer.the-variants.{Is, Refused}
@@ -87,10 +87,8 @@ module _ (w : List ℕ) (s k port : ℕ) where
     pub way-place : b ≡ true → gridPlace (p .cell) s k
     way-place t = grid-parts (p .cell) s k port (sym eb ∙ t)
 
-    pub way-owner : b ≡ true → (o : Owner) → o ≡ ownerAt w p s k → Is o ≡ ownerQueryOf w s k port
-    way-owner t o eo =
-        let l = way-place t in
-        ap Is (eo ∙ sym (owner-of w p ok s k (l .0) (l .1))) ∙ sym (query-inside w s k port p ok (sym eb ∙ t))
+    pub way-owner : b ≡ true → (o : Owner) → o ≡ ownerOf w p s k → Is o ≡ ownerQueryOf w s k port
+    way-owner t o eo = ap Is eo ∙ sym (query-inside w s k port p ok (sym eb ∙ t))
 
     pub way-outside : b ≡ false → Refused Outside ≡ ownerQueryOf w s k port
     way-outside t = sym (query-outside w s k port p ok (sym eb ∙ t))

@@ -9,7 +9,7 @@ ghost use Rattle.plan.specs.Rows.{usersFrom};
 ghost use Rattle.plan.specs.declared.Checked.the-variants.{Plan as accepted};
 ghost use Rattle.layout.specs.Choice.{one};
 ghost use Rattle.layout.specs.Rules.{slotLength, inSlot, middle, marked, pbchArea, standsAt, formatGroup, left};
-ghost use Rattle.layout.specs.Owners.{numberOf, gridPlace, controlSymbols, blocksHave};
+ghost use Rattle.layout.specs.Owners.{numberOf, gridPlace, controlSymbols, blocksHave, ownerOf};
 ghost use Rattle.layout.specs.Chain.{pickPort, pilot, unitIn, groupAt, controlAt, syncArea, fixedAt, userFrom, ownerAt, refusalOf};
 ghost use Rattle.layout.specs.Query.{inGrid, ownerQueryOf};
 use plan::Cell;
@@ -318,7 +318,7 @@ pub fn control_symbols(cell: Cell, frame: Frame) -> usize
 // The owner of a place, for whoever asks for many. Whoever calls has p from the plan check of these bytes, and asks inside the grid.
 pub fn owner_at(plan: &[u8], p: Plan, s: usize, k: usize) -> Owner
     requires { ⌜ (checkOf (now plan) ≡ accepted p) × gridPlace (p .cell) s k ⌝ }
-    ensures { λ r. ⌜ r ≡ ownerAt (now (plan .entry)) p s k ⌝ }
+    ensures { λ r. ⌜ r ≡ ownerOf (now (plan .entry)) p s k ⌝ }
 {
     let cell = p.cell;
     let frame = p.frame;
