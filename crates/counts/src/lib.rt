@@ -11,16 +11,10 @@ ghost use Rattle.counts.specs.Users.{signals, taken as takenAt, halves, 
 ghost use Rattle.counts.specs.Counts.{kinds, kindCount};
 ghost use Rattle.counts.specs.Kinds.{crsElements, syncElements, pbchElements, holes as holesOf, heldElements};
 ghost use Rattle.base.specs.Tables.{table};
+use layout::slot_length;
 use plan::Cell;
 use plan::Frame;
 use plan::Plan;
-
-// The number of symbols of a slot.
-fn slot_length(prefix: u8) -> usize
-    ensures { λ r. ⌜ r ≡ slotLength prefix ⌝ }
-{
-    if prefix == 1 { 6 } else { 7 }
-}
 
 // A symbol's number in its slot.
 fn in_slot(length: usize, s: usize) -> usize

@@ -1,0 +1,39 @@
+-- The places that are listed are as many as the element count says: `countOf` of the crate counts. Assumes nothing.
+use Prim.Native.Nat.{ℕ, zero, suc, _+_, _*_, _≤_, _<_}
+use mathlib.Core.Path.{_≡_, refl, ap, ap₂, _∙_}
+use mathlib.Core.Bool.{Bool, true, false, cond}
+use mathlib.Core.List.{List}
+use native.Mathlib.Nat.{suc-mul, zero-mul}
+use native.Mathlib.Omega.{arith}
+use Rattle.plan.specs.declared.Plan.{Plan}
+use Rattle.layout.specs.Choice.{one}
+use Rattle.layout.specs.Owners.{symbols, carriers, owns}
+use Rattle.layout.specs.declared.Owner.{Owner}
+use Rattle.counts.specs.Sums.{sumTo}
+use Rattle.counts.specs.Counts.{countOf as elementsOf}
+use Rattle.places.specs.Counts.{cnt}
+use Rattle.places.specs.Places.{placeNumber, placesOf, ownsAt, countOf}
+use Rattle.places.proofs.Counts.{cnt-add}
+use Rattle.places.proofs.Numbers.{owns-at}
+
+as-one : (b : Bool) → cond b 1 0 ≡ one b
+as-one true = refl
+as-one false = refl
+
+module _ (w : List ℕ) (p : Plan) (o : Owner) where
+  row : (s d : ℕ) → d ≤ carriers (p .cell) → cnt (λ (k : ℕ). ownsAt w p o (placeNumber (p .cell) s k)) d ≡ sumTo d (λ k. one (owns w p o s k))
+  unfolding cnt sumTo
+  row s zero l = refl
+  row s (suc d) l = ap₂ _+_ (row s d (omega arith)) (as-one (ownsAt w p o (placeNumber (p .cell) s d)) ∙ ap one (owns-at w p o s d (omega arith)))
+
+  rows : (n : ℕ) → cnt (ownsAt w p o) (n * carriers (p .cell)) ≡ sumTo n (λ s. sumTo (carriers (p .cell)) (λ k. one (owns w p o s k)))
+  unfolding cnt sumTo
+  rows zero = ap (cnt (ownsAt w p o)) (zero-mul (carriers (p .cell)))
+  rows (suc n) =
+      ap (cnt (ownsAt w p o)) (suc-mul n (carriers (p .cell)))
+      ∙ cnt-add (ownsAt w p o) (n * carriers (p .cell)) (carriers (p .cell))
+      ∙ ap₂ _+_ (rows n) (row n (carriers (p .cell)) (omega arith))
+
+  pub count-is : countOf w p o ≡ elementsOf w p o
+  unfolding countOf elementsOf
+  count-is = rows (symbols (p .cell))
