@@ -16,13 +16,6 @@ use plan::Cell;
 use plan::Frame;
 use plan::Plan;
 
-// A symbol's number in its slot.
-fn in_slot(length: usize, s: usize) -> usize
-    ensures { λ r. ⌜ r ≡ inSlot length s ⌝ }
-{
-    if s < length { s } else { s - length }
-}
-
 fn smaller(a: usize, b: usize) -> usize
     ensures { λ r. ⌜ r ≡ min a b ⌝ }
 {
@@ -55,7 +48,7 @@ fn half_places(length: usize, ports: u8, l: usize) -> usize
 }
 
 // Whether symbol s has synchronisation marks or PBCH in its centre.
-fn taken(length: usize, subframe: u8, s: usize) -> bool
+pub fn taken(length: usize, subframe: u8, s: usize) -> bool
     requires { ⌜ (6 ≤ length) × (length ≤ 7) × (s < 14) ⌝ }
     ensures { λ r. ⌜ r ≡ takenAt length subframe s ⌝ }
 {
@@ -108,7 +101,7 @@ fn row_count(cell: Cell, frame: Frame, first: u8, count: u8, s: usize) -> usize
         return 0;
     }
     let length = slot_length(cell.prefix);
-    let each = half_places(length, cell.ports, in_slot(length, s));
+    let each = half_places(length, cell.ports, layout::in_slot(length, s));
     each * half_blocks(cell.blocks, first, count, taken(length, frame.subframe, s))
 }
 

@@ -69,7 +69,8 @@ pub fn slot_length(prefix: u8) -> usize
     if prefix == 1 { 6 } else { 7 }
 }
 
-fn in_slot(slot: usize, s: usize) -> usize
+// A symbol's number in its slot.
+pub fn in_slot(slot: usize, s: usize) -> usize
     ensures { λ r. ⌜ r ≡ inSlot slot s ⌝ }
 {
     if s < slot { s } else { s - slot }
@@ -132,7 +133,8 @@ fn in_middle(blocks: usize, d: usize, k: usize) -> bool
     }
 }
 
-fn is_marked(subframe: u8) -> bool
+// Whether the subframe has the synchronisation marks.
+pub fn is_marked(subframe: u8) -> bool
     ensures { λ r. ⌜ r ≡ marked subframe ⌝ }
 {
     if subframe == 0 {
@@ -350,7 +352,7 @@ fn in_grid(cell: Cell, s: usize, k: usize, port: usize) -> bool
 }
 
 // The refusal of a check that has no plan.
-fn refusal(a: Checked) -> Refusal
+pub fn refusal(a: Checked) -> Refusal
     ensures { λ r. ⌜ r ≡ refusalOf a ⌝ }
 {
     match a {

@@ -11,7 +11,7 @@ use Rattle.base.specs.declared.Pair.{Pair}
 use Rattle.base.specs.Signs.{turn}
 use Rattle.base.specs.Pairs.{nil, plus, turned}
 use Rattle.base.proofs.Pairs.{turned-turned, turned-nil}
-use Rattle.phich.specs.declared.Hi.{Hi}
+use Rattle.plan.specs.declared.Hi.{Hi}
 use Rattle.phich.specs.Spreading.{Length, signAt, plainChip, chipAt}
 use Rattle.phich.specs.Units.{unitOf, firstOf, has, chipNumber, partAt, addedAt, sumAt}
 use Rattle.phich.specs.Recovery.{dot, along}

@@ -12,7 +12,7 @@ use Rattle.base.specs.Signs.{below}
 use Rattle.base.specs.Pairs.{nil, plus, turned}
 use Rattle.base.specs.Tables.{table}
 use Rattle.base.proofs.Tables.{table-length, table-at, filled}
-use Rattle.phich.specs.declared.Hi.{Hi}
+use Rattle.plan.specs.declared.Hi.{Hi}
 use Rattle.phich.specs.Spreading.{Length}
 use Rattle.phich.specs.Units.{unitOf, firstOf, partAt, addedAt, sumAt, unitSums}
 use Rattle.phich.specs.Recovery.{dot, along, bitIn}

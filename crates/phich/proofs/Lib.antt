@@ -1,4 +1,3 @@
-pub mod His
 pub mod Correlation
 pub mod Lengths
 pub mod Parts

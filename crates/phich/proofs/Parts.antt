@@ -15,7 +15,7 @@ use Rattle.base.proofs.Computed.{every, every-at}
 use Rattle.base.proofs.Fits.{abs-add, abs-minus}
 use Rattle.base.proofs.Pairs.{turned-nil, turned-small}
 use Rattle.phich.specs.declared.SignPair.{SignPair}
-use Rattle.phich.specs.declared.Hi.{Hi}
+use Rattle.plan.specs.declared.Hi.{Hi}
 use Rattle.phich.specs.Spreading.{Length, «±0», normal, extended, sequences, signAt, plainChip, chipAt}
 use Rattle.phich.specs.Units.{firstOf, has, chipNumber, partAt}
 use Rattle.phich.proofs.Lengths.{chip-mod, place-mod}

@@ -9,7 +9,7 @@ use lib.IntN.{natAbs}
 use Rattle.base.specs.declared.Pair.{Pair}
 use Rattle.base.specs.Pairs.{nil, plus}
 use Rattle.base.proofs.Tables.{set-more, filled}
-use Rattle.phich.specs.declared.Hi.{Hi}
+use Rattle.plan.specs.declared.Hi.{Hi}
 use Rattle.phich.specs.Units.{partAt}
 use Rattle.phich.specs.Loops.{withHi, Room}
 use Rattle.phich.proofs.Parts.{part-small}

@@ -15,7 +15,7 @@ use Rattle.base.specs.declared.Pair.{Pair}
 use Rattle.base.specs.Signs.{below}
 use Rattle.base.specs.Pairs.{nil}
 use Rattle.base.proofs.Fits.{abs-add, fits-abs, below-yes, below-not}
-use Rattle.phich.specs.declared.Hi.{Hi}
+use Rattle.plan.specs.declared.Hi.{Hi}
 use Rattle.phich.specs.Units.{partAt}
 use Rattle.phich.specs.Recovery.{dot, total, along, bitIn}
 

@@ -9,7 +9,7 @@ use lib.ListN.{length}
 use lib.IntN.{ℤ, pos, _+ℤ_, +ℤ-idl, +ℤ-idr}
 use Rattle.base.specs.Signs.{turn, below}
 use Rattle.base.proofs.Signs.{turn-zero}
-use Rattle.phich.specs.declared.Hi.{Hi}
+use Rattle.plan.specs.declared.Hi.{Hi}
 use Rattle.phich.specs.His.{hiNumber, Fresh, Distinct}
 use Rattle.phich.specs.Spreading.{Length}
 use Rattle.phich.specs.Units.{unitOf, sumAt, Within}

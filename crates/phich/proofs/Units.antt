@@ -16,8 +16,9 @@ use Rattle.base.specs.Bits.{bitAt}
 use Rattle.base.specs.Tables.{table}
 use Rattle.base.proofs.Pairs.{plus-small}
 use Rattle.base.proofs.Tables.{table-at, table-same}
-use Rattle.phich.specs.declared.Hi.{Hi}
-use Rattle.phich.specs.His.{hisFrom, hiNumber, Distinct}
+use Rattle.plan.specs.declared.Hi.{Hi}
+use Rattle.plan.specs.Rows.{hisFrom}
+use Rattle.phich.specs.His.{hiNumber, Distinct}
 use Rattle.phich.specs.Spreading.{Length}
 use Rattle.phich.specs.Units.{unitOf, firstOf, partAt, addedAt, sumAt, unitSums, countIn, Within, Ready, SameBits}
 use Rattle.phich.specs.Recovery.{bitIn}
@@ -49,8 +50,8 @@ unfolding bitAt
 bit-le s n = omega arith
 
 -- ---- what a plan of distinct pairs gives
-pub ready : (l m : ℕ) (plan : List ℕ) (at count : ℕ) → Length l → at + 3 * count ≤ length plan → Within l (hisFrom (drop at plan) count) → Distinct (hisFrom (drop at plan) count) → Ready l m plan at count
-ready l m plan at count ok h w d = record { spread = ok; held = h; known = w; few = few l ok m (hisFrom (drop at plan) count) w d }
+pub ready : (l m : ℕ) (plan : List ℕ) (at count : ℕ) → Length l → Within l (hisFrom (drop at plan) count) → Distinct (hisFrom (drop at plan) count) → Ready l m plan at count
+ready l m plan at count ok w d = record { spread = ok; known = w; few = few l ok m (hisFrom (drop at plan) count) w d }
 
 -- ---- sizes: an HI adds at most 1 either way, and only to its unit
 module _ (l : ℕ) (c : ℕ → ℕ) (m : ℕ) (i : ℕ) where

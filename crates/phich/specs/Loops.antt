@@ -5,7 +5,7 @@ use lib.ListN.{getD}
 use Rattle.base.specs.declared.Pair.{Pair}
 use Rattle.base.specs.Pairs.{nil, plus, Small}
 use Rattle.base.specs.Tables.{table}
-use Rattle.phich.specs.declared.Hi.{Hi}
+use Rattle.plan.specs.declared.Hi.{Hi}
 use Rattle.phich.specs.Units.{partAt}
 
 -- twelve sums with the parts of one more HI

@@ -6,7 +6,7 @@ use lib.IntN.{ℤ, pos, _+ℤ_}
 use Rattle.base.specs.declared.Pair.{Pair}
 use Rattle.base.specs.Signs.{by, below}
 use Rattle.base.specs.Pairs.{nil}
-use Rattle.phich.specs.declared.Hi.{Hi}
+use Rattle.plan.specs.declared.Hi.{Hi}
 use Rattle.phich.specs.Units.{partAt}
 
 -- the product of two pairs as vectors, the first a pair of signs

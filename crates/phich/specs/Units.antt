@@ -8,8 +8,9 @@ use lib.Dec.{eqb, leb, ltb}
 use Rattle.base.specs.declared.Pair.{Pair}
 use Rattle.base.specs.Pairs.{nil, plus}
 use Rattle.base.specs.Tables.{table}
-use Rattle.phich.specs.declared.Hi.{Hi}
-use Rattle.phich.specs.His.{hisFrom, hiNumber}
+use Rattle.plan.specs.declared.Hi.{Hi}
+use Rattle.plan.specs.Rows.{hisFrom}
+use Rattle.phich.specs.His.{hiNumber}
 use Rattle.phich.specs.Spreading.{Length, chipAt}
 
 -- A group has l of the four places of each quad, and groups lie side by side: document 01's unit, "normal unit = group,
@@ -56,11 +57,10 @@ unfoldable pub Within : ℕ → List Hi → Type 0
 Within l [] = Unit {0}
 Within l (h ∷ hs) = (h .sequence < 2 * l) × Within l hs
 
--- what the sums of the unit m need: a length, `count` HIs at `at` of the plan, their sequences among those of the length,
+-- what the sums of the unit m need: a length, `count` HIs from position `at` of the plan on with sequences among those of the length,
 -- and at most eight of them in the unit
 pub record Ready (l m : ℕ) (plan : List ℕ) (at count : ℕ) : Type 0 where
   pub spread : Length l
-  pub held : at + 3 * count ≤ length plan
   pub known : Within l (hisFrom (drop at plan) count)
   pub few : countIn l m (hisFrom (drop at plan) count) ≤ 8
 

@@ -2,24 +2,21 @@
 // of the spreading sequences, 4 with the normal prefix and 2 with the extended one; the word w has the scrambling bits
 // c(0), .., c(11) as its twelve low bits, c(0) the most significant.
 use base::Pair;
+use plan::Hi;
+use plan::hi_at;
+use plan::next_at;
 ghost use mathlib.Core.Path.{_≡_};
 ghost use Prim.Native.Nat.{_+_, _*_, _≤_, _<_};
-ghost use lib.ListN.{length, drop};
+ghost use lib.ListN.{drop};
 ghost use lib.IntN.{natAbs};
 ghost use Rattle.base.specs.Signs.{by as bySign};
 ghost use Rattle.base.specs.Pairs.{plus as plusOf};
 ghost use Rattle.base.specs.Bits.{bitAt};
-ghost use Rattle.phich.specs.His.{hiOf, hisFrom};
+ghost use Rattle.plan.specs.Rows.{hisFrom};
 ghost use Rattle.phich.specs.Spreading.{Length, signAt, plainChip, wordBit};
 ghost use Rattle.phich.specs.Units.{unitOf, firstOf, partAt, unitSums, Ready};
 ghost use Rattle.phich.specs.Recovery.{dot as dotOf, bitIn};
 ghost use Rattle.phich.specs.Loops.{withHi, Room};
-
-// An acknowledgement's resource: a group, and a spreading sequence in it.
-pub struct Hi {
-    pub group: u8,
-    pub sequence: u8,
-}
 
 // An entry of a spreading sequence: re + j im, one of them 0 and the other 1 or -1.
 pub struct SignPair {
@@ -49,17 +46,6 @@ const NORMAL: [[SignPair; 4]; 8] = [
 ];
 
 const EXTENDED: [[SignPair; 2]; 4] = [[P, P], [P, M], [U, U], [U, D]];
-
-// The HI at a place of the plan, three bytes: its command, its group, its sequence. The plan check has found them there.
-pub fn hi_at(plan: &[u8], at: usize) -> Hi
-    requires { ⌜ at + 3 ≤ length (now plan) ⌝ }
-    ensures { λ r. ⌜ r ≡ hiOf (drop at (now (plan .entry))) ⌝ }
-{
-    Hi {
-        group: plan[at + 1],
-        sequence: plan[at + 2],
-    }
-}
 
 fn sign_at(l: usize, q: usize, t: usize) -> SignPair
     requires { ⌜ Length l × (q < 2 * l) × (t < l) ⌝ }
@@ -167,14 +153,16 @@ pub fn unit_sums(
     ensures { λ r. ⌜ r ≡ unitSums l (wordBit w) m (bitAt (now (bits .entry))) (hisFrom (drop at (now (plan .entry))) count) ⌝ }
 {
     let mut sums = [Pair { re: 0, im: 0 }; 12];
+    let mut from = at;
     let mut k: usize = 0;
     while k < count {
-        let h = hi_at(plan, at + 3 * k);
+        let h = hi_at(plan, from);
         if unit_of(l, h) == m {
             let b = base::bit_at(bits, k);
             let more = with_hi(sums, l, w, h, b);
             sums = more;
         }
+        from = next_at(plan, from);
         k += 1;
     }
     sums

@@ -1,12 +1,11 @@
 // Prints, for sets of HIs that a generator draws, the sums of units 0 and 1 and the bits that they give back, with both
 // prefixes.
 use base::Pair;
-use phich::Hi;
+use plan::Hi;
 ghost use mathlib.Core.Path.{_≡_};
 ghost use mathlib.Core.Bool.{true, cond};
-ghost use Prim.Native.Nat.{_*_, _≤_, _<_};
+ghost use Prim.Native.Nat.{_≤_, _<_};
 ghost use lib.Dec.{eqb};
-ghost use lib.ListN.{length};
 ghost use Rattle.phich.specs.Spreading.{Length};
 ghost use Rattle.phich.specs.Units.{Ready};
 
@@ -99,25 +98,27 @@ fn one_of(u: usize, m: usize) -> usize
 
 // Whether the HIs can be summed for the unit m: their sequences are of the length, and at most eight of them are the unit's.
 fn ready(l: usize, m: usize, plan: &[u8], count: usize) -> bool
-    requires { ⌜ Length l × (3 * count ≤ length (now plan)) ⌝ }
+    requires { ⌜ Length l ⌝ }
     ensures { λ r. ⌜ (r ≡ true → Ready l m (now (plan .entry)) 0 count) ⌝ }
 {
     let mut mine: usize = 0;
+    let mut from: usize = 0;
     let mut k: usize = 0;
     while k < count {
-        let h = phich::hi_at(plan, 3 * k);
+        let h = plan::hi_at(plan, from);
         let q = base::wide(h.sequence);
         if 2 * l <= q {
             return false;
         }
         mine += one_of(phich::unit_of(l, h), m);
+        from = plan::next_at(plan, from);
         k += 1;
     }
     mine <= 8
 }
 
 fn unit(l: usize, w: u32, m: usize, plan: &[u8], count: usize, bits: &[u8]) -> [Pair; 12]
-    requires { ⌜ Length l × (3 * count ≤ length (now plan)) ⌝ }
+    requires { ⌜ Length l ⌝ }
 {
     if ready(l, m, plan, count) {
         return phich::unit_sums(l, w, m, plan, 0, count, bits);
@@ -151,14 +152,16 @@ fn bit(a: [Pair; 12], b: [Pair; 12], l: usize, w: u32, h: Hi) -> u8
 }
 
 fn print_bits(a: [Pair; 12], b: [Pair; 12], l: usize, w: u32, plan: &[u8], count: usize)
-    requires { ⌜ Length l × (3 * count ≤ length (now plan)) ⌝ }
+    requires { ⌜ Length l ⌝ }
 {
     print::text(b"bits");
+    let mut from: usize = 0;
     let mut k: usize = 0;
     while k < count {
-        let h = phich::hi_at(plan, 3 * k);
+        let h = plan::hi_at(plan, from);
         print::space();
         print::digit(bit(a, b, l, w, h) as u32);
+        from = plan::next_at(plan, from);
         k += 1;
     }
     print::line();

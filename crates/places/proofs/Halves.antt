@@ -114,7 +114,7 @@ module _ (L C P s : ℕ) (long : 6 ≤ L) where
   unfolding shift
   last-turn = omega arith
 
-  first-at :
+  pub first-at :
       eqb l 0 || eqb (l + 3) L ≡ true → eqb l 1 ≡ false → (r : ℕ)
       → without L C P s r ≡ not (ltb 0 P && eqb (r % 6) (v 0) || ltb 1 P && eqb (r % 6) ((v 0 + 3) % 6))
   unfolding without crsAny crs crsOf crsSymbol standsAt
@@ -123,7 +123,7 @@ module _ (L C P s : ℕ) (long : 6 ≤ L) where
       (first-two (ltb 0 P) (ltb 1 P) (eqb (r % 6) (v 0)) (eqb (r % 6) (v 1)) (ltb 2 P) (ltb 3 P)
       ∙ ap (λ (x : ℕ). not (ltb 0 P && eqb (r % 6) (v 0) || ltb 1 P && eqb (r % 6) x)) first-turn)
 
-  last-at :
+  pub last-at :
       eqb l 0 || eqb (l + 3) L ≡ false → eqb l 1 ≡ true → (r : ℕ)
       → without L C P s r ≡ not (ltb 2 P && eqb (r % 6) (v 2) || ltb 3 P && eqb (r % 6) ((v 2 + 3) % 6))
   unfolding without crsAny crs crsOf crsSymbol standsAt
@@ -132,11 +132,11 @@ module _ (L C P s : ℕ) (long : 6 ≤ L) where
       (last-two (ltb 2 P) (ltb 3 P) (eqb (r % 6) (v 2)) (eqb (r % 6) (v 3)) (ltb 0 P) (ltb 1 P)
       ∙ ap (λ (x : ℕ). not (ltb 2 P && eqb (r % 6) (v 2) || ltb 3 P && eqb (r % 6) x)) last-turn)
 
-  none-at : eqb l 0 || eqb (l + 3) L ≡ false → eqb l 1 ≡ false → (r : ℕ) → without L C P s r ≡ true
+  pub none-at : eqb l 0 || eqb (l + 3) L ≡ false → eqb l 1 ≡ false → (r : ℕ) → without L C P s r ≡ true
   unfolding without crsAny crs crsOf crsSymbol standsAt
   none-at e d r = rw (e, d) (no-one (ltb 0 P) (ltb 1 P) (ltb 2 P) (ltb 3 P))
 
-  not-second : (eqb l 0 ≡ true) ⊎ (eqb (l + 3) L ≡ true) → eqb l 1 ≡ false
+  pub not-second : (eqb l 0 ≡ true) ⊎ (eqb (l + 3) L ≡ true) → eqb l 1 ≡ false
   not-second (inl e) = let z : l ≡ 0 = eqb-true l 0 e in ne-eqb l 1 (λ d. omega arith)
   not-second (inr e) = let z : l + 3 ≡ L = eqb-true (l + 3) L e in ne-eqb l 1 (λ d. omega arith)
 

@@ -89,7 +89,7 @@ module _ (w : List ℕ) (p : Plan) where
 
 -- ---- a channel of quads with the rule of its groups
 module _ (c : Cell) (n : ℕ) (group : ℕ → ℕ) (has : ℕ → Bool) (some : 0 < carriers c) (gs : Groups n (2 * c .blocks) group has) where
-  by-quads :
+  pub by-quads :
       (own : ℕ → Bool) → ((t : ℕ) → own t ≡ eqb (symbolOf c t) 0 && (keeps (c .identity % 3) (carrierOf c t) && has (carrierOf c t / 6)))
       → Listed own (placesOf c) (4 * n) (λ (j : ℕ). placeNumber c 0 (quadsPlace (c .identity) group j)) (λ (t : ℕ). quadsIndex (c .identity) n group (carrierOf c t))
   by-quads own same =

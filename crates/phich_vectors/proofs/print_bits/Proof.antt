@@ -5,10 +5,10 @@ use Rattle.phich_vectors.proofs.print_bits.Statement.{statement}
 use Rattle.phich_vectors.proofs.print_bits.Tie as tie
 
 abbrev Inv-loop : tie.InvT-loop
-Inv-loop a b l w plan count k₀ k = k ≤ count
+Inv-loop a b l w plan count from₀ k₀ from k = k ≤ count
 
 abbrev μ-loop : tie.MeasureT-loop
-μ-loop a b l w plan count k₀ k = count - k
+μ-loop a b l w plan count from₀ k₀ from k = count - k
 
 slice-aggregate-text : tie.Need-slice-aggregate-text Inv-loop μ-loop
 slice-aggregate-text c = search needs
@@ -18,9 +18,6 @@ text-requires c κs = search needs
 
 loop-holds : tie.Need-loop-holds Inv-loop μ-loop
 loop-holds c = search needs
-
-mul-hi-at : tie.Need-mul-hi-at Inv-loop μ-loop
-mul-hi-at c = search needs
 
 hi-at-requires : tie.Need-hi-at-requires Inv-loop μ-loop
 hi-at-requires c κs = search needs
@@ -36,6 +33,9 @@ cast-digit c = search needs
 
 digit-requires : tie.Need-digit-requires Inv-loop μ-loop
 digit-requires c κs = search needs
+
+next-at-requires : tie.Need-next-at-requires Inv-loop μ-loop
+next-at-requires c κs = search needs
 
 add-k : tie.Need-add-k Inv-loop μ-loop
 add-k c = search needs
@@ -61,12 +61,12 @@ print-bits-spec =
     slice-aggregate-text
     text-requires
     loop-holds
-    mul-hi-at
     hi-at-requires
     space-requires
     bit-requires
     cast-digit
     digit-requires
+    next-at-requires
     add-k
     loop-less
     loop-again

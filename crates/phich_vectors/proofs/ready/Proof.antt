@@ -5,38 +5,35 @@ use native.Mathlib.Omega.{arith}
 use mathlib.Core.Bool.{Bool, true, false, cond}
 use Prim.Native.Nat.{ℕ}
 use lib.Dec.{T, eqb}
-use Rattle.phich.specs.declared.Hi.{Hi}
+use Rattle.plan.specs.declared.Hi.{Hi}
 use Rattle.phich.specs.Units.{unitOf}
 use Rattle.phich_vectors.proofs.Seen.{Seen, start, one-small, next, finish}
 use Rattle.phich_vectors.proofs.ready.Statement.{statement}
 use Rattle.phich_vectors.proofs.ready.Tie as tie
 
 abbrev Inv-loop : tie.InvT-loop
-Inv-loop l m plan count mine₀ k₀ mine k = Seen l m plan count mine k
+Inv-loop l m plan count mine₀ from₀ k₀ mine from k = Seen l m plan count mine from k
 
 abbrev μ-loop : tie.MeasureT-loop
-μ-loop l m plan count mine₀ k₀ mine k = count - k
+μ-loop l m plan count mine₀ from₀ k₀ mine from k = count - k
 
 loop-holds : tie.Need-loop-holds Inv-loop μ-loop
 loop-holds c = start (c .before .args .l) (c .before .args .m) (c .before .args .plan .now) (c .before .args .count)
 
-mul-hi-at : tie.Need-mul-hi-at Inv-loop μ-loop
-mul-hi-at c = omega (arith, c .before .before .before .pre .1, c .loop-test .taken, c .before .before .before .good)
-
 hi-at-requires : tie.Need-hi-at-requires Inv-loop μ-loop
-hi-at-requires c κs = omega (arith, c .before .before .before .pre .1, c .loop-test .taken)
+hi-at-requires c κs = tt
 
 wide-requires : tie.Need-wide-requires Inv-loop μ-loop
 wide-requires c κs = tt
 
 mul-if1 : tie.Need-mul-if1 Inv-loop μ-loop
-mul-if1 c = omega (arith, c .before .before .before .before .before .pre .0)
+mul-if1 c = omega (arith, c .before .before .before .before .before .pre)
 
 returns : tie.Need-returns Inv-loop μ-loop
 returns c = λ e. absurd (subst (λ (b : Bool). T (cond b false true)) e tt)
 
 unit-of-requires : tie.Need-unit-of-requires Inv-loop μ-loop
-unit-of-requires c κs = c .before .before .before .before .before .before .pre .0 .1
+unit-of-requires c κs = c .before .before .before .before .before .before .pre .1
 
 one-of-requires : tie.Need-one-of-requires Inv-loop μ-loop
 one-of-requires c κs = tt
@@ -47,22 +44,25 @@ add-mine c =
     let u = one-small (eqb (c .before .unit-of .result) (s .args .m)) in
     omega (arith, c .before .before .before .before .before .before .loop .inv .small, c .before .before .before .before .before .loop-test .taken, s .fits .count, c .one-of .ensures, u)
 
+next-at-requires : tie.Need-next-at-requires Inv-loop μ-loop
+next-at-requires c κs = tt
+
 add-k : tie.Need-add-k Inv-loop μ-loop
-add-k c = omega (arith, c .before .before .before .before .before .loop-test .taken, c .before .before .before .before .before .before .before .before .fits .count)
+add-k c = omega (arith, c .before .before .before .before .before .before .loop-test .taken, c .before .before .before .before .before .before .before .before .before .fits .count)
 
 loop-less : tie.Need-loop-less Inv-loop μ-loop
-loop-less c = omega (arith, c .before .before .before .before .before .loop-test .taken)
+loop-less c = omega (arith, c .before .before .before .before .before .before .loop-test .taken)
 
 loop-again : tie.Need-loop-again Inv-loop μ-loop
 loop-again c =
-    let a = c .before .before .before .before .before .before .before .before .args in
-    let h = c .before .before .before .before .hi-at .ensures in
-    next (c .before .before .before .before .before .before .loop .inv) (c .before .before .before .before .before .loop-test .taken) (c .one-of .result)
-    (c .one-of .ensures ∙ ap (λ (u : ℕ). cond {A = ℕ} (eqb u (a .m)) 1 0) (c .before .unit-of .ensures ∙ ap (unitOf (a .l)) h))
-    (omega (arith, c .before .before .before .wide .ensures, ap (λ (g : Hi). g .sequence) h, c .before .before .if1 .left))
+    let a = c .before .before .before .before .before .before .before .before .before .args in
+    let h = c .before .before .before .before .before .hi-at .ensures in
+    rw (c .next-at .ensures) (next (c .before .before .before .before .before .before .before .loop .inv) (c .before .before .before .before .before .before .loop-test .taken) (c .before .one-of .result)
+    (c .before .one-of .ensures ∙ ap (λ (u : ℕ). cond {A = ℕ} (eqb u (a .m)) 1 0) (c .before .before .unit-of .ensures ∙ ap (unitOf (a .l)) h))
+    (omega (arith, c .before .before .before .before .wide .ensures, ap (λ (g : Hi). g .sequence) h, c .before .before .before .if1 .left)))
 
 returns-2 : tie.Need-returns-2 Inv-loop μ-loop
-returns-2 c = finish (c .before .loop .inv) (c .loop-test .left) (c .before .before .before .pre .0) (c .before .before .before .pre .1)
+returns-2 c = finish (c .before .loop .inv) (c .loop-test .left) (c .before .before .before .pre)
 
 pub ready-spec : {M : Type 1} → statement M
 ready-spec =
@@ -71,7 +71,6 @@ ready-spec =
     Inv-loop
     μ-loop
     loop-holds
-    mul-hi-at
     hi-at-requires
     wide-requires
     mul-if1
@@ -79,6 +78,7 @@ ready-spec =
     unit-of-requires
     one-of-requires
     add-mine
+    next-at-requires
     add-k
     loop-less
     loop-again
