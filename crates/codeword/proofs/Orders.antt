@@ -1,0 +1,32 @@
+-- Bits that are whole pairs of symbols, at each order. Assumes nothing.
+use mathlib.Core.Path.{_≡_, refl}
+use Prim.Native.Nat.{ℕ, zero, suc, _+_, _-_, _*_, _%_, _^_, _<_, _≤_}
+use native.Mathlib.Omega.{arith}
+use Rattle.modulation.specs.Symbols.{Order}
+
+by-order : (P : ℕ → Type 0) → P 2 → P 4 → P 6 → (q : ℕ) → Order q → P q
+by-order P a b c zero o = absurd (omega (arith, o))
+by-order P a b c (suc zero) o = absurd (omega (arith, o))
+by-order P a b c (suc (suc zero)) o = a
+by-order P a b c (suc (suc (suc zero))) o = absurd (omega (arith, o))
+by-order P a b c (suc (suc (suc (suc zero)))) o = b
+by-order P a b c (suc (suc (suc (suc (suc zero))))) o = absurd (omega (arith, o))
+by-order P a b c (suc (suc (suc (suc (suc (suc zero)))))) o = c
+by-order P a b c (suc (suc (suc (suc (suc (suc (suc q))))))) o = absurd (omega (arith, o))
+
+-- 24 bits are whole pairs of symbols
+pub all-whole : (q : ℕ) → Order q → 24 % (2 * q) ≡ 0
+all-whole = by-order (λ (q : ℕ). 24 % (2 * q) ≡ 0) refl refl refl
+
+-- so is what is left of whole pairs
+pub rest-whole : (q : ℕ) → Order q → (n : ℕ) → n % (2 * q) ≡ 0 → (n - 2 * q) % (2 * q) ≡ 0
+rest-whole = by-order (λ (q : ℕ). (n : ℕ) → n % (2 * q) ≡ 0 → (n - 2 * q) % (2 * q) ≡ 0) (λ n h. omega arith) (λ n h. omega arith) (λ n h. omega arith)
+
+-- and there is a pair where there is a bit
+pub one-pair : (q : ℕ) → Order q → (n : ℕ) → n % (2 * q) ≡ 0 → 0 < n → 2 * q ≤ n
+one-pair = by-order (λ (q : ℕ). (n : ℕ) → n % (2 * q) ≡ 0 → 0 < n → 2 * q ≤ n) (λ n h k. omega arith) (λ n h k. omega arith) (λ n h k. omega arith)
+
+-- the stream of any symbol below 200000 is early in the slice
+pub early-enough : (q : ℕ) → Order q → (i a n : ℕ) → i ≤ 100000 → n ≤ 24 → 8 * a ≡ 2 * q * i + n → a ≤ 2 ^ 32
+early-enough = by-order (λ (q : ℕ). (i a n : ℕ) → i ≤ 100000 → n ≤ 24 → 8 * a ≡ 2 * q * i + n → a ≤ 2 ^ 32)
+    (λ i a n h k e. omega arith) (λ i a n h k e. omega arith) (λ i a n h k e. omega arith)
