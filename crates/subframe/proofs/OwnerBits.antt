@@ -1,0 +1,122 @@
+-- An owner's bits by their number among them, how many PBCH and a user have, and the symbols that they make. Assumes nothing beyond the
+-- plan check's answer.
+use Prim.Native.Nat.{ℕ, suc, _+_, _*_, _/_, _%_, _<_, suc-le-suc}
+use mathlib.Core.Path.{_≡_, refl, sym, ap, _∙_}
+use mathlib.Core.Logic.{_↔_, inl, inr}
+use mathlib.Core.Bool.{Bool, true, false}
+use mathlib.Core.List.{List, [], _∷_}
+use native.Mathlib.Nat.{zero-lt-suc, mul-suc, mul-comm, mul-le-mul-left, div-add-mod, div-lt-iff-lt-mul, mod-lt}
+use native.Mathlib.Omega.{arith}
+use lib.Dec.{eqb}
+use lib.ListN.{length, getD}
+use Rattle.base.specs.Bits.{bitAt}
+use Rattle.base.proofs.Tables.{table-length}
+use Rattle.modulation.specs.Symbols.{Order}
+use Rattle.codeword.specs.Codewords.{dataSymbol}
+use Rattle.codeword.proofs.Laws.{symbols-same, symbol-bits}
+use Rattle.plan.specs.Lists.{Among, Every}
+use Rattle.plan.specs.Fields.{orders}
+use Rattle.plan.specs.Check.{checkOf}
+use Rattle.plan.specs.Rows.{usersOf}
+use Rattle.plan.specs.Valid.{UserIn}
+use Rattle.plan.specs.declared.Plan.{Plan}
+use Rattle.plan.specs.declared.Checked.the-variants.{Plan as accepted}
+use Rattle.plan.proofs.Listed.{every-at}
+use Rattle.plan.proofs.Valid.{valid}
+use Rattle.layout.specs.Choice.{if_then_else_}
+use Rattle.layout.specs.declared.Owner.{Owner}
+use Rattle.layout.specs.declared.Owner.the-variants.{Pbch, User as UserOf}
+use Rattle.counts.specs.Users.{userElements}
+use Rattle.counts.proofs.UserElements.{user-elements}
+use Rattle.places.specs.Places.{countOf}
+use Rattle.places.proofs.Elements.{count-is}
+use Rattle.payload.specs.Sections.{startOf, span, sectionBits}
+use Rattle.payload.specs.Payload.{pbchBits, userBits, heads, sections}
+use Rattle.payload.specs.Bits.{ownerBits}
+use Rattle.payload.proofs.Sections.{userStart, user-bits-at}
+use Rattle.subframe.specs.Elements.{ownerBit, userNumber}
+use Rattle.subframe.specs.TwoBuilds.{SameBits}
+use Rattle.subframe.proofs.Occurs.{pbch-places}
+
+-- ---- by their numbers
+pub at-every : {A : Type 0} (P : A → Type 0) (d : A) (xs : List A) → ((i : ℕ) → i < length xs → P (getD xs i d)) → Every P xs
+at-every P d [] h = tt
+at-every P d (a ∷ xs) h = (h 0 (zero-lt-suc (length xs)), at-every P d xs (λ i l. h (suc i) (suc-le-suc l)))
+
+module _ (w : List ℕ) (p : Plan) (o : Owner) where
+  pub bits-same :
+      (A B : List ℕ)
+      → SameBits w p o A B ↔ ((i : ℕ) → i < length (ownerBits w p o) → ownerBit w p A o i ≡ ownerBit w p B o i)
+  unfolding ownerBit
+  bits-same A B = (
+    (λ h i l. every-at (λ (b : ℕ). bitAt A b ≡ bitAt B b) 0 (ownerBits w p o) i h l),
+    (λ h. at-every (λ (b : ℕ). bitAt A b ≡ bitAt B b) 0 (ownerBits w p o) h),
+  )
+
+  pub bit-two : (payload : List ℕ) (i : ℕ) → ownerBit w p payload o i < 2
+  unfolding ownerBit bitAt
+  bit-two payload i = omega arith
+
+-- ---- Q bits to a symbol: Q × M bits and M symbols determine each other
+module _ (Q M : ℕ) (b b′ x : ℕ → ℕ) where
+  pub symbols-of-bits : ((n : ℕ) → n < Q * M → b n ≡ b′ n) → (j : ℕ) → j < M → dataSymbol Q b x j ≡ dataSymbol Q b′ x j
+  symbols-of-bits h j l = symbols-same Q b b′ x j (λ i k. h i (omega (arith, mul-suc Q j, mul-le-mul-left Q l)))
+
+  pub bits-of-symbols :
+      0 < Q → ((i : ℕ) → b i < 2) → ((i : ℕ) → b′ i < 2) → ((i : ℕ) → x i < 2)
+      → ((j : ℕ) → j < M → dataSymbol Q b x j ≡ dataSymbol Q b′ x j) → (n : ℕ) → n < Q * M → b n ≡ b′ n
+  bits-of-symbols some two two′ twox h n l =
+      let e : Q * (n / Q) + n % Q ≡ n = div-add-mod n Q in
+      let k : n / Q < M = div-lt-iff-lt-mul some .1 (omega (arith, mul-comm Q M)) in
+      ap b (sym e) ∙ symbol-bits Q b b′ x (n / Q) two two′ twox (h (n / Q) k) (n % Q) (mod-lt n some) ∙ ap b′ e
+
+-- ---- how many
+span-length : (a n : ℕ) → length (span a n) ≡ n
+unfolding span
+span-length a n = table-length n (λ (j : ℕ). a + j)
+
+pbch-twice : (a b : Bool) → (if a then (if b then 432 else 480) else 0) ≡ 2 * (if a then (if b then 216 else 240) else 0)
+pbch-twice true true = refl
+pbch-twice true false = refl
+pbch-twice false b = refl
+
+order-of : (q : ℕ) → Among q orders → Order q
+order-of q (inl e) = omega arith
+order-of q (inr (inl e)) = omega arith
+order-of q (inr (inr (inl e))) = omega arith
+order-of q (inr (inr (inr e))) = absurd e
+
+module _ (w : List ℕ) (p : Plan) where
+  pbch-span : ownerBits w p Pbch ≡ span (8 * startOf (sections w p) 0) (pbchBits (p .cell) (p .frame))
+  unfolding ownerBits sectionBits sections heads
+  pbch-span = refl
+
+module _ (w : List ℕ) (p : Plan) (ok : checkOf w ≡ accepted p) where
+  pub pbch-size : length (ownerBits w p Pbch) ≡ 2 * countOf w p Pbch
+  unfolding pbchBits
+  pbch-size =
+      ap length (pbch-span w p)
+      ∙ span-length (8 * startOf (sections w p) 0) (pbchBits (p .cell) (p .frame))
+      ∙ pbch-twice (eqb (p .frame .subframe) 0) (eqb (p .cell .prefix) 1)
+      ∙ ap (λ (n : ℕ). 2 * n) (sym (pbch-places w p ok))
+
+  module _ (i : ℕ) (l : i < length (usersOf w p)) where
+    pub user-order : Order (userNumber w p i .order)
+    unfolding userNumber
+    user-order = order-of (userNumber w p i .order) (every-at (UserIn (p .cell)) (record { rnti = 0; order = 0; first = 0; count = 0 }) (usersOf w p) i (valid w p ok .users) l .order)
+
+    -- a user has as many places as its count says
+    pub user-places : countOf w p (UserOf i) ≡ userElements (p .cell) (p .frame) (userNumber w p i .first) (userNumber w p i .count)
+    unfolding userNumber
+    user-places = count-is w p (UserOf i) ∙ user-elements w p ok (record { rnti = 0; order = 0; first = 0; count = 0 }) i l
+
+    user-span : ownerBits w p (UserOf i) ≡ span (8 * userStart w p i) (userBits (p .cell) (p .frame) (userNumber w p i))
+    unfolding userNumber
+    user-span = user-bits-at w p (record { rnti = 0; order = 0; first = 0; count = 0 }) i l
+
+    pub user-size : length (ownerBits w p (UserOf i)) ≡ userNumber w p i .order * countOf w p (UserOf i)
+    unfolding userBits
+    user-size =
+        ap length user-span
+        ∙ span-length (8 * userStart w p i) (userBits (p .cell) (p .frame) (userNumber w p i))
+        ∙ ap (λ (n : ℕ). userNumber w p i .order * n) (sym user-places)

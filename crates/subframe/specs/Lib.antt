@@ -1,0 +1,3 @@
+pub mod Elements
+pub mod Grid
+pub mod TwoBuilds

@@ -1,0 +1,1 @@
+// What a subframe sends: definitions and their laws. No code.
