@@ -1,0 +1,157 @@
+-- The loops of `fill_pcfich` and `put_unit`: after n pairs of places those of the indices below 2n are written. Assumes nothing.
+use Prim.Native.Nat.{ℕ, _+_, _*_, _/_, _%_, _≤_, _<_}
+use mathlib.Core.Path.{_≡_, refl, sym, ap, _∙_}
+use mathlib.Core.Bool.{Bool}
+use mathlib.Core.List.{List}
+use native.Mathlib.Omega.{arith}
+use lib.ListN.{getD}
+use Rattle.base.specs.declared.Pair.{Pair}
+use Rattle.base.specs.Pairs.{nil, Small}
+use Rattle.gold.specs.declared.Registers.{Registers}
+use Rattle.gold.specs.Sequence.{binary}
+use Rattle.gold.specs.Steps.{after}
+use Rattle.gold.proofs.Laws.{after-none, after-after}
+use Rattle.modulation.specs.Symbols.{symbolOf as symbolFor}
+use Rattle.modulation.proofs.Symbols.{order-small}
+use Rattle.codeword.specs.Codewords.{scrambled, dataSymbol, cfiBit}
+use Rattle.codeword.specs.Streams.{outputs}
+use Rattle.plan.specs.Fields.{unitsOf}
+use Rattle.plan.specs.declared.Cell.{Cell}
+use Rattle.layout.specs.Rules.{formatGroup, pcfich, phich}
+use Rattle.places.specs.Quads.{quadPlace, unitGroup}
+use Rattle.places.specs.Places.{symbolOf, carrierOf, placesOf}
+use Rattle.grid.specs.Writing.{Written}
+use Rattle.grid.proofs.Writing.{room-kept}
+use Rattle.control.specs.Control.{pcfichIndex, pcfichSends, pcfichSent, phichIndex, phichSends}
+use Rattle.control.specs.Filling.{PcfichIn, UnitIn, PairIn, PairWritten, unitSent}
+use Rattle.control.proofs.Filling as filling
+use Rattle.control.proofs.Filling.{upTo, valueBy}
+use Rattle.control.proofs.Listings.{place-at, some-places, pcfich-groups, pcfich-listed, phich-groups, phich-listed}
+use Rattle.control.proofs.Words.{first-symbol, second-symbol}
+
+small-symbol : (w : ℕ) → Small 127 (symbolFor 2 w)
+small-symbol w = let s = order-small 2 w (refl, omega arith, omega arith) in (omega (arith, s .0), omega (arith, s .1))
+
+-- ---- PCFICH
+abbrev pcfichHas : Cell → ℕ → Bool
+pcfichHas c t = pcfich (c .identity) (c .blocks) (symbolOf c t) (carrierOf c t)
+
+abbrev byTwo : ℕ → ℕ
+byTwo j = j / 2 % 2
+
+pub record FormatTurn (c : Cell) (cfi : ℕ) (r s : Registers) (n : ℕ) (g₀ g : List ℕ) : Type 0 where
+  pub most : n ≤ 8
+  pub pair : s ≡ after r (4 * n)
+  pub written :
+      Written (upTo (c .ports) (placesOf c) (pcfichHas c) (pcfichIndex c) byTwo (2 * n))
+      (valueBy (c .ports) (placesOf c) (pcfichIndex c) byTwo (dataSymbol 2 (cfiBit cfi) (outputs r))) g₀ g
+
+module _ (c : Cell) (cfi : ℕ) (r : Registers) (g₀ : List ℕ) (ok : PcfichIn c cfi g₀) where
+  pub format-start : FormatTurn c cfi r r 0 g₀ g₀
+  format-start =
+      record {
+        most = omega arith;
+        pair = sym (after-none r);
+        written = filling.start (c .ports) (placesOf c) byTwo (dataSymbol 2 (cfiBit cfi) (outputs r)) (some-places c (ok .cell)) (pcfich-listed c (ok .cell)) g₀;
+      }
+
+  module _ {s : Registers} {n : ℕ} {g : List ℕ} (t : FormatTurn c cfi r s n g₀ g) (in-n : n < 8) where
+    -- what `put_pair` requires
+    pub format-pair : {k : ℕ} {d e : Pair} (w : ℕ) → k ≡ formatGroup (c .identity) (c .blocks) (n / 2) → d ≡ symbolFor 2 (w / 4) → e ≡ symbolFor 2 (w % 4) → PairIn c k (n % 2) d e g
+    format-pair w q f h =
+        record {
+          cell = ok .cell;
+          group = omega (arith, q, pcfich-groups c (ok .cell) .small (n / 2) (omega arith));
+          half = omega arith;
+          first = rw f (small-symbol (w / 4));
+          second = rw h (small-symbol (w % 4));
+          room = room-kept (ok .room) (t .written);
+        }
+
+    -- and what it has done, with the pair four steps on
+    pub format-next :
+        {s′ : Registers} {k : ℕ} {d e : Pair} {g′ : List ℕ} (w : ℕ) → w ≡ binary (scrambled (cfiBit cfi) (outputs r)) (4 * n) 4
+        → k ≡ formatGroup (c .identity) (c .blocks) (n / 2) → d ≡ symbolFor 2 (w / 4) → e ≡ symbolFor 2 (w % 4)
+        → PairWritten (c .ports) (placesOf c) (n % 2) (quadPlace (c .identity) k (2 * (n % 2))) (quadPlace (c .identity) k (2 * (n % 2) + 1)) d e g g′
+        → s′ ≡ after s 4 → FormatTurn c cfi r s′ (n + 1) g₀ g′
+    format-next {d = d} {e = e} w x q f h p z =
+        let group : ℕ → ℕ = formatGroup (c .identity) (c .blocks) in
+        let C : ℕ = c .identity in
+        let i : ℕ = 2 * (n % 2) in
+        let one = place-at c group (2 * n) (n / 2) i (omega arith) (omega arith) ∙ ap (λ (y : ℕ). quadPlace C y i) (sym q) in
+        let two = place-at c group (2 * n + 1) (n / 2) (i + 1) (omega arith) (omega arith) ∙ ap (λ (y : ℕ). quadPlace C y (i + 1)) (sym q) in
+        let sum : 4 * n + 4 ≡ 4 * (n + 1) = omega arith in
+        record {
+          most = omega arith;
+          pair = z ∙ ap (λ (y : Registers). after y 4) (t .pair) ∙ after-after r (4 * n) 4 ∙ ap (after r) sum;
+          written =
+              filling.pair-more (c .ports) (placesOf c) byTwo (dataSymbol 2 (cfiBit cfi) (outputs r)) (some-places c (ok .cell)) (pcfich-listed c (ok .cell)) n (n % 2) _ _ d e (omega arith) (omega arith) (omega arith) one two
+              (f ∙ first-symbol (cfiBit cfi) (outputs r) n w x) (h ∙ second-symbol (cfiBit cfi) (outputs r) n w x) (t .written) p;
+        }
+
+  pub format-finish : {s : Registers} {n : ℕ} {g : List ℕ} → FormatTurn c cfi r s n g₀ g → 8 ≤ n → Written (pcfichSends c) (pcfichSent c cfi r) g₀ g × ((k : ℕ) × (s ≡ after r k))
+  unfolding pcfichSends pcfichSent
+  format-finish {n = n} t last =
+      let e : 2 * n ≡ 16 = omega (arith, t .most, last) in
+      (filling.finish (c .ports) (placesOf c) byTwo (dataSymbol 2 (cfiBit cfi) (outputs r)) (some-places c (ok .cell)) (pcfich-listed c (ok .cell)) (rw e at (t .written)), (4 * n, t .pair))
+
+-- ---- a PHICH unit
+abbrev phichHas : Cell → ℕ → ℕ → Bool
+phichHas c m t = phich (c .identity) (c .blocks) (unitsOf c) m (symbolOf c t) (carrierOf c t)
+
+abbrev byQuad : ℕ → ℕ → ℕ
+byQuad m j = (j / 4 + m) % 2
+
+pub record UnitTurn (c : Cell) (m : ℕ) (sums : List Pair) (n : ℕ) (g₀ g : List ℕ) : Type 0 where
+  pub most : n ≤ 6
+  pub written :
+      Written (upTo (c .ports) (placesOf c) (phichHas c m) (phichIndex c m) (byQuad m) (2 * n))
+      (valueBy (c .ports) (placesOf c) (phichIndex c m) (byQuad m) (λ (i : ℕ). getD sums i nil)) g₀ g
+
+module _ (c : Cell) (m : ℕ) (sums : List Pair) (g₀ : List ℕ) (ok : UnitIn c m sums g₀) where
+  pub unit-start : UnitTurn c m sums 0 g₀ g₀
+  unit-start =
+      record {
+        most = omega arith;
+        written = filling.start (c .ports) (placesOf c) (byQuad m) (λ (i : ℕ). getD sums i nil) (some-places c (ok .cell)) (phich-listed c (ok .cell) m (ok .unit)) g₀;
+      }
+
+  small-sum : (i : ℕ) → i < 12 → Small 127 (getD sums i nil)
+  small-sum i l = let s = ok .small i l in (omega (arith, s .0), omega (arith, s .1))
+
+  module _ {n : ℕ} {g : List ℕ} (t : UnitTurn c m sums n g₀ g) (in-n : n < 6) where
+    pub unit-pair : {k : ℕ} → k ≡ unitGroup (c .identity) (c .blocks) m (n / 2) → PairIn c k (n % 2) (getD sums (2 * n) nil) (getD sums (2 * n + 1) nil) g
+    unit-pair q =
+        record {
+          cell = ok .cell;
+          group = omega (arith, q, phich-groups c (ok .cell) m (ok .unit) .small (n / 2) (omega arith));
+          half = omega arith;
+          first = small-sum (2 * n) (omega arith);
+          second = small-sum (2 * n + 1) (omega arith);
+          room = room-kept (ok .room) (t .written);
+        }
+
+    pub unit-next :
+        {k : ℕ} {g′ : List ℕ} → k ≡ unitGroup (c .identity) (c .blocks) m (n / 2)
+        → PairWritten (c .ports) (placesOf c) ((n / 2 + m) % 2) (quadPlace (c .identity) k (2 * (n % 2))) (quadPlace (c .identity) k (2 * (n % 2) + 1)) (getD sums (2 * n) nil) (getD sums (2 * n + 1) nil) g g′
+        → UnitTurn c m sums (n + 1) g₀ g′
+    unit-next q p =
+        let group : ℕ → ℕ = unitGroup (c .identity) (c .blocks) m in
+        let C : ℕ = c .identity in
+        let i : ℕ = 2 * (n % 2) in
+        let one = place-at c group (2 * n) (n / 2) i (omega arith) (omega arith) ∙ ap (λ (y : ℕ). quadPlace C y i) (sym q) in
+        let two = place-at c group (2 * n + 1) (n / 2) (i + 1) (omega arith) (omega arith) ∙ ap (λ (y : ℕ). quadPlace C y (i + 1)) (sym q) in
+        let u : 2 * n / 4 ≡ n / 2 = omega arith in
+        let v : (2 * n + 1) / 4 ≡ n / 2 = omega arith in
+        record {
+          most = omega arith;
+          written =
+              filling.pair-more (c .ports) (placesOf c) (byQuad m) (λ (i : ℕ). getD sums i nil) (some-places c (ok .cell)) (phich-listed c (ok .cell) m (ok .unit)) n ((n / 2 + m) % 2) _ _
+              (getD sums (2 * n) nil) (getD sums (2 * n + 1) nil) (omega arith) (ap (λ (y : ℕ). (y + m) % 2) u) (ap (λ (y : ℕ). (y + m) % 2) v) one two refl refl (t .written) p;
+        }
+
+  pub unit-finish : {n : ℕ} {g : List ℕ} → UnitTurn c m sums n g₀ g → 6 ≤ n → Written (phichSends c m) (unitSent c m sums) g₀ g
+  unfolding phichSends unitSent
+  unit-finish {n = n} t last =
+      let e : 2 * n ≡ 12 = omega (arith, t .most, last) in
+      filling.finish (c .ports) (placesOf c) (byQuad m) (λ (i : ℕ). getD sums i nil) (some-places c (ok .cell)) (phich-listed c (ok .cell) m (ok .unit)) (rw e at (t .written))

@@ -1,0 +1,42 @@
+-- `control::fill_phich` meets its contract: the sums by the word's bits are those by the pair's. Assumes nothing.
+use Rattle.control.proofs.Sums.{sums-ready, unit-ready, unit-done}
+use borrow.Author.Needs.{needs}
+use Rattle.control.proofs.fill_phich.Statement.{statement}
+use Rattle.control.proofs.fill_phich.Tie as tie
+
+word-requires : tie.Need-word-requires
+word-requires c κs = search needs
+
+spread-length-requires : tie.Need-spread-length-requires
+spread-length-requires c κs = search needs
+
+unit-sums-requires : tie.Need-unit-sums-requires
+unit-sums-requires c κs = sums-ready (c .before .before .before .before .before .pre) (c .spread-length .ensures)
+
+put-unit-requires : tie.Need-put-unit-requires
+put-unit-requires c κs =
+    let s = c .before .before .before .before .before .before .before in
+    unit-ready (s .pre) (c .before .before .spread-length .ensures) (c .before .before .before .word .result) (s .args .bits .now) (c .before .unit-sums .ensures)
+
+advance-requires : tie.Need-advance-requires
+advance-requires c κs = search needs
+
+same-length : tie.Need-same-length
+same-length c = search needs
+
+returns : tie.Need-returns
+returns c =
+    let s = c .before .before .before .before .before .before .before .before .before .before .before in
+    (unit-done (s .pre) (c .before .before .before .before .before .before .spread-length .ensures) (c .before .before .before .before .before .before .before .word .result) (s .args .bits .now) (c .before .before .before .before .before .unit-sums .ensures) (s .args .r) (c .before .before .before .before .before .before .before .word .ensures) (c .before .before .before .put-unit .ensures), (12, c .advance .ensures))
+
+pub fill-phich-spec : {M : Type 1} → statement M
+fill-phich-spec =
+    tie.close
+    (tie.spec
+    word-requires
+    spread-length-requires
+    unit-sums-requires
+    put-unit-requires
+    advance-requires
+    same-length
+    returns)

@@ -1,0 +1,56 @@
+-- For the inner contracts and loops only: the elements that PCFICH and the PHICH units write. T is the number of places on a port, an
+-- element's number is port × T + place.
+use Prim.Native.Nat.{ℕ, _+_, _*_, _/_, _%_}
+use mathlib.Core.Bool.{Bool, _&&_}
+use mathlib.Core.List.{List}
+use lib.ListN.{getD}
+use Rattle.base.specs.declared.Pair.{Pair}
+use Rattle.base.specs.declared.Element.{Element}
+use Rattle.base.specs.Bits.{bitAt}
+use Rattle.base.specs.Pairs.{nil}
+use Rattle.gold.specs.declared.Registers.{Registers}
+use Rattle.codeword.specs.Codewords.{dataSymbol, cfiBit}
+use Rattle.codeword.specs.Streams.{outputs}
+use Rattle.precoding.specs.Places.{placed}
+use Rattle.phich.specs.Units.{unitSums}
+use Rattle.plan.specs.Fields.{unitsOf}
+use Rattle.plan.specs.declared.Cell.{Cell}
+use Rattle.plan.specs.declared.Hi.{Hi}
+use Rattle.layout.specs.Rules.{pcfich, phich, formatGroup}
+use Rattle.places.specs.Places.{symbolOf, carrierOf, placesOf}
+use Rattle.places.specs.Quads.{unitGroup, quadsIndex}
+use Rattle.grid.specs.Writing.{sends}
+use Rattle.subframe.specs.Elements.{spreadLength}
+
+-- which of PCFICH's places t is, and which of unit m's
+unfoldable pub pcfichIndex : Cell → ℕ → ℕ
+pcfichIndex c t = quadsIndex (c .identity) 4 (formatGroup (c .identity) (c .blocks)) (carrierOf c t)
+
+unfoldable pub phichIndex : Cell → ℕ → ℕ → ℕ
+phichIndex c m t = quadsIndex (c .identity) 3 (unitGroup (c .identity) (c .blocks) m) (carrierOf c t)
+
+-- the elements that PCFICH sends: those of its places, on the ports with a term
+unfoldable pub pcfichSends : Cell → ℕ → Bool
+pcfichSends c e =
+    let t = e % placesOf c in
+    pcfich (c .identity) (c .blocks) (symbolOf c t) (carrierOf c t) && sends (c .ports) (pcfichIndex c t / 2 % 2) (e / placesOf c)
+
+unfoldable pub pcfichSent : Cell → ℕ → Registers → ℕ → Element
+pcfichSent c cfi r e =
+    let j = pcfichIndex c (e % placesOf c) in
+    placed (c .ports) (j / 2 % 2) 2 (dataSymbol 2 (cfiBit cfi) (outputs r)) j (e / placesOf c)
+
+-- those of unit m: quad i uses one pair of ports or the other by i + m
+unfoldable pub phichSends : Cell → ℕ → ℕ → Bool
+phichSends c m e =
+    let t = e % placesOf c in
+    phich (c .identity) (c .blocks) (unitsOf c) m (symbolOf c t) (carrierOf c t) && sends (c .ports) ((phichIndex c m t / 4 + m) % 2) (e / placesOf c)
+
+-- the sums of the unit over the HIs hs, whose bits are those of a slice
+unfoldable pub sumsFrom : Cell → ℕ → Registers → List Hi → List ℕ → ℕ → Pair
+sumsFrom c m r hs bits i = getD (unitSums (spreadLength c) (outputs r) m (bitAt bits) hs) i nil
+
+unfoldable pub phichSent : Cell → ℕ → Registers → List Hi → List ℕ → ℕ → Element
+phichSent c m r hs bits e =
+    let j = phichIndex c m (e % placesOf c) in
+    placed (c .ports) ((j / 4 + m) % 2) 2 (sumsFrom c m r hs bits) j (e / placesOf c)

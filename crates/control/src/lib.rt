@@ -1,0 +1,126 @@
+// PCFICH and the PHICH units in a grid (TS 36.211 6.7, 6.9): both fill the places of their quads in symbol 0, two places at a time.
+use base::Pair;
+use gold::Registers;
+use plan::Cell;
+use plan::Row;
+ghost use mathlib.Core.Path.{_≡_};
+ghost use Prim.Native.Nat.{ℕ, _+_, _*_, _≤_, _<_};
+ghost use lib.ListN.{drop};
+ghost use Rattle.gold.specs.Sequence.{binary};
+ghost use Rattle.gold.specs.Steps.{after};
+ghost use Rattle.codeword.specs.Codewords.{cfiBit};
+ghost use Rattle.plan.specs.Rows.{hisFrom};
+ghost use Rattle.places.specs.Places.{placesOf};
+ghost use Rattle.places.specs.Quads.{quadPlace};
+ghost use Rattle.grid.specs.Writing.{Written};
+ghost use Rattle.subframe.specs.Elements.{spreadLength};
+ghost use Rattle.control.specs.Control.{pcfichSends, pcfichSent, phichSends, phichSent};
+ghost use Rattle.control.specs.Filling.{PcfichIn, PhichIn, UnitIn, PairIn, PairWritten, unitSent};
+
+// TS 36.212 table 5.3.4-1: the codewords of CFI 1, 2 and 3 repeat these bits.
+const CODEWORDS: [[u32; 3]; 3] = [[0, 1, 1], [1, 0, 1], [1, 1, 0]];
+
+// Bit i of the CFI's codeword.
+fn cfi_bit(cfi: u8, i: usize) -> u32
+    requires { ⌜ (1 ≤ cfi) × (cfi ≤ 3) ⌝ }
+    ensures { λ r. ⌜ (r ≡ cfiBit cfi i) × (r < 2) ⌝ }
+{
+    let row = base::wide(cfi) - 1;
+    let at = i % 3;
+    CODEWORDS[row][at]
+}
+
+// Its four bits from bit i on.
+fn cfi_word(cfi: u8, i: usize) -> u32
+    requires { ⌜ (1 ≤ cfi) × (cfi ≤ 3) × (i < 32) ⌝ }
+    ensures { λ r. ⌜ r ≡ binary (cfiBit cfi) i 4 ⌝ }
+{
+    let a = cfi_bit(cfi, i);
+    let b = cfi_bit(cfi, i + 1);
+    let c = cfi_bit(cfi, i + 2);
+    let d = cfi_bit(cfi, i + 3);
+    ((a * 2 + b) * 2 + c) * 2 + d
+}
+
+// The number of places on a port.
+fn places_of(cell: Cell) -> usize
+    ensures { λ r. ⌜ r ≡ placesOf cell ⌝ }
+{
+    2 * layout::slot_length(cell.prefix) * (12 * base::wide(cell.blocks))
+}
+
+// Two symbols at places 2i and 2i + 1 of group g, each beside the other. Callers take the group from the quads of a cell that the
+// plan check accepted, and have compared the grid's length.
+fn put_pair(cell: Cell, g: usize, i: usize, turn: u8, d: Pair, e: Pair, grid: &mut [u8])
+    requires { ⌜ PairIn cell g i d e (now grid) ⌝ }
+    ensures { λ _. ⌜ PairWritten (cell .ports) (placesOf cell) turn (quadPlace (cell .identity) g (2 * i)) (quadPlace (cell .identity) g (2 * i + 1)) d e (now (grid .entry)) (now (grid .exit)) ⌝ }
+{
+    let places = places_of(cell);
+    let a = places::quad_place(cell, g, 2 * i);
+    grid::put_place(grid, cell.ports, places, a, turn, 2, 0, d, e);
+    let b = places::quad_place(cell, g, 2 * i + 1);
+    grid::put_place(grid, cell.ports, places, b, turn, 2, 1, e, d);
+}
+
+// PCFICH: the CFI's codeword, scrambled by the pair r. Callers pass a cell, a CFI and a grid of an accepted plan.
+pub fn fill_pcfich(r: Registers, cell: Cell, cfi: u8, grid: &mut [u8]) -> Registers
+    requires { ⌜ PcfichIn cell cfi (now grid) ⌝ }
+    ensures { λ s. ⌜ Written (pcfichSends cell) (pcfichSent cell cfi r) (now (grid .entry)) (now (grid .exit)) × ((n : ℕ) × (s ≡ after r n)) ⌝ }
+{
+    let mut s = r;
+    let mut n: usize = 0;
+    while n < 8 {
+        let w = cfi_word(cfi, 4 * n) ^ gold::word(s, 4);
+        let d = modulation::symbol(2, w / 4);
+        let e = modulation::symbol(2, w % 4);
+        let g = places::format_group(cell, n / 2);
+        put_pair(cell, g, n % 2, (n % 2) as u8, d, e, grid);
+        s = gold::advance(s, 4);
+        n += 1;
+    }
+    s
+}
+
+// The length of the spreading sequences.
+fn spread_length(cell: Cell) -> usize
+    ensures { λ r. ⌜ r ≡ spreadLength cell ⌝ }
+{
+    if cell.prefix == 1 { 2 } else { 4 }
+}
+
+// The twelve sums of unit m at its places.
+fn put_unit(cell: Cell, m: usize, sums: [Pair; 12], grid: &mut [u8])
+    requires { ⌜ UnitIn cell m sums (now grid) ⌝ }
+    ensures { λ _. ⌜ Written (phichSends cell m) (unitSent cell m sums) (now (grid .entry)) (now (grid .exit)) ⌝ }
+{
+    let mut n: usize = 0;
+    while n < 6 {
+        let j = 2 * n;
+        let k = 2 * n + 1;
+        let d = sums[j];
+        let e = sums[k];
+        let g = places::unit_group(cell, m, n / 2);
+        put_pair(cell, g, n % 2, ((n / 2 + m) % 2) as u8, d, e, grid);
+        n += 1;
+    }
+}
+
+// Unit m of the PHICH: the sums over the HIs of the plan, scrambled by the pair r; bit k of `bits` is that of HI k. Callers pass the
+// cell, the HIs and a grid of an accepted plan.
+pub fn fill_phich(
+    r: Registers,
+    cell: Cell,
+    m: usize,
+    his: Row,
+    plan: &[u8],
+    bits: &[u8],
+    grid: &mut [u8],
+) -> Registers
+    requires { ⌜ PhichIn cell m his (now plan) (now grid) ⌝ }
+    ensures { λ s. ⌜ Written (phichSends cell m) (phichSent cell m r (hisFrom (drop (his .at) (now (plan .entry))) (his .count)) (now (bits .entry))) (now (grid .entry)) (now (grid .exit)) × ((n : ℕ) × (s ≡ after r n)) ⌝ }
+{
+    let w = gold::word(r, 12);
+    let sums = phich::unit_sums(spread_length(cell), w, m, plan, his.at, his.count, bits);
+    put_unit(cell, m, sums, grid);
+    gold::advance(r, 12)
+}

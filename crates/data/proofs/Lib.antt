@@ -1,0 +1,9 @@
+-- Laws that the proofs cite. For the crates above: AreaOwners (an area's places and indices are its owner's, and it lies in the grid).
+-- AreaPlaces: an area by rows and half blocks; Masks: six subcarriers as bits; Walking, Placing, Rows: the walk through the places.
+mod AreaPlaces
+pub mod AreaOwners
+mod Made
+mod Masks
+mod Walking
+mod Placing
+mod Rows

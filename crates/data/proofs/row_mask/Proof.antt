@@ -1,0 +1,65 @@
+-- The free subcarriers of six in a symbol: one law for each return.
+use native.Mathlib.Omega.{arith}
+use mathlib.Core.Path.{sym, subst, _∙_}
+use Rattle.data.specs.Rows.{Masks}
+use Rattle.data.proofs.Masks.{slot-in, mask-first, mask-third, mask-second, mask-other, mask-none}
+use borrow.Author.Needs.{needs}
+use Rattle.data.proofs.row_mask.Statement.{statement}
+use Rattle.data.proofs.row_mask.Tie as tie
+
+in-slot-requires : tie.Need-in-slot-requires
+in-slot-requires c κs = search needs
+
+mask-but-requires : tie.Need-mask-but-requires
+mask-but-requires c κs = search needs
+
+returns : tie.Need-returns
+returns c = subst (Masks (c .before .before .before .args .slot) (c .before .before .before .args .identity) (c .before .before .before .args .signals) (c .before .before .before .args .s)) (sym (c .mask-but .ensures)) (mask-first (c .before .before .before .args .slot) (c .before .before .before .args .identity) (c .before .before .before .args .signals) (c .before .before .before .args .s) (c .before .before .before .pre .0) (sym (c .before .before .in-slot .ensures) ∙ c .before .if1 .taken))
+
+add-if2 : tie.Need-add-if2
+add-if2 c = omega (arith, c .before .in-slot .ensures, slot-in (c .before .before .args .slot) (c .before .before .args .s))
+
+add-mask-but : tie.Need-add-mask-but
+add-mask-but c = search needs
+
+mask-but-requires-2 : tie.Need-mask-but-requires-2
+mask-but-requires-2 c κs = search needs
+
+returns-2 : tie.Need-returns-2
+returns-2 c = subst (Masks (c .before .before .before .before .args .slot) (c .before .before .before .before .args .identity) (c .before .before .before .before .args .signals) (c .before .before .before .before .args .s)) (sym (c .mask-but2 .ensures)) (mask-third (c .before .before .before .before .args .slot) (c .before .before .before .before .args .identity) (c .before .before .before .before .args .signals) (c .before .before .before .before .args .s) (c .before .before .before .before .pre .0) (λ e. c .before .before .if1 .left (c .before .before .before .in-slot .ensures ∙ e)) (omega (arith, c .before .before .before .in-slot .ensures, c .before .if2 .taken)))
+
+mask-but-requires-3 : tie.Need-mask-but-requires-3
+mask-but-requires-3 c κs = search needs
+
+returns-3 : tie.Need-returns-3
+returns-3 c = subst (Masks (c .before .before .before .before .before .before .args .slot) (c .before .before .before .before .before .before .args .identity) (c .before .before .before .before .before .before .args .signals) (c .before .before .before .before .before .before .args .s)) (sym (c .mask-but3 .ensures)) (mask-second (c .before .before .before .before .before .before .args .slot) (c .before .before .before .before .before .before .args .identity) (c .before .before .before .before .before .before .args .signals) (c .before .before .before .before .before .before .args .s) (c .before .before .before .before .before .before .pre .0) (λ e. c .before .before .before .before .if1 .left (c .before .before .before .before .before .in-slot .ensures ∙ e)) (λ e. c .before .before .before .if2 .left (omega (arith, c .before .before .before .before .before .in-slot .ensures))) (sym (c .before .before .before .before .before .in-slot .ensures) ∙ c .before .before .if3 .taken) (c .before .if4 .taken))
+
+add-mask-but-2 : tie.Need-add-mask-but-2
+add-mask-but-2 c = search needs
+
+mask-but-requires-4 : tie.Need-mask-but-requires-4
+mask-but-requires-4 c κs = search needs
+
+returns-4 : tie.Need-returns-4
+returns-4 c = subst (Masks (c .before .before .before .before .before .before .args .slot) (c .before .before .before .before .before .before .args .identity) (c .before .before .before .before .before .before .args .signals) (c .before .before .before .before .before .before .args .s)) (sym (c .mask-but4 .ensures)) (mask-other (c .before .before .before .before .before .before .args .slot) (c .before .before .before .before .before .before .args .identity) (c .before .before .before .before .before .before .args .signals) (c .before .before .before .before .before .before .args .s) (c .before .before .before .before .before .before .pre .0) (λ e. c .before .before .before .before .if1 .left (c .before .before .before .before .before .in-slot .ensures ∙ e)) (λ e. c .before .before .before .if2 .left (omega (arith, c .before .before .before .before .before .in-slot .ensures))) (sym (c .before .before .before .before .before .in-slot .ensures) ∙ c .before .before .if3 .taken) (c .before .if4 .left))
+
+returns-5 : tie.Need-returns-5
+returns-5 c = mask-none (c .before .before .before .before .args .slot) (c .before .before .before .before .args .identity) (c .before .before .before .before .args .signals) (c .before .before .before .before .args .s) (c .before .before .before .before .pre .0) (λ e. c .before .before .if1 .left (c .before .before .before .in-slot .ensures ∙ e)) (λ e. c .before .if2 .left (omega (arith, c .before .before .before .in-slot .ensures))) (λ e. c .if3 .left (c .before .before .before .in-slot .ensures ∙ e))
+
+pub row-mask-spec : {M : Type 1} → statement M
+row-mask-spec =
+    tie.close
+    (tie.spec
+    in-slot-requires
+    mask-but-requires
+    returns
+    add-if2
+    add-mask-but
+    mask-but-requires-2
+    returns-2
+    mask-but-requires-3
+    returns-3
+    add-mask-but-2
+    mask-but-requires-4
+    returns-4
+    returns-5)

@@ -1,0 +1,24 @@
+-- `signals::fill_sss` meets its contract: the 62 elements are those of the mark. Assumes nothing.
+use native.Mathlib.Omega.{arith}
+use Rattle.signals.proofs.Numbers.{mark-inside, sss-done}
+use Rattle.signals.proofs.fill_sss.Statement.{statement}
+use Rattle.signals.proofs.fill_sss.Tie as tie
+
+sss-for-requires : tie.Need-sss-for-requires
+sss-for-requires c κs = tt
+
+mark-at-requires : tie.Need-mark-at-requires
+mark-at-requires c κs = (c .before .before .pre .cell, omega arith)
+
+fill-levels-requires : tie.Need-fill-levels-requires
+fill-levels-requires c κs = mark-inside (c .before .before .before .before .args .cell) (c .before .before .before .before .pre .cell) 2 _ (omega arith, omega arith) (c .before .mark-at .ensures) (c .before .before .before .before .pre)
+
+same-length : tie.Need-same-length
+same-length c = c .before .before .fill-levels .ensures .size
+
+returns : tie.Need-returns
+returns c = sss-done (c .before .before .before .before .before .before .before .args .cell) (c .before .before .before .before .before .before .before .pre .cell) 2 _ (omega arith, omega arith) (c .before .before .before .before .mark-at .ensures) (c .before .before .before .before .before .before .before .args .frame) _ (c .before .before .before .before .before .sss-for .ensures) (c .before .before .fill-levels .ensures)
+
+pub fill-sss-spec : {M : Type 1} → statement M
+fill-sss-spec =
+    tie.close (tie.spec sss-for-requires mark-at-requires fill-levels-requires same-length returns)

@@ -1,0 +1,56 @@
+-- For the inner contracts and loops only: what filling a signal needs, and its elements by their numbers, from the first one on.
+use Prim.Native.Nat.{ℕ, _+_, _-_, _*_, _/_, _%_, _^_, _<_}
+use mathlib.Core.Bool.{Bool, _&&_}
+use mathlib.Core.List.{List}
+use lib.Dec.{leb, ltb, eqb}
+use lib.IntN.{pos}
+use Rattle.base.specs.declared.Element.{Element}
+use Rattle.base.specs.Bytes.{elementOf}
+use Rattle.gold.specs.declared.Registers.{Registers}
+use Rattle.crs.specs.Crs.{valueOf}
+use Rattle.sync.specs.declared.Sss.{Sss}
+use Rattle.sync.specs.Pss.{pssPhase}
+use Rattle.sync.specs.Sss.{levelIn}
+use Rattle.plan.specs.Valid.{CellIn}
+use Rattle.plan.specs.declared.Cell.{Cell}
+use Rattle.layout.specs.Owners.{symbols}
+use Rattle.places.specs.Places.{placesOf}
+use Rattle.grid.specs.Writing.{Room}
+use Rattle.signals.specs.Signals.{crsFrom}
+
+-- an accepted cell and its whole grid
+pub record MarkIn (c : Cell) (grid : List ℕ) : Type 0 where
+  pub cell : CellIn c
+  pub room : Room (c .ports) (placesOf c) grid
+
+-- and a symbol and a port of it
+pub record SignalIn (c : Cell) (s q : ℕ) (grid : List ℕ) : Type 0 where
+  pub cell : CellIn c
+  pub symbol : s < symbols c
+  pub port : q < c .ports
+  pub room : Room (c .ports) (placesOf c) grid
+
+-- ---- reference signals: n elements, every sixth from `first` on
+unfoldable pub everySixth : ℕ → ℕ → ℕ → Bool
+everySixth first n e = leb first e && eqb ((e - first) % 6) 0 && ltb ((e - first) / 6) n
+
+-- value i of n in a word of 2n bits, the first most significant
+unfoldable pub valueIn : ℕ → ℕ → ℕ → Element
+valueIn word n i = elementOf 2 (valueOf (word / 2 ^ (2 * (n - 1 - i)) % 4))
+
+unfoldable pub wordSent : ℕ → ℕ → ℕ → ℕ → Element
+wordSent word n first e = valueIn word n ((e - first) / 6)
+
+-- value m of what the pair gives
+unfoldable pub pairSent : Registers → ℕ → ℕ → Element
+pairSent r first e = elementOf 2 (crsFrom r ((e - first) / 6))
+
+-- ---- synchronisation: 62 elements from `first` on
+unfoldable pub inRow : ℕ → ℕ → ℕ → Bool
+inRow first n e = leb first e && ltb e (first + n)
+
+unfoldable pub phaseSent : ℕ → ℕ → ℕ → Element
+phaseSent C first e = record { unit = 63; i = pssPhase C (e - first); j = 0 }
+
+unfoldable pub levelSent : Sss → ℕ → ℕ → Element
+levelSent d first e = elementOf 1 (record { re = levelIn d (e - first); im = pos 0 })

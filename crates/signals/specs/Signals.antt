@@ -1,0 +1,44 @@
+-- For the inner contracts and loops only: the elements that the reference and synchronisation signals write. T is the number of places
+-- on a port, an element's number is port × T + place.
+use Prim.Native.Nat.{ℕ, _+_, _*_, _/_, _%_}
+use mathlib.Core.Bool.{Bool, _&&_}
+use lib.Dec.{eqb}
+use lib.IntN.{pos}
+use Rattle.base.specs.declared.Pair.{Pair}
+use Rattle.base.specs.declared.Element.{Element}
+use Rattle.base.specs.Signs.{turn}
+use Rattle.base.specs.Bytes.{elementOf}
+use Rattle.gold.specs.declared.Registers.{Registers}
+use Rattle.codeword.specs.Streams.{outputs}
+use Rattle.plan.specs.declared.Cell.{Cell}
+use Rattle.plan.specs.declared.Frame.{Frame}
+use Rattle.layout.specs.Rules.{slotOf, inSlot, standsAt, shift, used}
+use Rattle.layout.specs.Owners.{slotOfCell}
+use Rattle.places.specs.Places.{symbolOf, carrierOf, placesOf}
+use Rattle.subframe.specs.Elements.{pssElement, sssElement}
+
+-- the element stands on port q, in symbol s, where the port's reference signal does
+unfoldable pub crsSends : Cell → ℕ → ℕ → ℕ → Bool
+crsSends c s q e =
+    let t = e % placesOf c in
+    eqb (e / placesOf c) q && eqb (symbolOf c t) s && standsAt (c .identity) (carrierOf c t) (shift q (inSlot (slotOfCell c) s) (slotOf (slotOfCell c) s))
+
+-- value m of a symbol, two bits of what the pair gives
+unfoldable pub crsFrom : Registers → ℕ → Pair
+crsFrom r m = record { re = turn (outputs r (2 * m)) (pos 1); im = turn (outputs r (2 * m + 1)) (pos 1) }
+
+unfoldable pub crsSent : Cell → Registers → ℕ → Element
+crsSent c r e = elementOf 2 (crsFrom r (carrierOf c (e % placesOf c) / 6))
+
+-- the synchronisation marks: port 0, the last symbol of the first slot and the one before, the middle 62 subcarriers. y symbols
+-- from the slot's end
+unfoldable pub markSends : Cell → ℕ → ℕ → Bool
+markSends c y e =
+    let t = e % placesOf c in
+    eqb (e / placesOf c) 0 && eqb (symbolOf c t + y) (slotOfCell c) && used (c .blocks) (carrierOf c t)
+
+unfoldable pub pssSent : Cell → ℕ → Element
+pssSent c e = pssElement c 0 (carrierOf c (e % placesOf c))
+
+unfoldable pub sssSent : Cell → Frame → ℕ → Element
+sssSent c f e = sssElement c f 0 (carrierOf c (e % placesOf c))

@@ -1,0 +1,179 @@
+// The reference and synchronisation signals of a subframe, written into its grid (TS 36.211 6.10.1.2, 6.11.1.2, 6.11.2.2).
+use base::Element;
+use base::Pair;
+use gold::Registers;
+use plan::Cell;
+use plan::Frame;
+use sync::Sss;
+ghost use mathlib.Core.Path.{_≡_};
+ghost use Prim.Native.Nat.{ℕ, _+_, _-_, _*_, _%_, _≤_, _<_};
+ghost use lib.Dec.{eqb};
+ghost use lib.ListN.{length};
+ghost use Rattle.gold.specs.Steps.{after};
+ghost use Rattle.plan.specs.Valid.{CellIn};
+ghost use Rattle.layout.specs.Rules.{slotOf, inSlot, shift as shiftOf};
+ghost use Rattle.layout.specs.Owners.{slotOfCell, carriers};
+ghost use Rattle.places.specs.Places.{placesOf};
+ghost use Rattle.grid.specs.Writing.{Written};
+ghost use Rattle.signals.specs.Signals.{crsSends, crsSent, markSends, pssSent, sssSent};
+ghost use Rattle.signals.specs.Rows.{MarkIn, SignalIn, everySixth, wordSent, pairSent, inRow, phaseSent, levelSent};
+
+// The number of the first element of symbol s on a port. Callers ask inside a grid: at most 14 symbols.
+fn row_at(cell: Cell, s: usize, port: u8) -> usize
+    requires { ⌜ s < 14 ⌝ }
+    ensures { λ r. ⌜ r ≡ port * placesOf cell + s * carriers cell ⌝ }
+{
+    let rows = base::wide(port) * (2 * layout::slot_length(cell.prefix)) + s;
+    rows * (12 * base::wide(cell.blocks))
+}
+
+// Whether symbol s is the first of its slot.
+fn opens(slot: usize, s: usize) -> bool
+    ensures { λ r. ⌜ r ≡ eqb (inSlot slot s) 0 ⌝ }
+{
+    if s < slot { s == 0 } else { s == slot }
+}
+
+// 0 for the first slot, 1 for the second.
+fn slot_number(slot: usize, s: usize) -> usize
+    ensures { λ r. ⌜ (r ≡ slotOf slot s) × (r ≤ 1) ⌝ }
+{
+    if s < slot { 0 } else { 1 }
+}
+
+// The shift v of a port's reference signal in symbol s. No cell has more than four ports.
+fn shift(port: usize, slot: usize, s: usize) -> usize
+    requires { ⌜ port < 4 ⌝ }
+    ensures { λ r. ⌜ (r ≡ shiftOf port (inSlot slot s) (slotOf slot s)) × (r ≤ 6) ⌝ }
+{
+    if port < 2 {
+        if opens(slot, s) {
+            return 3 * port;
+        }
+        return 3 * (1 - port);
+    }
+    3 * (port - 2 + slot_number(slot, s))
+}
+
+// The first subcarrier of a port's reference signal in symbol s.
+fn first_carrier(cell: Cell, s: usize, port: u8) -> usize
+    requires { ⌜ port < 4 ⌝ }
+    ensures { λ r. ⌜ r ≡ (shiftOf port (inSlot (slotOfCell cell) s) (slotOf (slotOfCell cell) s) + cell .identity) % 6 ⌝ }
+{
+    let v = shift(base::wide(port), layout::slot_length(cell.prefix), s);
+    (v + (cell.identity as usize)) % 6
+}
+
+// The n values of a word of 2n bits, at every sixth element. Callers take n from `at_once`, and the last element lies in the grid.
+fn fill_word(word: u32, n: usize, first: usize, grid: &mut [u8])
+    requires { ⌜ (n ≤ 14) × (3 * (first + 6 * n) + 2 < length (now grid) + 18) ⌝ }
+    ensures { λ _. ⌜ Written (everySixth first n) (wordSent word n first) (now (grid .entry)) (now (grid .exit)) ⌝ }
+{
+    let mut i: usize = 0;
+    while i < n {
+        let low = 2 * (n - 1 - i);
+        let d = crs::value((word >> low) % 4);
+        grid::put(grid, first + 6 * i, base::element_of(2, d));
+        i += 1;
+    }
+}
+
+// How many of the values left go into one word of the sequence: two bits each, 28 bits at most.
+fn at_once(left: usize) -> usize
+    requires { ⌜ 0 < left ⌝ }
+    ensures { λ r. ⌜ (0 < r) × (r ≤ 14) × (r ≤ left) ⌝ }
+{
+    if left < 14 { left } else { 14 }
+}
+
+// The first n values that the pair gives, at every sixth element, and the pair after them. The last element lies in the grid.
+fn fill_values(r: Registers, n: usize, first: usize, grid: &mut [u8]) -> Registers
+    requires { ⌜ 3 * (first + 6 * n) + 2 < length (now grid) + 18 ⌝ }
+    ensures { λ result. ⌜ Written (everySixth first n) (pairSent r first) (now (grid .entry)) (now (grid .exit)) × (result ≡ after r (2 * n)) ⌝ }
+{
+    let mut pair = r;
+    let mut m: usize = 0;
+    while m < n {
+        let count = at_once(n - m);
+        let bits = (2 * count) as u32;
+        fill_word(gold::word(pair, bits), count, first + 6 * m, grid);
+        pair = gold::advance(pair, bits);
+        m += count;
+    }
+    pair
+}
+
+// A port's reference signal in symbol s, from the pair that stands at the symbol's first value. Callers have the cell from an
+// accepted plan, and have compared the grid's length.
+pub fn fill_crs(r: Registers, cell: Cell, s: usize, port: u8, grid: &mut [u8]) -> Registers
+    requires { ⌜ SignalIn cell s port (now grid) ⌝ }
+    ensures { λ result. ⌜ Written (crsSends cell s port) (crsSent cell r) (now (grid .entry)) (now (grid .exit)) × ((n : ℕ) × (result ≡ after r n)) ⌝ }
+{
+    let first = row_at(cell, s, port) + first_carrier(cell, s, port);
+    fill_values(r, 2 * base::wide(cell.blocks), first, grid)
+}
+
+// The number of the first of 62 elements in the middle of the symbol that stands y from the first slot's end, on port 0.
+fn mark_at(cell: Cell, y: usize) -> usize
+    requires { ⌜ CellIn cell × (y ≤ 2) ⌝ }
+    ensures { λ r. ⌜ r ≡ (slotOfCell cell - y) * carriers cell + (6 * cell .blocks - 31) ⌝ }
+{
+    let s = layout::slot_length(cell.prefix) - y;
+    row_at(cell, s, 0) + (6 * base::wide(cell.blocks) - 31)
+}
+
+// The primary signal's 62 elements, unit 63.
+fn fill_phases(identity: u16, first: usize, grid: &mut [u8])
+    requires { ⌜ 3 * (first + 62) ≤ length (now grid) ⌝ }
+    ensures { λ _. ⌜ Written (inRow first 62) (phaseSent identity first) (now (grid .entry)) (now (grid .exit)) ⌝ }
+{
+    let mut i: usize = 0;
+    while i < 62 {
+        let phase = sync::pss_phase(identity, i);
+        grid::put(
+            grid,
+            first + i,
+            Element {
+                unit: 63,
+                i: phase,
+                j: 0,
+            },
+        );
+        i += 1;
+    }
+}
+
+// The secondary signal's 62 elements, unit 1.
+fn fill_levels(d: Sss, first: usize, grid: &mut [u8])
+    requires { ⌜ 3 * (first + 62) ≤ length (now grid) ⌝ }
+    ensures { λ _. ⌜ Written (inRow first 62) (levelSent d first) (now (grid .entry)) (now (grid .exit)) ⌝ }
+{
+    let mut i: usize = 0;
+    while i < 62 {
+        let level = sync::sss_level(d, i);
+        grid::put(
+            grid,
+            first + i,
+            base::element_of(1, Pair { re: level, im: 0 }),
+        );
+        i += 1;
+    }
+}
+
+// PSS, in the last symbol of the first slot. Callers have the cell from an accepted plan whose subframe has the signal, and have
+// compared the grid's length.
+pub fn fill_pss(cell: Cell, grid: &mut [u8])
+    requires { ⌜ MarkIn cell (now grid) ⌝ }
+    ensures { λ _. ⌜ Written (markSends cell 1) (pssSent cell) (now (grid .entry)) (now (grid .exit)) ⌝ }
+{
+    fill_phases(cell.identity, mark_at(cell, 1), grid);
+}
+
+// SSS, one symbol earlier. Callers as for PSS.
+pub fn fill_sss(cell: Cell, frame: Frame, grid: &mut [u8])
+    requires { ⌜ MarkIn cell (now grid) ⌝ }
+    ensures { λ _. ⌜ Written (markSends cell 2) (sssSent cell frame) (now (grid .entry)) (now (grid .exit)) ⌝ }
+{
+    let d = sync::sss_for(cell.identity, frame.subframe);
+    fill_levels(d, mark_at(cell, 2), grid);
+}
