@@ -1,0 +1,75 @@
+-- `channels::first_bit` meets its contract: a case for each channel. Assumes nothing.
+use native.Mathlib.Omega.{arith}
+use mathlib.Core.Path.{sym, ap, _∙_}
+use Prim.Native.Nat.{ℕ, _-_, _*_}
+use Rattle.plan.proofs.Counts.{blocks-most}
+use Rattle.channels.specs.Channels.{firstOf}
+use borrow.Author.Needs.{needs}
+use Rattle.channels.proofs.first_bit.Statement.{statement}
+use Rattle.channels.proofs.first_bit.Tie as tie
+
+enum-told : tie.Need-enum-told
+enum-told c = search needs
+
+wide-requires : tie.Need-wide-requires
+wide-requires c κs = search needs
+
+sub-result : tie.Need-sub-result
+sub-result c = omega (arith, c .wide .ensures, blocks-most (c .before .before .before .before .before .args .p .cell) (c .before .before .before .before .before .pre))
+
+mul-result : tie.Need-mul-result
+mul-result c = search needs
+
+enum-told-2 : tie.Need-enum-told-2
+enum-told-2 c = search needs
+
+pbch-first-requires : tie.Need-pbch-first-requires
+pbch-first-requires c κs = search needs
+
+enum-told-3 : tie.Need-enum-told-3
+enum-told-3 c = search needs
+
+enum-told-4 : tie.Need-enum-told-4
+enum-told-4 c = search needs
+
+enum-told-5 : tie.Need-enum-told-5
+enum-told-5 c = search needs
+
+returns : tie.Need-returns
+unfolding firstOf
+returns c = ap (λ (x : ℕ). 2 * (110 - x)) (c .wide .ensures) ∙ sym (ap (firstOf (c .before .before .before .before .before .args .p)) (c .before .enum-told .given .1))
+
+returns-2 : tie.Need-returns-2
+unfolding firstOf
+returns-2 c = c .pbch-first .ensures ∙ sym (ap (firstOf (c .before .before .before .before .before .args .p)) (c .before .enum-told2 .given .1))
+
+returns-3 : tie.Need-returns-3
+unfolding firstOf
+returns-3 c = sym (ap (firstOf (c .before .before .before .before .args .p)) (c .enum-told3 .given .1))
+
+returns-4 : tie.Need-returns-4
+unfolding firstOf
+returns-4 c = sym (ap (firstOf (c .before .before .before .before .args .p)) (c .enum-told4 .given .1))
+
+returns-5 : tie.Need-returns-5
+unfolding firstOf
+returns-5 c = sym (ap (firstOf (c .before .before .before .before .args .p)) (c .enum-told5 .given .1))
+
+pub first-bit-spec : {M : Type 1} → statement M
+first-bit-spec =
+    tie.close
+    (tie.spec
+    enum-told
+    wide-requires
+    sub-result
+    mul-result
+    enum-told-2
+    pbch-first-requires
+    enum-told-3
+    enum-told-4
+    enum-told-5
+    returns
+    returns-2
+    returns-3
+    returns-4
+    returns-5)
