@@ -117,7 +117,8 @@ impl Fixed {
         Cell { identity, blocks, extended: prefix == 1, ports, g }
     }
 
-    fn commands(&self) -> [Vec<u8>; 2] {
+    /// CELL and FRAME.
+    pub fn commands(&self) -> [Vec<u8>; 2] {
         let [high, low] = (self.identity as u16).to_be_bytes();
         let cell =
             vec![CELL, high, low, self.blocks as u8, self.prefix as u8, self.ports as u8, self.g as u8];
@@ -138,7 +139,8 @@ pub enum His {
 
 pub const HIS: [His; 5] = [His::None, His::One, His::Some, His::OneGroup, His::All];
 
-fn his(random: &mut Random, cell: &Cell, how: His) -> Vec<Vec<u8>> {
+/// The HIs in any order.
+pub fn his(random: &mut Random, cell: &Cell, how: His) -> Vec<Vec<u8>> {
     let (groups, sequences) = (cell.phich_groups(), cell.phich_sequences());
     let group = random.below(groups);
     let mut all: Vec<Vec<u8>> = Vec::new();
@@ -182,7 +184,7 @@ pub const USERS: [Users; 7] =
     [Users::None, Users::Whole, Users::One, Users::Edge, Users::Edges, Users::Many, Users::OneBlockEach];
 
 /// (first, count) of each user.
-fn allocations(random: &mut Random, blocks: usize, how: Users) -> Vec<(usize, usize)> {
+pub fn allocations(random: &mut Random, blocks: usize, how: Users) -> Vec<(usize, usize)> {
     let centre = Cell { identity: 0, blocks, extended: false, ports: 1, g: 1 }.centre();
     let (low, high) = (centre.start / 12, (centre.end - 1) / 12);
     match how {
@@ -299,22 +301,27 @@ pub fn example_variant_input() -> Vec<u8> {
     input(&plan, &right_payload(&mut Random::new(0), &plan).expect("an accepted plan"))
 }
 
-/// A random payload of the right length with its spare bits zero; `None` for a refused plan.
-pub fn right_payload(random: &mut Random, plan: &[u8]) -> Option<Vec<u8>> {
+/// A payload of the right length, of these bits in order, with its spare bits zero; `None` for a refused plan.
+pub fn payload_of_bits(plan: &[u8], mut bit: impl FnMut() -> u8) -> Option<Vec<u8>> {
     let plan = check(plan).ok()?;
     let sections = Sections::new(&plan, &layout(&plan));
     let mut payload = vec![0; sections.length];
-    let how = random.below(8);
     for section in sections.all() {
-        let bit = |random: &mut Random| match how {
-            0 => 0,
-            1 => 1,
-            _ => random.byte() & 1,
-        };
-        let bits: Vec<u8> = (0..section.bits).map(|_| bit(random)).collect();
+        let bits: Vec<u8> = (0..section.bits).map(|_| bit()).collect();
         section.put(&mut payload, &bits);
     }
     Some(payload)
+}
+
+/// A random payload of the right length with its spare bits zero; `None` for a refused plan.
+pub fn right_payload(random: &mut Random, plan: &[u8]) -> Option<Vec<u8>> {
+    check(plan).ok()?;
+    let how = random.below(8);
+    payload_of_bits(plan, || match how {
+        0 => 0,
+        1 => 1,
+        _ => random.byte() & 1,
+    })
 }
 
 /// A payload of a wrong length.

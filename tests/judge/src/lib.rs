@@ -4,6 +4,7 @@
 //! sequence is made bit by bit, and every owner's places are listed by its own rule. Nothing is clever.
 
 pub mod build;
+pub mod builds;
 pub mod control;
 pub mod crs;
 pub mod generate;

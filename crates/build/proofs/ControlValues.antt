@@ -1,0 +1,53 @@
+-- PCFICH and the PHICH units: the elements they write are their owners', and their values the subframe's. Assumes nothing beyond the plan
+-- check's answer and that the slice has the HIs' bits.
+use Prim.Native.Nat.{ℕ, _+_, _/_, _%_, _<_}
+use mathlib.Core.Path.{_≡_, refl, sym, _∙_}
+use mathlib.Core.Bool.{Bool, true, false, _&&_}
+use mathlib.Core.List.{List}
+use Rattle.base.specs.Bits.{bitAt}
+use Rattle.gold.specs.Sequence.{pairAt}
+use Rattle.plan.specs.Check.{checkOf}
+use Rattle.plan.specs.Fields.{unitsOf}
+use Rattle.plan.specs.Rows.{hisOf}
+use Rattle.plan.specs.declared.Plan.{Plan}
+use Rattle.plan.specs.declared.Checked.the-variants.{Plan as accepted}
+use Rattle.layout.specs.declared.Owner.the-variants.{Pcfich, Phich}
+use Rattle.places.specs.Places.{placesOf, ownsAt, indexOf}
+use Rattle.grid.specs.Writing.{sends, Room}
+use Rattle.subframe.specs.Elements.{controlInit, hiBit}
+use Rattle.subframe.specs.Grid.{elementNumbered}
+use Rattle.control.specs.Control.{pcfichSends, pcfichSent, phichSends, phichSent}
+use Rattle.control.proofs.ControlOwners.{pcfich-owns, pcfich-index, phich-owns, phich-index, pcfich-value, phich-value}
+use Rattle.build.specs.Senders.{active, ownerSends}
+use Rattle.build.proofs.Some.{and-true}
+use Rattle.build.proofs.Numbered.{sends-port, numbered}
+
+module _ (w : List ℕ) (p : Plan) (ok : checkOf w ≡ accepted p) (payload : List ℕ) {grid : List ℕ} (room : Room (p .cell .ports) (placesOf (p .cell)) grid) where
+  abbrev T : ℕ
+  T = placesOf (p .cell)
+
+  pub pcfich-owned : (e : ℕ) → pcfichSends (p .cell) e ≡ ownerSends w p Pcfich e
+  unfolding pcfichSends ownerSends active
+  pcfich-owned e = rw (pcfich-owns w p ok (e % T), pcfich-index w p ok (e % T)) refl
+
+  pub pcfich-numbered :
+      (e : ℕ) → pcfichSends (p .cell) e ≡ true
+      → pcfichSent (p .cell) (p .frame .cfi) (pairAt (controlInit (p .cell) (p .frame)) 0) e ≡ elementNumbered w p payload e
+  unfolding ownerSends active
+  pcfich-numbered e h =
+      let o = and-true (ownsAt w p Pcfich (e % T)) (sends (p .cell .ports) (indexOf w p Pcfich (e % T) / 2 % 2) (e / T)) (sym (pcfich-owned e) ∙ h) in
+      pcfich-value w p ok payload e h (sends-port room (indexOf w p Pcfich (e % T) / 2 % 2) (e / T) (o .1)) ∙ sym (numbered w p ok payload Pcfich e (o .0))
+
+  module _ (m : ℕ) (in-m : m < unitsOf (p .cell)) where
+    pub phich-owned : (e : ℕ) → phichSends (p .cell) m e ≡ ownerSends w p (Phich m) e
+    unfolding phichSends ownerSends active
+    phich-owned e = rw (phich-owns w p ok m (e % T), phich-index w p ok m (e % T)) refl
+
+    pub phich-numbered :
+        (bits : List ℕ) → ((n : ℕ) → n < p .his .count → bitAt bits n ≡ hiBit w p payload n) → (e : ℕ) → phichSends (p .cell) m e ≡ true
+        → phichSent (p .cell) m (pairAt (controlInit (p .cell) (p .frame)) 0) (hisOf w p) bits e ≡ elementNumbered w p payload e
+    unfolding ownerSends active
+    phich-numbered bits same e h =
+        let o = and-true (ownsAt w p (Phich m) (e % T)) (sends (p .cell .ports) ((indexOf w p (Phich m) (e % T) / 4 + m) % 2) (e / T)) (sym (phich-owned e) ∙ h) in
+        phich-value w p ok payload bits m in-m e h (sends-port room ((indexOf w p (Phich m) (e % T) / 4 + m) % 2) (e / T) (o .1)) same
+        ∙ sym (numbered w p ok payload (Phich m) e (o .0))

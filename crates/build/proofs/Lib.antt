@@ -1,0 +1,10 @@
+mod Some
+mod Pilots
+mod Numbered
+mod DataValues
+mod SignalValues
+mod ControlValues
+mod Quiet
+mod Slices
+mod Turns
+mod Answers

@@ -1,0 +1,213 @@
+-- WHERE NOTHING IS WRITTEN THE SUBFRAME IS SILENT: every element that no channel writes belongs to an owner that sends nothing there.
+-- Assumes nothing beyond the plan check's answer.
+use Prim.Native.Nat.{ℕ, _+_, _*_, _/_, _%_, _<_}
+use mathlib.Core.Path.{_≡_, refl, sym, ap, _∙_}
+use mathlib.Core.Bool.{Bool, true, false, _&&_, _||_}
+use mathlib.Core.List.{List}
+use native.Mathlib.Decide.{ℕ-discrete}
+use native.Mathlib.Omega.{arith}
+use borrow.Author.Tests.{eq-eqb, ne-eqb, ltb-true}
+use lib.Dec.{eqb, ltb}
+use lib.ListN.{length}
+use Rattle.base.specs.declared.Pair.{Pair}
+use Rattle.base.specs.Bytes.{silent}
+use Rattle.modulation.specs.Symbols.{unitOf}
+use Rattle.precoding.specs.Layers.{Occurs}
+use Rattle.precoding.specs.Matrices.{precoded}
+use Rattle.precoding.specs.Phich.{phichPrecoded}
+use Rattle.precoding.specs.Places.{beside}
+use Rattle.precoding.proofs.Diversity.{by-place, phich-by-place}
+use Rattle.plan.specs.Check.{checkOf}
+use Rattle.plan.specs.Fields.{unitsOf}
+use Rattle.plan.specs.Rows.{usersOf}
+use Rattle.plan.specs.declared.Plan.{Plan}
+use Rattle.plan.specs.declared.Checked.the-variants.{Plan as accepted}
+use Rattle.layout.specs.Rules.{slotOf, inSlot, crsSymbol, crs, crsOf, marked, pss, sss, pbch, pbchArea, phich}
+use Rattle.layout.specs.Owners.{slotOfCell, symbols, owns, fixedRule, userRule, userHas}
+use Rattle.layout.specs.declared.Mark.{Mark}
+use Rattle.layout.specs.declared.Mark.the-variants.{Primary, Secondary}
+use Rattle.layout.specs.declared.Owner.{Owner}
+use Rattle.layout.specs.declared.Owner.the-variants.{Crs, Sync, Pbch, Pcfich, Phich, User as UserOf, Held, Idle}
+use Rattle.layout.proofs.OneOwner.{one-owner}
+use Rattle.layout.proofs.Partition.{has-index}
+use Rattle.places.specs.Places.{placeNumber, symbolOf, carrierOf, placesOf, ownsAt, countOf, indexOf}
+use Rattle.places.proofs.Counts.{clash, by-test}
+use Rattle.places.proofs.Listing.{pcfich-count, phich-count}
+use Rattle.grid.specs.Writing.{sends}
+use Rattle.grid.proofs.Sending.{silent-port}
+use Rattle.subframe.specs.Elements.{elementFor, crsElement, pssElement, sssElement, pbchSymbol, pcfichSymbol, phichSum, userNumber, userSymbol}
+use Rattle.subframe.specs.Grid.{elementNumbered}
+use Rattle.subframe.proofs.Occurs.{even-occurs, pbch-occurs, user-occurs}
+use Rattle.signals.specs.Signals.{crsSends, markSends}
+use Rattle.signals.proofs.SignalOwners.{crs-covers, pss-sends, sss-sends}
+use Rattle.build.specs.Senders.{active, ownerSends, crsIn, crsPorts, crsRows, marksSend, pbchSends, unitsSend, usersSend, allSend}
+use Rattle.build.proofs.Some.{and-true, or-false, none-at}
+use Rattle.build.proofs.Numbered.{port-lt, place-in, numbered, place-number, index-lt}
+
+-- a port without a term
+quiet-data : {P M : ℕ} → Occurs P M → (u : ℕ) (d : ℕ → Pair) (j q : ℕ) → j < M → q < P → sends P (j / 2 % 2) q ≡ false → precoded P M u d j q ≡ silent
+quiet-data {P = P} c u d j q l k h = by-place c u d j q l k ∙ silent-port P (j / 2 % 2) u (j % 2) (d j) (d (beside j)) q h
+
+quiet-unit : {P : ℕ} → Occurs P 12 → (m u : ℕ) (d : ℕ → Pair) (j q : ℕ) → j < 12 → q < P → sends P ((j / 4 + m) % 2) q ≡ false → phichPrecoded P m u d (j / 4) (j % 4) q ≡ silent
+quiet-unit {P = P} c m u d j q l k h =
+    let n : ℕ = 4 * (j / 4) + j % 4 in
+    phich-by-place c m u d (j / 4) (j % 4) q (omega arith) (omega arith) k
+    ∙ silent-port P ((j / 4 + m) % 2) u (n % 2) (d n) (d (beside n)) q h
+
+and-false : (a b : Bool) → a && b ≡ false → a ≡ true → b ≡ false
+and-false true b h e = h
+and-false false b h e = clash e refl
+
+module _ (w : List ℕ) (p : Plan) (ok : checkOf w ≡ accepted p) (payload : List ℕ) (e : ℕ) (in-e : e < p .cell .ports * placesOf (p .cell)) where
+  abbrev T : ℕ
+  T = placesOf (p .cell)
+
+  abbrev t : ℕ
+  t = e % placesOf (p .cell)
+
+  abbrev s : ℕ
+  s = symbolOf (p .cell) (e % placesOf (p .cell))
+
+  abbrev k : ℕ
+  k = carrierOf (p .cell) (e % placesOf (p .cell))
+
+  abbrev q : ℕ
+  q = e / placesOf (p .cell)
+
+  q-lt : e / placesOf (p .cell) < p .cell .ports
+  q-lt = port-lt w p ok e in-e
+
+  index-at : (o : Owner) → indexOf w p o (placeNumber (p .cell) s k) ≡ indexOf w p o t
+  index-at o = ap (indexOf w p o) (place-number w p ok e)
+
+  -- ---- by owner
+  module _ (none : allSend w p e ≡ false) where
+    no-users : usersSend w p (length (usersOf w p)) e ≡ false
+    unfolding allSend
+    no-users = or-false _ _ none .0
+
+    rest₁ : unitsSend w p (unitsOf (p .cell)) e || (ownerSends w p Pcfich e || (pbchSends w p e || (marksSend p e || crsRows p (symbols (p .cell)) e))) ≡ false
+    unfolding allSend
+    rest₁ = or-false (usersSend w p (length (usersOf w p)) e) _ none .1
+
+    no-units : unitsSend w p (unitsOf (p .cell)) e ≡ false
+    no-units = or-false _ _ rest₁ .0
+
+    rest₂ : ownerSends w p Pcfich e || (pbchSends w p e || (marksSend p e || crsRows p (symbols (p .cell)) e)) ≡ false
+    rest₂ = or-false (unitsSend w p (unitsOf (p .cell)) e) _ rest₁ .1
+
+    no-pcfich : ownerSends w p Pcfich e ≡ false
+    no-pcfich = or-false _ _ rest₂ .0
+
+    rest₃ : pbchSends w p e || (marksSend p e || crsRows p (symbols (p .cell)) e) ≡ false
+    rest₃ = or-false (ownerSends w p Pcfich e) _ rest₂ .1
+
+    no-pbch : pbchSends w p e ≡ false
+    no-pbch = or-false _ _ rest₃ .0
+
+    rest₄ : marksSend p e || crsRows p (symbols (p .cell)) e ≡ false
+    rest₄ = or-false (pbchSends w p e) _ rest₃ .1
+
+    no-marks : marksSend p e ≡ false
+    no-marks = or-false _ _ rest₄ .0
+
+    no-crs : crsRows p (symbols (p .cell)) e ≡ false
+    no-crs = or-false (marksSend p e) _ rest₄ .1
+
+    quiet-crs : (r : ℕ) → owns w p (Crs r) s k ≡ true → crsElement (p .cell) (p .frame) r q s k ≡ silent
+    unfolding crsElement crsRows crsPorts crsIn owns fixedRule crs crsOf
+    quiet-crs r h = pick (ℕ-discrete q r)
+      where
+        pick : Dec (q ≡ r) → crsElement (p .cell) (p .frame) r q s k ≡ silent
+        pick (no n) = rw (ne-eqb q r n) refl
+        pick (yes y) =
+            let a = and-true (ltb r (p .cell .ports)) _ h in
+            let b = and-true (crsSymbol (slotOfCell (p .cell)) r (inSlot (slotOfCell (p .cell)) s)) _ (a .1) in
+            let c = crs-covers w p r e h y in
+            clash (rw (b .0, c) refl) (none-at _ (p .cell .ports) (none-at _ (symbols (p .cell)) no-crs s (place-in w p ok e .0)) r (ltb-true r (p .cell .ports) (a .0)))
+
+    quiet-pss : owns w p (Sync Primary) s k ≡ true → pssElement (p .cell) q k ≡ silent
+    unfolding pssElement marksSend owns fixedRule pss
+    quiet-pss h = pick (ℕ-discrete q 0)
+      where
+        m : marked (p .frame .subframe) ≡ true
+        m = and-true _ _ (and-true _ _ h .0) .0
+
+        pick : Dec (q ≡ 0) → pssElement (p .cell) q k ≡ silent
+        pick (no n) = rw (ne-eqb q 0 n) refl
+        pick (yes y) = clash (pss-sends w p e m .1 (h, y)) (or-false (markSends (p .cell) 2 e) _ (and-false _ _ no-marks m) .1)
+
+    quiet-sss : owns w p (Sync Secondary) s k ≡ true → sssElement (p .cell) (p .frame) q k ≡ silent
+    unfolding sssElement marksSend owns fixedRule sss
+    quiet-sss h = pick (ℕ-discrete q 0)
+      where
+        m : marked (p .frame .subframe) ≡ true
+        m = and-true _ _ (and-true _ _ h .0) .0
+
+        pick : Dec (q ≡ 0) → sssElement (p .cell) (p .frame) q k ≡ silent
+        pick (no n) = rw (ne-eqb q 0 n) refl
+        pick (yes y) = clash (sss-sends w p e m .1 (h, y)) (or-false (markSends (p .cell) 2 e) _ (and-false _ _ no-marks m) .0)
+
+    inactive : (o : Owner) → ownerSends w p o e ≡ false → owns w p o s k ≡ true → active w p o t q ≡ false
+    unfolding ownerSends ownsAt
+    inactive o h own = and-false _ _ h own
+
+    pbch-zero : owns w p Pbch s k ≡ true → eqb (p .frame .subframe) 0 ≡ true
+    unfolding owns fixedRule pbch pbchArea
+    pbch-zero h = and-true _ _ (and-true _ _ (and-true _ _ (and-true _ _ h .0) .0) .0) .0
+
+    quiet-pbch : owns w p Pbch s k ≡ true → elementFor w p payload Pbch q s k ≡ silent
+    unfolding elementFor active ownsAt pbchSends
+    quiet-pbch h =
+        let a = inactive Pbch (and-false (eqb (p .frame .subframe) 0) _ no-pbch (pbch-zero h)) h in
+        ap (λ (j : ℕ). precoded (p .cell .ports) (countOf w p Pbch) 2 (pbchSymbol w p payload) j q) (index-at Pbch)
+        ∙ quiet-data (pbch-occurs w p ok) 2 (pbchSymbol w p payload) (indexOf w p Pbch t) q (index-lt w p ok Pbch e h) q-lt a
+
+    quiet-pcfich : owns w p Pcfich s k ≡ true → elementFor w p payload Pcfich q s k ≡ silent
+    unfolding elementFor active ownsAt
+    quiet-pcfich h =
+        let l = index-lt w p ok Pcfich e h in
+        ap (λ (j : ℕ). precoded (p .cell .ports) 16 2 (pcfichSymbol (p .cell) (p .frame)) j q) (index-at Pcfich)
+        ∙ quiet-data (even-occurs w p ok 16 refl) 2 (pcfichSymbol (p .cell) (p .frame)) (indexOf w p Pcfich t) q (omega (arith, l, pcfich-count w p ok)) q-lt (inactive Pcfich no-pcfich h)
+
+    unit-lt : (m : ℕ) → owns w p (Phich m) s k ≡ true → m < unitsOf (p .cell)
+    unfolding owns fixedRule phich
+    unit-lt m h = ltb-true m (unitsOf (p .cell)) (and-true (ltb m (unitsOf (p .cell))) _ (and-true _ _ h .0) .0)
+
+    quiet-phich : (m : ℕ) → owns w p (Phich m) s k ≡ true → elementFor w p payload (Phich m) q s k ≡ silent
+    unfolding elementFor active ownsAt unitsSend
+    quiet-phich m h =
+        let l = index-lt w p ok (Phich m) e h in
+        let a = inactive (Phich m) (none-at (λ (i : ℕ). ownerSends w p (Phich i) e) (unitsOf (p .cell)) no-units m (unit-lt m h)) h in
+        ap (λ (j : ℕ). phichPrecoded (p .cell .ports) m 2 (phichSum w p payload m) (j / 4) (j % 4) q) (index-at (Phich m))
+        ∙ quiet-unit (even-occurs w p ok 12 refl) m 2 (phichSum w p payload m) (indexOf w p (Phich m) t) q (omega (arith, l, phich-count w p ok m (unit-lt m h))) q-lt a
+
+    user-lt : (i : ℕ) → owns w p (UserOf i) s k ≡ true → i < length (usersOf w p)
+    unfolding owns userRule
+    user-lt i h = has-index (slotOf (slotOfCell (p .cell)) s) k (usersOf w p) i (and-true _ _ (and-true _ _ h .0) .0)
+
+    quiet-user : (i : ℕ) → owns w p (UserOf i) s k ≡ true → elementFor w p payload (UserOf i) q s k ≡ silent
+    unfolding elementFor active ownsAt usersSend
+    quiet-user i h =
+        let a = inactive (UserOf i) (none-at (λ (n : ℕ). ownerSends w p (UserOf n) e) (length (usersOf w p)) no-users i (user-lt i h)) h in
+        ap (λ (j : ℕ). precoded (p .cell .ports) (countOf w p (UserOf i)) (unitOf (userNumber w p i .order)) (userSymbol w p payload i) j q) (index-at (UserOf i))
+        ∙ quiet-data (user-occurs w p ok i (user-lt i h)) (unitOf (userNumber w p i .order)) (userSymbol w p payload i) (indexOf w p (UserOf i) t) q (index-lt w p ok (UserOf i) e h) q-lt a
+
+    by-owner : (o : Owner) → owns w p o s k ≡ true → elementFor w p payload o q s k ≡ silent
+    unfolding elementFor
+    by-owner (Crs r) h = quiet-crs r h
+    by-owner (Sync Primary) h = quiet-pss h
+    by-owner (Sync Secondary) h = quiet-sss h
+    by-owner Pbch h = quiet-pbch h
+    by-owner Pcfich h = quiet-pcfich h
+    by-owner (Phich m) h = quiet-phich m h
+    by-owner (UserOf i) h = quiet-user i h
+    by-owner Held h = refl
+    by-owner Idle h = refl
+
+    pub quiet : elementNumbered w p payload e ≡ silent
+    unfolding ownsAt
+    quiet =
+        let place = place-in w p ok e in
+        let o = one-owner w p ok s k (place .0) (place .1) in
+        numbered w p ok payload (o .0) e (o .1) ∙ by-owner (o .0) (o .1)

@@ -1,0 +1,280 @@
+-- What the loops and the calls in turn have written. Assumes nothing beyond what filling needs.
+use Prim.Native.Nat.{ℕ, _+_, _-_, _*_, _/_, _%_, _≤_, _<_}
+use mathlib.Core.Path.{_≡_, refl, sym, ap, subst, _∙_}
+use mathlib.Core.Bool.{Bool, true, false, _&&_, _||_}
+use mathlib.Core.List.{List}
+use native.Mathlib.Omega.{arith}
+use borrow.Author.Tests.{eqb-true, eq-eqb, ne-eqb}
+use lib.Dec.{eqb}
+use lib.ListN.{length, take, drop}
+use Rattle.base.specs.declared.Element.{Element}
+use Rattle.base.specs.Bytes.{byteIn}
+use Rattle.base.specs.Tables.{table}
+use Rattle.base.proofs.Tables.{table-length}
+use Rattle.gold.specs.Sequence.{pairAt}
+use Rattle.modulation.specs.Symbols.{unitOf}
+use Rattle.plan.specs.Check.{checkOf}
+use Rattle.plan.specs.Commands.{userOf}
+use Rattle.plan.specs.Fields.{unitsOf}
+use Rattle.plan.specs.Rows.{nextOf, usersOf}
+use Rattle.plan.specs.Valid.{UserIn}
+use Rattle.plan.specs.declared.User.{User}
+use Rattle.plan.specs.declared.Plan.{Plan}
+use Rattle.plan.specs.declared.Checked.the-variants.{Plan as accepted}
+use Rattle.plan.proofs.Valid.{valid}
+use Rattle.layout.specs.Rules.{inSlot, crsSymbol, marked}
+use Rattle.layout.specs.Owners.{slotOfCell, symbols}
+use Rattle.layout.specs.declared.Owner.the-variants.{Pbch, Pcfich, Phich, User as UserOf}
+use Rattle.places.specs.Places.{placesOf}
+use Rattle.payload.specs.Sections.{sectionBytes}
+use Rattle.payload.specs.Payload.{pbchBits, userBits, gridLength, payloadLength, usersStart}
+use Rattle.payload.specs.Loops.{UserReady}
+use Rattle.payload.proofs.Sections.{userStart, user-start-first}
+use Rattle.grid.specs.Writing.{Written, Room}
+use Rattle.grid.proofs.Writing.{none, same, over, room-kept, whole}
+use Rattle.subframe.specs.Elements.{userNumber, userInit}
+use Rattle.subframe.specs.Grid.{elementNumbered, gridOf}
+use Rattle.subframe.proofs.Bytes.{length-by-port}
+use Rattle.data.specs.Areas.{userArea, areaSends, areaElement}
+use Rattle.signals.specs.Signals.{markSends, pssSent, sssSent}
+use Rattle.signals.specs.Rows.{MarkIn}
+use Rattle.channels.specs.declared.Channel.{Channel}
+use Rattle.channels.specs.declared.Channel.the-variants.{Crs, Pbch as PbchChannel, Pcfich as PcfichChannel, Phich as PhichChannel, User as UserChannel}
+use Rattle.channels.specs.Channels.{initOf, firstOf, sendsOf, sentOf, Among, ChannelIn}
+use Rattle.build.specs.Senders.{someBelow, ownerSends, crsIn, crsPorts, crsRows, marksSend, pbchSends, unitsSend, usersSend, allSend, Ready}
+use Rattle.build.proofs.Some.{or-cases, and-true, some-none, some-more}
+use Rattle.build.proofs.DataValues.{pbch-area, pbch-value, user-area, user-value}
+use Rattle.build.proofs.SignalValues.{crs-numbered, pss-numbered, sss-numbered}
+use Rattle.build.proofs.ControlValues.{pcfich-owned, pcfich-numbered, phich-owned, phich-numbered}
+use Rattle.build.proofs.Quiet.{quiet}
+use Rattle.build.proofs.Slices.{From, from-first, from-user, from-next, start-room, user-valid, user-ready, start-next, user-slice, pbch-slice, hi-slice}
+
+-- ---- one of several after the other
+module _ (f : ℕ → ℕ → Bool) {E : ℕ → Element} {g₀ : List ℕ} where
+  pub turn-none : Written (λ (e : ℕ). someBelow (λ (i : ℕ). f i e) 0) E g₀ g₀
+  turn-none = same (λ e. sym (some-none (λ (i : ℕ). f i e))) (λ e h. refl) (none E g₀)
+
+  module _ (n : ℕ) {g : List ℕ} (so-far : Written (λ (e : ℕ). someBelow (λ (i : ℕ). f i e) n) E g₀ g) where
+    pub turn-pass : ((e : ℕ) → f n e ≡ false) → Written (λ (e : ℕ). someBelow (λ (i : ℕ). f i e) (n + 1)) E g₀ g
+    turn-pass h = same (λ e. sym (some-more (λ (i : ℕ). f i e) n ∙ ap (λ (b : Bool). b || someBelow (λ (i : ℕ). f i e) n) (h e))) (λ e k. refl) so-far
+
+    pub turn-more :
+        {D : ℕ → Bool} {W : ℕ → Element} {h : List ℕ} → Written D W g h → ((e : ℕ) → D e ≡ f n e) → ((e : ℕ) → D e ≡ true → W e ≡ E e)
+        → Written (λ (e : ℕ). someBelow (λ (i : ℕ). f i e) (n + 1)) E g₀ h
+    turn-more r d v = over so-far r v (λ e. some-more (λ (i : ℕ). f i e) n ∙ ap (λ (b : Bool). b || someBelow (λ (i : ℕ). f i e) n) (sym (d e)))
+
+module _ (w : List ℕ) (p : Plan) (payload : List ℕ) {g₀ : List ℕ} (start : Ready w p payload g₀) where
+  ok : checkOf w ≡ accepted p
+  ok = start .answer
+
+  abbrev E : ℕ → Element
+  E = elementNumbered w p payload
+
+  -- what the channels need, at any point of the filling
+  module _ {D : ℕ → Bool} {W : ℕ → Element} {g : List ℕ} (r : Written D W g₀ g) where
+    channel-in : (ch : Channel) → Among p ch → ChannelIn w p ch g
+    channel-in ch a = record { plan = start .answer; among = a; room = room-kept (start .room) r }
+
+    pub crs-in : (s q : ℕ) → s < symbols (p .cell) → q < p .cell .ports → ChannelIn w p (Crs s q) g
+    unfolding Among
+    crs-in s q a b = channel-in (Crs s q) (a, b)
+
+    pub pbch-in : ChannelIn w p PbchChannel g
+    unfolding Among
+    pbch-in = channel-in PbchChannel tt
+
+    pub pcfich-in : ChannelIn w p PcfichChannel g
+    unfolding Among
+    pcfich-in = channel-in PcfichChannel tt
+
+    pub unit-in : (m : ℕ) → m < unitsOf (p .cell) → ChannelIn w p (PhichChannel m) g
+    unfolding Among
+    unit-in m a = channel-in (PhichChannel m) a
+
+    pub user-in : (u : User) → UserIn (p .cell) u → ChannelIn w p (UserChannel u) g
+    unfolding Among
+    user-in u a = channel-in (UserChannel u) a
+
+  pub ready-kept : {D : ℕ → Bool} {W : ℕ → Element} {g : List ℕ} → Written D W g₀ g → Ready w p payload g
+  ready-kept r = record { answer = start .answer; right = start .right; room = room-kept (start .room) r }
+
+  -- ---- reference signals of symbol s
+  module _ (s : ℕ) where
+    pub crs-none : Written (crsPorts p s 0) E g₀ g₀
+    unfolding crsPorts
+    crs-none = turn-none (crsIn p s)
+
+    module _ (q : ℕ) {g : List ℕ} (so-far : Written (crsPorts p s q) E g₀ g) where
+      pub crs-pass : crsSymbol (slotOfCell (p .cell)) q (inSlot (slotOfCell (p .cell)) s) ≡ false → Written (crsPorts p s (q + 1)) E g₀ g
+      unfolding crsPorts crsIn
+      crs-pass h = turn-pass (crsIn p s) q so-far (λ e. rw h refl)
+
+      pub crs-more :
+          (bits : List ℕ) {h : List ℕ} → crsSymbol (slotOfCell (p .cell)) q (inSlot (slotOfCell (p .cell)) s) ≡ true → q < p .cell .ports
+          → Written (sendsOf p (Crs s q)) (sentOf w p bits (pairAt (initOf p (Crs s q)) (firstOf p (Crs s q))) (Crs s q)) g h
+          → Written (crsPorts p s (q + 1)) E g₀ h
+      unfolding crsPorts crsIn sendsOf sentOf initOf firstOf
+      crs-more bits y l r = turn-more (crsIn p s) q so-far r (λ e. rw y refl) (λ e k. crs-numbered w p ok payload s q e l y k)
+
+    pub crs-end : (q : ℕ) {g : List ℕ} → q ≤ p .cell .ports → p .cell .ports ≤ q → Written (crsPorts p s q) E g₀ g → Written (crsPorts p s (p .cell .ports)) E g₀ g
+    crs-end q {g} a b r = let e : q ≡ p .cell .ports = omega arith in subst (λ (n : ℕ). Written (crsPorts p s n) E g₀ g) e r
+
+  -- ---- and of the symbols below m
+  pub rows-none : Written (crsRows p 0) E g₀ g₀
+  unfolding crsRows
+  rows-none = turn-none (λ (s e : ℕ). crsPorts p s (p .cell .ports) e)
+
+  pub rows-more : (m : ℕ) {g h : List ℕ} → Written (crsRows p m) E g₀ g → Written (crsPorts p m (p .cell .ports)) E g h → Written (crsRows p (m + 1)) E g₀ h
+  unfolding crsRows
+  rows-more m so-far r = turn-more (λ (s e : ℕ). crsPorts p s (p .cell .ports) e) m so-far r (λ e. refl) (λ e k. refl)
+
+  pub rows-end : (m n : ℕ) {g : List ℕ} → m ≤ symbols (p .cell) → n ≤ m → n ≡ symbols (p .cell) → Written (crsRows p m) E g₀ g → Written (crsRows p (symbols (p .cell))) E g₀ g
+  rows-end m n {g} a b c r = let e : m ≡ symbols (p .cell) = omega arith in subst (λ (x : ℕ). Written (crsRows p x) E g₀ g) e r
+
+  -- ---- synchronisation
+  pub marks-none : marked (p .frame .subframe) ≡ false → Written (marksSend p) E g₀ g₀
+  unfolding marksSend
+  marks-none h = same (λ e. rw h refl) (λ e k. refl) (none E g₀)
+
+  pub marks-both :
+      {g h : List ℕ} → marked (p .frame .subframe) ≡ true → Written (markSends (p .cell) 1) (pssSent (p .cell)) g₀ g
+      → Written (markSends (p .cell) 2) (sssSent (p .cell) (p .frame)) g h → Written (marksSend p) E g₀ h
+  unfolding marksSend
+  marks-both m r s =
+      over (same (λ e. refl) (λ e k. pss-numbered w p ok payload m e k) r) s (λ e k. sss-numbered w p ok payload m e k) (λ e. rw m refl)
+
+  -- ---- PBCH
+  pub pbch-none : (p .frame .subframe ≡ 0 → ⊥) → Written (pbchSends w p) E g₀ g₀
+  unfolding pbchSends
+  pbch-none n = same (λ e. rw (ne-eqb (p .frame .subframe) 0 n) refl) (λ e k. refl) (none E g₀)
+
+  pub pbch-written :
+      {g : List ℕ} (end : ℕ) → p .frame .subframe ≡ 0 → end ≡ sectionBytes (pbchBits (p .cell) (p .frame))
+      → Written (sendsOf p PbchChannel) (sentOf w p (take (end - 0) (drop 0 payload)) (pairAt (initOf p PbchChannel) (firstOf p PbchChannel)) PbchChannel) g₀ g
+      → Written (pbchSends w p) E g₀ g
+  unfolding pbchSends sendsOf sentOf initOf firstOf
+  pbch-written end z ee r =
+      same (λ e. pbch-area w p ok payload payload (start .room) z e ∙ sym (rw (eq-eqb (p .frame .subframe) 0 z) refl))
+      (λ e k. pbch-value w p ok payload (take (end - 0) (drop 0 payload)) (start .room) z (pbch-slice w p ok payload end ee) e k) r
+
+  -- ---- PCFICH
+  pub pcfich-written :
+      (bits : List ℕ) {g : List ℕ} → Written (sendsOf p PcfichChannel) (sentOf w p bits (pairAt (initOf p PcfichChannel) (firstOf p PcfichChannel)) PcfichChannel) g₀ g
+      → Written (ownerSends w p Pcfich) E g₀ g
+  unfolding sendsOf sentOf initOf firstOf
+  pcfich-written bits r = same (λ e. pcfich-owned w p ok payload (start .room) e) (λ e k. pcfich-numbered w p ok payload (start .room) e k) r
+
+  -- ---- PHICH
+  pub units-none : Written (unitsSend w p 0) E g₀ g₀
+  unfolding unitsSend
+  units-none = turn-none (λ (i e : ℕ). ownerSends w p (Phich i) e)
+
+  pub units-more :
+      (m : ℕ) {g h : List ℕ} (from end : ℕ) → m < unitsOf (p .cell) → from ≡ sectionBytes (pbchBits (p .cell) (p .frame)) → end ≡ usersStart p
+      → Written (unitsSend w p m) E g₀ g
+      → Written (sendsOf p (PhichChannel m)) (sentOf w p (take (end - from) (drop from payload)) (pairAt (initOf p (PhichChannel m)) (firstOf p (PhichChannel m))) (PhichChannel m)) g h
+      → Written (unitsSend w p (m + 1)) E g₀ h
+  unfolding unitsSend sendsOf sentOf initOf firstOf
+  units-more m from end l ef ee so-far r =
+      turn-more (λ (i e : ℕ). ownerSends w p (Phich i) e) m so-far r (λ e. phich-owned w p ok payload (start .room) m l e)
+      (λ e k. phich-numbered w p ok payload (start .room) m l (take (end - from) (drop from payload)) (hi-slice w p ok payload from end ef ee) e k)
+
+  pub units-end : (m n : ℕ) {g : List ℕ} → m ≤ unitsOf (p .cell) → n ≤ m → n ≡ unitsOf (p .cell) → Written (unitsSend w p m) E g₀ g → Written (unitsSend w p (unitsOf (p .cell))) E g₀ g
+  units-end m n {g} a b c r = let e : m ≡ unitsOf (p .cell) = omega arith in subst (λ (x : ℕ). Written (unitsSend w p x) E g₀ g) e r
+
+  -- ---- users: number i is due, its command at position `at` and its section at byte `from`
+  pub record Going (at from i : ℕ) (g : List ℕ) : Type 0 where
+    pub most : i ≤ p .users .count
+    pub users : From w p at i
+    pub section : from ≡ userStart w p i
+    pub written : Written (usersSend w p i) E g₀ g
+
+  pub users-first : (from : ℕ) → from ≡ usersStart p → Going (p .users .at) from 0 g₀
+  unfolding usersSend
+  users-first from e =
+      record { most = omega arith; users = from-first w p; section = e ∙ sym (user-start-first w p); written = turn-none (λ (i e : ℕ). ownerSends w p (UserOf i) e) }
+
+  module _ {at from i : ℕ} {g : List ℕ} (so : Going at from i g) (more : i < p .users .count) (u : User) (eu : u ≡ userOf (drop at w)) where
+    in-i : i < length (usersOf w p)
+    in-i = omega (arith, valid w p ok .users-count)
+
+    user-is : u ≡ userNumber w p i
+    user-is = eu ∙ from-user w p at i (so .users) in-i more
+
+    pub going-valid : ChannelIn w p (UserChannel u) g
+    going-valid = user-in (so .written) u (rw user-is (user-valid w p ok payload i in-i))
+
+    pub going-ready : UserReady (p .cell) (p .frame) u
+    going-ready = rw user-is (user-ready w p ok payload i in-i (start .room .fits))
+
+    module _ (end : ℕ) (ee : end ≡ from + sectionBytes (userBits (p .cell) (p .frame) u)) where
+      end-is : end ≡ userStart w p (i + 1)
+      end-is = ee ∙ rw (user-is, so .section) (sym (start-next w p ok payload i in-i))
+
+      pub going-room : (from ≤ end) × (end ≤ payloadLength w p)
+      going-room = (omega arith, rw end-is (start-room w p ok payload (i + 1)))
+
+      pub going-next :
+          {h : List ℕ} (to : ℕ) → to ≡ nextOf w at
+          → Written (sendsOf p (UserChannel u)) (sentOf w p (take (end - from) (drop from payload)) (pairAt (initOf p (UserChannel u)) (firstOf p (UserChannel u))) (UserChannel u)) g h
+          → Going to end (i + 1) h
+      unfolding usersSend sendsOf sentOf initOf firstOf
+      going-next to et r =
+          record {
+            most = omega arith;
+            users = rw et (from-next w p at i (so .users) in-i more);
+            section = end-is;
+            written =
+                turn-more (λ (n e : ℕ). ownerSends w p (UserOf n) e) i (so .written) (rw user-is at r)
+                (λ e. user-area w p ok payload payload (start .room) i in-i e)
+                (λ e k. user-value w p ok payload (take (end - from) (drop from payload)) (start .room) i in-i (user-slice w p ok payload i in-i from end (so .section) (ee ∙ rw user-is refl)) e k);
+          }
+
+  pub users-end : {at from i : ℕ} {g : List ℕ} → Going at from i g → p .users .count ≤ i → Written (usersSend w p (length (usersOf w p))) E g₀ g
+  users-end {i = i} so h =
+      let e : i ≡ length (usersOf w p) = omega (arith, so .most, valid w p ok .users-count) in
+      rw (← e) (so .written)
+
+-- ---- all channels, over silence
+module _ (w : List ℕ) (p : Plan) (payload : List ℕ) {g₀ g₁ : List ℕ} (start : Ready w p payload g₀) (quietly : g₁ ≡ table (length g₀) (λ (i : ℕ). 0)) where
+  abbrev Value : ℕ → Element
+  Value = elementNumbered w p payload
+
+  pub silent-ready : Ready w p payload g₁
+  silent-ready =
+      record {
+        answer = start .answer;
+        right = start .right;
+        room =
+            let r = start .room in
+            record { some = r .some; most = r .most; not-three = r .not-three; fits = r .fits; size = rw quietly (table-length (length g₀) (λ (i : ℕ). 0) ∙ r .size) };
+      }
+
+  all-written : {g : List ℕ} → Written (allSend w p) Value g₁ g → g ≡ gridOf w p payload
+  unfolding gridOf
+  all-written r =
+      let n : ℕ = p .cell .ports * placesOf (p .cell) in
+      let z : g₁ ≡ table (3 * (p .cell .ports * placesOf (p .cell))) (λ (i : ℕ). 0) = quietly ∙ ap (λ (m : ℕ). table m (λ (i : ℕ). 0)) (start .room .size) in
+      whole (p .cell .ports * placesOf (p .cell)) (rw z at r) (λ x l h. quiet w p (start .answer) payload x l h)
+      ∙ ap (λ (m : ℕ). table m (λ (i : ℕ). byteIn (Value (i / 3)) (i % 3))) (sym (length-by-port p))
+
+  pub filled-whole :
+      {g₂ g₃ g₄ g₅ g₆ g₇ : List ℕ}
+      → Written (crsRows p (symbols (p .cell))) Value g₁ g₂ → Written (marksSend p) Value g₂ g₃ → Written (pbchSends w p) Value g₃ g₄ → Written (ownerSends w p Pcfich) Value g₄ g₅
+      → Written (unitsSend w p (unitsOf (p .cell))) Value g₅ g₆ → Written (usersSend w p (length (usersOf w p))) Value g₆ g₇ → g₇ ≡ gridOf w p payload
+  unfolding allSend
+  filled-whole a b c d e f =
+      let A = crsRows p (symbols (p .cell)) in
+      let C = pbchSends w p in
+      let F = unitsSend w p (unitsOf (p .cell)) in
+      all-written (
+      over {D = allSend w p} (
+      over {D = λ (x : ℕ). F x || (ownerSends w p Pcfich x || (C x || (marksSend p x || A x)))} (
+      over {D = λ (x : ℕ). ownerSends w p Pcfich x || (C x || (marksSend p x || A x))} (
+      over {D = λ (x : ℕ). C x || (marksSend p x || A x)} (
+      over {D = λ (x : ℕ). marksSend p x || A x} a b (λ x k. refl) (λ x. refl)
+      ) c (λ x k. refl) (λ x. refl)
+      ) d (λ x k. refl) (λ x. refl)
+      ) e (λ x k. refl) (λ x. refl)
+      ) f (λ x k. refl) (λ x. refl)
+      )

@@ -1,0 +1,156 @@
+// build: the grid of a plan and a payload, channel by channel (document 01).
+use channels::Channel;
+use channels::map;
+use plan::Cell;
+use plan::Checked;
+use plan::Plan;
+use plan::Refusal;
+use plan::next_at;
+use plan::user_at;
+ghost use mathlib.Core.Path.{_≡_};
+ghost use Prim.Native.Nat.{ℕ, _<_};
+ghost use lib.ListN.{length};
+ghost use Rattle.plan.specs.Rows.{usersOf};
+ghost use Rattle.plan.specs.Fields.{unitsOf};
+ghost use Rattle.layout.specs.Rules.{inSlot, crsSymbol};
+ghost use Rattle.layout.specs.Owners.{slotOfCell, symbols};
+ghost use Rattle.grid.specs.Writing.{Written};
+ghost use Rattle.subframe.specs.Grid.{elementNumbered, gridOf};
+ghost use Rattle.build.specs.Senders.{crsPorts, crsRows, marksSend, pbchSends, ownerSends, unitsSend, usersSend, Ready};
+ghost use Rattle.layout.specs.declared.Owner.the-variants.{Pcfich};
+ghost use Rattle.build.specs.Build.{builtOf, gridAfter};
+
+// The count of user elements, ports not multiplied, or the refusal.
+pub enum Built {
+    Elements(usize),
+    Refused(Refusal),
+}
+
+// Whether the port's reference signal uses symbol s.
+fn uses(cell: Cell, port: u8, s: u8) -> bool
+    ensures { λ r. ⌜ r ≡ crsSymbol (slotOfCell cell) port (inSlot (slotOfCell cell) s) ⌝ }
+{
+    let slot = layout::slot_length(cell.prefix);
+    let l = layout::in_slot(slot, base::wide(s));
+    if port < 2 {
+        return l == 0 || l + 3 == slot;
+    }
+    l == 1
+}
+
+// The reference signals of all ports in symbol s.
+fn fill_crs_row(plan: &[u8], p: Plan, payload: &[u8], s: u8, grid: &mut [u8])
+    requires { ⌜ Ready (now plan) p (now payload) (now grid) × (s < symbols (p .cell)) ⌝ }
+    ensures { λ _. ⌜ Written (crsPorts p s (p .cell .ports)) (elementNumbered (now (plan .entry)) p (now (payload .entry))) (now (grid .entry)) (now (grid .exit)) ⌝ }
+{
+    let mut q: u8 = 0;
+    while q < p.cell.ports {
+        if uses(p.cell, q, s) {
+            map(p, Channel::Crs(s, q), plan, payload, grid);
+        }
+        q += 1;
+    }
+}
+
+// The reference signals.
+fn fill_crs(plan: &[u8], p: Plan, payload: &[u8], grid: &mut [u8])
+    requires { ⌜ Ready (now plan) p (now payload) (now grid) ⌝ }
+    ensures { λ _. ⌜ Written (crsRows p (symbols (p .cell))) (elementNumbered (now (plan .entry)) p (now (payload .entry))) (now (grid .entry)) (now (grid .exit)) ⌝ }
+{
+    let rows = 2 * layout::slot_length(p.cell.prefix);
+    let mut s: usize = 0;
+    while s < rows {
+        fill_crs_row(plan, p, payload, s as u8, grid);
+        s += 1;
+    }
+}
+
+// The synchronisation marks, where the subframe has them.
+fn fill_marks(plan: &[u8], p: Plan, payload: &[u8], grid: &mut [u8])
+    requires { ⌜ Ready (now plan) p (now payload) (now grid) ⌝ }
+    ensures { λ _. ⌜ Written (marksSend p) (elementNumbered (now (plan .entry)) p (now (payload .entry))) (now (grid .entry)) (now (grid .exit)) ⌝ }
+{
+    if layout::is_marked(p.frame.subframe) {
+        signals::fill_pss(p.cell, grid);
+        signals::fill_sss(p.cell, p.frame, grid);
+    }
+}
+
+// PBCH, where the subframe has it.
+fn fill_pbch(plan: &[u8], p: Plan, payload: &[u8], grid: &mut [u8])
+    requires { ⌜ Ready (now plan) p (now payload) (now grid) ⌝ }
+    ensures { λ _. ⌜ Written (pbchSends (now (plan .entry)) p) (elementNumbered (now (plan .entry)) p (now (payload .entry))) (now (grid .entry)) (now (grid .exit)) ⌝ }
+{
+    if p.frame.subframe == 0 {
+        let end = payload::section_bytes(payload::pbch_bits(p.cell, p.frame));
+        map(p, Channel::Pbch, plan, &payload[0..end], grid);
+    }
+}
+
+// PHICH, unit by unit.
+fn fill_units(plan: &[u8], p: Plan, payload: &[u8], grid: &mut [u8])
+    requires { ⌜ Ready (now plan) p (now payload) (now grid) ⌝ }
+    ensures { λ _. ⌜ Written (unitsSend (now (plan .entry)) p (unitsOf (p .cell))) (elementNumbered (now (plan .entry)) p (now (payload .entry))) (now (grid .entry)) (now (grid .exit)) ⌝ }
+{
+    let units = plan::units(p.cell);
+    let start = payload::section_bytes(payload::pbch_bits(p.cell, p.frame));
+    let end = payload::users_start(p);
+    let mut m: usize = 0;
+    while m < units {
+        map(p, Channel::Phich(m as u8), plan, &payload[start..end], grid);
+        m += 1;
+    }
+}
+
+// The users, each from its part of the payload: a section starts where the one before ends.
+fn fill_users(plan: &[u8], p: Plan, payload: &[u8], grid: &mut [u8])
+    requires { ⌜ Ready (now plan) p (now payload) (now grid) ⌝ }
+    ensures { λ _. ⌜ Written (usersSend (now (plan .entry)) p (length (usersOf (now (plan .entry)) p))) (elementNumbered (now (plan .entry)) p (now (payload .entry))) (now (grid .entry)) (now (grid .exit)) ⌝ }
+{
+    let mut at = p.users.at;
+    let mut start = payload::users_start(p);
+    let mut i: usize = 0;
+    while i < p.users.count {
+        let u = user_at(plan, at);
+        let end = start + payload::section_bytes(payload::user_bits(p.cell, p.frame, u));
+        map(p, Channel::User(u), plan, &payload[start..end], grid);
+        start = end;
+        at = next_at(plan, at);
+        i += 1;
+    }
+}
+
+// Every channel over silence. Whoever calls has the plan from the plan check, and has compared the lengths and the spare bits.
+fn fill(plan: &[u8], p: Plan, payload: &[u8], grid: &mut [u8])
+    requires { ⌜ Ready (now plan) p (now payload) (now grid) ⌝ }
+    ensures { λ _. ⌜ now (grid .exit) ≡ gridOf (now (plan .entry)) p (now (payload .entry)) ⌝ }
+{
+    grid::silence(grid);
+    fill_crs(plan, p, payload, grid);
+    fill_marks(plan, p, payload, grid);
+    fill_pbch(plan, p, payload, grid);
+    map(p, Channel::Pcfich, plan, payload, grid);
+    fill_units(plan, p, payload, grid);
+    fill_users(plan, p, payload, grid);
+}
+
+// BUILD: the grid of a plan and a payload. It goes on only if the plan check answers with a plan.
+pub fn build(plan: &[u8], payload: &[u8], grid: &mut [u8]) -> Built
+    ensures { λ r. ⌜ (r ≡ builtOf (now (plan .entry)) (now (payload .entry)) (now (grid .entry))) × (now (grid .exit) ≡ gridAfter (now (plan .entry)) (now (payload .entry)) (now (grid .entry))) ⌝ }
+{
+    let checked = plan::check(plan);
+    let Checked::Plan(p) = checked else {
+        return Built::Refused(layout::refusal(checked));
+    };
+    if grid.len() != payload::grid_length(p) {
+        return Built::Refused(Refusal::GridLength);
+    }
+    if payload.len() != payload::payload_length(plan, p) {
+        return Built::Refused(Refusal::PayloadLength);
+    }
+    if !payload::spare_clear(plan, p, payload) {
+        return Built::Refused(Refusal::SpareBit);
+    }
+    fill(plan, p, payload, grid);
+    Built::Elements(counts::users_count(plan, p))
+}
