@@ -2,7 +2,7 @@
 -- check's answer and that the slice has the HIs' bits.
 use Prim.Native.Nat.{ℕ, _+_, _/_, _%_, _<_}
 use mathlib.Core.Path.{_≡_, refl, sym, _∙_}
-use mathlib.Core.Bool.{Bool, true, false, _&&_}
+use mathlib.Core.Bool.{true}
 use mathlib.Core.List.{List}
 use Rattle.base.specs.Bits.{bitAt}
 use Rattle.gold.specs.Sequence.{pairAt}

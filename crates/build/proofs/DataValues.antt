@@ -1,12 +1,11 @@
 -- PBCH and the users: the elements that their areas write, and that these are the subframe's. Assumes nothing beyond the plan check's
 -- answer and that the slice has the owner's bits.
 use Prim.Native.Nat.{ℕ, _+_, _*_, _/_, _%_, _<_}
-use mathlib.Core.Path.{_≡_, refl, sym, ap, ap₂, _∙_}
-use mathlib.Core.Bool.{Bool, true, false, _&&_}
+use mathlib.Core.Path.{_≡_, refl, sym, ap, _∙_}
+use mathlib.Core.Bool.{true}
 use mathlib.Core.List.{List}
 use native.Mathlib.Nat.{zero-add, add-comm}
 use native.Mathlib.Omega.{arith}
-use lib.Dec.{eqb}
 use lib.ListN.{length}
 use Rattle.base.specs.Bits.{bitAt}
 use Rattle.gold.specs.Sequence.{c, pairAt}
@@ -21,15 +20,14 @@ use Rattle.plan.specs.Rows.{usersOf}
 use Rattle.plan.specs.declared.User.{User}
 use Rattle.plan.specs.declared.Plan.{Plan}
 use Rattle.plan.specs.declared.Checked.the-variants.{Plan as accepted}
-use Rattle.layout.specs.declared.Owner.{Owner}
 use Rattle.layout.specs.declared.Owner.the-variants.{Pbch, User as UserOf}
-use Rattle.places.specs.Places.{symbolOf, carrierOf, placesOf, ownsAt, countOf, indexOf}
+use Rattle.places.specs.Places.{placesOf, ownsAt, countOf, indexOf}
 use Rattle.grid.specs.Writing.{sends, Room}
 use Rattle.subframe.specs.Elements.{elementFor, ownerBit, pbchFirst, pbchSymbol, userNumber, userInit, userSymbol}
 use Rattle.subframe.specs.Grid.{elementNumbered}
 use Rattle.subframe.proofs.Occurs.{pbch-occurs, user-occurs}
 use Rattle.subframe.proofs.OwnerBits.{symbols-of-bits}
-use Rattle.data.specs.Areas.{areaAt, areaIndex, areaSends, areaElement, pbchArea, userArea}
+use Rattle.data.specs.Areas.{areaIndex, areaSends, areaElement, pbchArea, userArea}
 use Rattle.data.proofs.AreaOwners.{pbch-place, pbch-index, user-place, user-index}
 use Rattle.build.specs.Senders.{active, ownerSends}
 use Rattle.build.proofs.Some.{and-true}

@@ -1,15 +1,14 @@
 -- The elements of an accepted plan's grid by their numbers: an element's port and place, and its value by the place's owner. Assumes
 -- nothing beyond the plan check's answer.
-use Prim.Native.Nat.{ℕ, _+_, _*_, _/_, _%_, _<_}
-use mathlib.Core.Path.{_≡_, refl, sym, ap, _∙_}
-use mathlib.Core.Bool.{Bool, true, false, _&&_}
+use Prim.Native.Nat.{ℕ, _*_, _/_, _%_, _<_}
+use mathlib.Core.Path.{_≡_, sym, _∙_}
+use mathlib.Core.Bool.{true}
 use mathlib.Core.List.{List}
 use native.Mathlib.Nat.{mod-lt, div-lt-iff-lt-mul}
 use native.Mathlib.Omega.{arith}
 use borrow.Author.Tests.{eqb-true}
 use lib.Dec.{eqb}
 use Rattle.base.specs.declared.Pair.{Pair}
-use Rattle.base.specs.declared.Element.{Element}
 use Rattle.precoding.specs.Layers.{Occurs}
 use Rattle.precoding.specs.Matrices.{precoded}
 use Rattle.precoding.specs.Places.{ownPort, otherPort, placed}

@@ -1,12 +1,12 @@
 -- WHERE NOTHING IS WRITTEN THE SUBFRAME IS SILENT: every element that no channel writes belongs to an owner that sends nothing there.
 -- Assumes nothing beyond the plan check's answer.
 use Prim.Native.Nat.{ℕ, _+_, _*_, _/_, _%_, _<_}
-use mathlib.Core.Path.{_≡_, refl, sym, ap, _∙_}
+use mathlib.Core.Path.{_≡_, refl, ap, _∙_}
 use mathlib.Core.Bool.{Bool, true, false, _&&_, _||_}
 use mathlib.Core.List.{List}
 use native.Mathlib.Decide.{ℕ-discrete}
 use native.Mathlib.Omega.{arith}
-use borrow.Author.Tests.{eq-eqb, ne-eqb, ltb-true}
+use borrow.Author.Tests.{ne-eqb, ltb-true}
 use lib.Dec.{eqb, ltb}
 use lib.ListN.{length}
 use Rattle.base.specs.declared.Pair.{Pair}
@@ -23,22 +23,21 @@ use Rattle.plan.specs.Rows.{usersOf}
 use Rattle.plan.specs.declared.Plan.{Plan}
 use Rattle.plan.specs.declared.Checked.the-variants.{Plan as accepted}
 use Rattle.layout.specs.Rules.{slotOf, inSlot, crsSymbol, crs, crsOf, marked, pss, sss, pbch, pbchArea, phich}
-use Rattle.layout.specs.Owners.{slotOfCell, symbols, owns, fixedRule, userRule, userHas}
-use Rattle.layout.specs.declared.Mark.{Mark}
+use Rattle.layout.specs.Owners.{slotOfCell, symbols, owns, fixedRule, userRule}
 use Rattle.layout.specs.declared.Mark.the-variants.{Primary, Secondary}
 use Rattle.layout.specs.declared.Owner.{Owner}
 use Rattle.layout.specs.declared.Owner.the-variants.{Crs, Sync, Pbch, Pcfich, Phich, User as UserOf, Held, Idle}
 use Rattle.layout.proofs.OneOwner.{one-owner}
 use Rattle.layout.proofs.Partition.{has-index}
 use Rattle.places.specs.Places.{placeNumber, symbolOf, carrierOf, placesOf, ownsAt, countOf, indexOf}
-use Rattle.places.proofs.Counts.{clash, by-test}
+use Rattle.places.proofs.Counts.{clash}
 use Rattle.places.proofs.Listing.{pcfich-count, phich-count}
 use Rattle.grid.specs.Writing.{sends}
 use Rattle.grid.proofs.Sending.{silent-port}
 use Rattle.subframe.specs.Elements.{elementFor, crsElement, pssElement, sssElement, pbchSymbol, pcfichSymbol, phichSum, userNumber, userSymbol}
 use Rattle.subframe.specs.Grid.{elementNumbered}
 use Rattle.subframe.proofs.Occurs.{even-occurs, pbch-occurs, user-occurs}
-use Rattle.signals.specs.Signals.{crsSends, markSends}
+use Rattle.signals.specs.Signals.{markSends}
 use Rattle.signals.proofs.SignalOwners.{crs-covers, pss-sends, sss-sends}
 use Rattle.build.specs.Senders.{active, ownerSends, crsIn, crsPorts, crsRows, marksSend, pbchSends, unitsSend, usersSend, allSend}
 use Rattle.build.proofs.Some.{and-true, or-false, none-at}

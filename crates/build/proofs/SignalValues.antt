@@ -1,7 +1,7 @@
 -- Reference and synchronisation signals: what they write is the subframe's. Assumes nothing beyond the plan check's answer.
 use Prim.Native.Nat.{ℕ, _+_, _-_, _*_, _/_, _%_, _<_}
-use mathlib.Core.Path.{_≡_, refl, sym, ap, _∙_}
-use mathlib.Core.Bool.{Bool, true, false, _&&_}
+use mathlib.Core.Path.{_≡_, sym, ap, _∙_}
+use mathlib.Core.Bool.{true}
 use mathlib.Core.List.{List}
 use Rattle.gold.specs.Sequence.{pairAt}
 use Rattle.crs.specs.Crs.{crsInit}
@@ -12,13 +12,11 @@ use Rattle.layout.specs.Rules.{slotOf, inSlot, crsSymbol, marked}
 use Rattle.layout.specs.Owners.{slotOfCell, owns}
 use Rattle.layout.specs.declared.Mark.the-variants.{Primary, Secondary}
 use Rattle.layout.specs.declared.Owner.the-variants.{Crs, Sync}
-use Rattle.places.specs.Places.{symbolOf, carrierOf, placesOf, ownsAt}
+use Rattle.places.specs.Places.{carrierOf, placesOf, ownsAt}
 use Rattle.subframe.specs.Elements.{crsElement, elementFor}
 use Rattle.subframe.specs.Grid.{elementNumbered}
 use Rattle.signals.specs.Signals.{crsSends, crsSent, markSends, pssSent, sssSent}
 use Rattle.signals.proofs.SignalOwners.{crs-sends, crs-value, pss-sends, sss-sends, pss-value, sss-value}
-use Rattle.build.specs.Senders.{crsIn}
-use Rattle.build.proofs.Some.{and-true}
 use Rattle.build.proofs.Numbered.{numbered}
 
 module _ (w : List ℕ) (p : Plan) (ok : checkOf w ≡ accepted p) (payload : List ℕ) where

@@ -1,8 +1,7 @@
 -- Each section as a part of the payload's slice: its bits are its owner's. Assumes nothing beyond the plan check's answer.
 use Prim.Native.Nat.{ℕ, zero, suc, _+_, _-_, _*_, _/_, _%_, _^_, _≤_, _<_}
-use mathlib.Core.Path.{_≡_, refl, sym, ap, ap₂, _∙_}
+use mathlib.Core.Path.{_≡_, sym, ap, ap₂, _∙_}
 use mathlib.Core.List.{List, [], _∷_}
-use native.Mathlib.Nat.{not-suc-le-zero}
 use native.Mathlib.Omega.{arith}
 use lib.ListN.{length, getD, take, drop}
 use lib.Seq.{getD-take, getD-drop, drop-cons}
@@ -25,7 +24,7 @@ use Rattle.payload.specs.Sections.{sectionBytes, bytesOf, startOf, span, sectio
 use Rattle.payload.specs.Payload.{pbchBits, userBits, heads, userSections, sections, payloadLength, usersStart}
 use Rattle.payload.specs.Bits.{ownerBits}
 use Rattle.payload.specs.Loops.{UserReady}
-use Rattle.payload.proofs.Sections.{length-is, userStart, user-start, user-start-first, user-start-next, user-bits-at, users-length}
+use Rattle.payload.proofs.Sections.{length-is, userStart, user-start, user-start-next, user-bits-at}
 use Rattle.subframe.specs.Elements.{ownerBit, hiBit, userNumber}
 use Rattle.subframe.proofs.OwnerBits.{pbch-size, user-size, user-places}
 use Rattle.data.proofs.AreaOwners.{each-at}

@@ -1,18 +1,16 @@
 -- What the loops and the calls in turn have written. Assumes nothing beyond what filling needs.
 use Prim.Native.Nat.{ℕ, _+_, _-_, _*_, _/_, _%_, _≤_, _<_}
 use mathlib.Core.Path.{_≡_, refl, sym, ap, subst, _∙_}
-use mathlib.Core.Bool.{Bool, true, false, _&&_, _||_}
+use mathlib.Core.Bool.{Bool, true, false, _||_}
 use mathlib.Core.List.{List}
 use native.Mathlib.Omega.{arith}
-use borrow.Author.Tests.{eqb-true, eq-eqb, ne-eqb}
-use lib.Dec.{eqb}
+use borrow.Author.Tests.{eq-eqb, ne-eqb}
 use lib.ListN.{length, take, drop}
 use Rattle.base.specs.declared.Element.{Element}
 use Rattle.base.specs.Bytes.{byteIn}
 use Rattle.base.specs.Tables.{table}
 use Rattle.base.proofs.Tables.{table-length}
 use Rattle.gold.specs.Sequence.{pairAt}
-use Rattle.modulation.specs.Symbols.{unitOf}
 use Rattle.plan.specs.Check.{checkOf}
 use Rattle.plan.specs.Commands.{userOf}
 use Rattle.plan.specs.Fields.{unitsOf}
@@ -24,25 +22,23 @@ use Rattle.plan.specs.declared.Checked.the-variants.{Plan as accepted}
 use Rattle.plan.proofs.Valid.{valid}
 use Rattle.layout.specs.Rules.{inSlot, crsSymbol, marked}
 use Rattle.layout.specs.Owners.{slotOfCell, symbols}
-use Rattle.layout.specs.declared.Owner.the-variants.{Pbch, Pcfich, Phich, User as UserOf}
+use Rattle.layout.specs.declared.Owner.the-variants.{Pcfich, Phich, User as UserOf}
 use Rattle.places.specs.Places.{placesOf}
 use Rattle.payload.specs.Sections.{sectionBytes}
-use Rattle.payload.specs.Payload.{pbchBits, userBits, gridLength, payloadLength, usersStart}
+use Rattle.payload.specs.Payload.{pbchBits, userBits, payloadLength, usersStart}
 use Rattle.payload.specs.Loops.{UserReady}
 use Rattle.payload.proofs.Sections.{userStart, user-start-first}
-use Rattle.grid.specs.Writing.{Written, Room}
+use Rattle.grid.specs.Writing.{Written}
 use Rattle.grid.proofs.Writing.{none, same, over, room-kept, whole}
-use Rattle.subframe.specs.Elements.{userNumber, userInit}
+use Rattle.subframe.specs.Elements.{userNumber}
 use Rattle.subframe.specs.Grid.{elementNumbered, gridOf}
 use Rattle.subframe.proofs.Bytes.{length-by-port}
-use Rattle.data.specs.Areas.{userArea, areaSends, areaElement}
 use Rattle.signals.specs.Signals.{markSends, pssSent, sssSent}
-use Rattle.signals.specs.Rows.{MarkIn}
 use Rattle.channels.specs.declared.Channel.{Channel}
 use Rattle.channels.specs.declared.Channel.the-variants.{Crs, Pbch as PbchChannel, Pcfich as PcfichChannel, Phich as PhichChannel, User as UserChannel}
 use Rattle.channels.specs.Channels.{initOf, firstOf, sendsOf, sentOf, Among, ChannelIn}
 use Rattle.build.specs.Senders.{someBelow, ownerSends, crsIn, crsPorts, crsRows, marksSend, pbchSends, unitsSend, usersSend, allSend, Ready}
-use Rattle.build.proofs.Some.{or-cases, and-true, some-none, some-more}
+use Rattle.build.proofs.Some.{some-none, some-more}
 use Rattle.build.proofs.DataValues.{pbch-area, pbch-value, user-area, user-value}
 use Rattle.build.proofs.SignalValues.{crs-numbered, pss-numbered, sss-numbered}
 use Rattle.build.proofs.ControlValues.{pcfich-owned, pcfich-numbered, phich-owned, phich-numbered}

@@ -1,5 +1,5 @@
 -- A place's elements on the ports with a term, one writing for each of the two. Assumes nothing.
-use Prim.Native.Nat.{ℕ, _+_, _*_, _/_, _%_, _^_, _≤_, _<_}
+use Prim.Native.Nat.{ℕ, _+_, _*_, _/_, _%_, _^_, _<_}
 use mathlib.Core.Path.{_≡_, refl, sym, ap, ap₂, _∙_, subst}
 use mathlib.Core.Bool.{Bool, true, false, cond, _&&_, _||_}
 use mathlib.Core.Logic.{_⊎_, inl, inr}
@@ -13,7 +13,7 @@ use lib.ListN.{length}
 use Rattle.base.specs.declared.Pair.{Pair}
 use Rattle.base.specs.declared.Element.{Element}
 use Rattle.base.specs.Bytes.{elementOf, silent}
-use Rattle.precoding.specs.Layers.{Occurs, one, two, four}
+use Rattle.precoding.specs.Layers.{one, two, four}
 use Rattle.precoding.specs.Matrices.{unitOn}
 use Rattle.precoding.specs.Places.{ownPort, otherPort, partnerOf, onPort}
 use Rattle.precoding.proofs.Ports.{on-own, on-other, on-none, own-inside}

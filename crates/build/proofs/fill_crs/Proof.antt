@@ -1,10 +1,8 @@
-use Prim.Native.Nat.{ℕ, _+_, _-_, _*_, _≤_, _<_}
-use mathlib.Core.Path.{_≡_, refl, sym, ap, _∙_}
-use mathlib.Core.Logic.{⊎-elim}
+-- `build::fill_crs` meets its contract: symbol after symbol. Assumes nothing.
+use Prim.Native.Nat.{ℕ, _-_, _*_, _≤_}
+use mathlib.Core.Path.{ap}
 use native.Mathlib.Omega.{arith}
-use lib.ListN.{length}
 use Rattle.grid.specs.Writing.{Written}
-use Rattle.grid.proofs.Writing.{room-kept}
 use Rattle.subframe.specs.Grid.{elementNumbered}
 use Rattle.layout.specs.Owners.{symbols}
 use Rattle.places.proofs.Numbers.{symbols-most}
@@ -12,10 +10,6 @@ use Rattle.build.specs.Senders.{crsRows}
 use Rattle.build.proofs.Turns.{rows-none, rows-more, rows-end, ready-kept}
 use Rattle.build.proofs.fill_crs.Statement.{statement}
 use Rattle.build.proofs.fill_crs.Tie as tie
-use Rattle.build.proofs.fill_crs.Reads as reads
-use Rattle.build.proofs.fill_crs.Lts as lts
-use Rattle.build.proofs.fill_crs_row.Reads as fill-crs-row-reads
-use Rattle.layout.proofs.slot_length.Reads as slot-length-reads
 
 abbrev Inv-loop : tie.InvT-loop
 Inv-loop plan p payload grid₀ rows s₀ grid s = (s ≤ symbols (p .cell)) × Written (crsRows p s) (elementNumbered plan p payload) grid₀ grid
@@ -23,43 +17,33 @@ Inv-loop plan p payload grid₀ rows s₀ grid s = (s ≤ symbols (p .cell)) × 
 abbrev μ-loop : tie.MeasureT-loop
 μ-loop plan p payload grid₀ rows s₀ grid s = symbols (p .cell) - s
 
--- src/lib.rt:60:20
 slot-length-requires : tie.Need-slot-length-requires Inv-loop μ-loop
 slot-length-requires c κs = tt
 
--- src/lib.rt:60:16
 mul-rows : tie.Need-mul-rows Inv-loop μ-loop
 mul-rows c = omega (arith, c .slot-length .ensures, symbols-most (c .before .before .before .before .args .p .cell))
 
--- src/lib.rt:62:5
 loop-holds : tie.Need-loop-holds Inv-loop μ-loop
 loop-holds c = (omega arith, rows-none (c .before .before .before .before .args .plan .now) (c .before .before .before .before .args .p) (c .before .before .before .before .args .payload .now) (c .before .before .before .before .pre))
 
--- src/lib.rt:63:40
 cast-fill-crs-row : tie.Need-cast-fill-crs-row Inv-loop μ-loop
 cast-fill-crs-row c = omega (arith, c .before .loop .inv .0, symbols-most (c .before .before .before .before .before .before .args .p .cell))
 
--- src/lib.rt:63:9
 fill-crs-row-requires : tie.Need-fill-crs-row-requires Inv-loop μ-loop
 fill-crs-row-requires c κs = (ready-kept (c .before .before .before .before .before .before .before .args .plan .now) (c .before .before .before .before .before .before .before .args .p) (c .before .before .before .before .before .before .before .args .payload .now) (c .before .before .before .before .before .before .before .pre) (c .before .before .loop .inv .1), omega (arith, c .before .loop-test .taken, c .before .before .before .slot-length .ensures))
 
--- src/lib.rt:64:9
 add-s : tie.Need-add-s Inv-loop μ-loop
 add-s c = omega (arith, c .before .before .before .before .before .loop .inv .0, symbols-most (c .before .before .before .before .before .before .before .before .before .before .args .p .cell))
 
--- src/lib.rt:62:5
 loop-less : tie.Need-loop-less Inv-loop μ-loop
 loop-less c = omega (arith, c .before .before .before .before .loop-test .taken, c .before .before .before .before .before .before .slot-length .ensures)
 
--- src/lib.rt:62:5
 loop-again : tie.Need-loop-again Inv-loop μ-loop
 loop-again c = (omega (arith, c .before .before .before .before .loop-test .taken, c .before .before .before .before .before .before .slot-length .ensures), rows-more (c .before .before .before .before .before .before .before .before .before .before .args .plan .now) (c .before .before .before .before .before .before .before .before .before .before .args .p) (c .before .before .before .before .before .before .before .before .before .before .args .payload .now) (c .before .before .before .before .before .before .before .before .before .before .pre) (c .before .before .before .before .before .loop .s) (c .before .before .before .before .before .loop .inv .1) (c .before .before .fill-crs-row .ensures))
 
--- src/lib.rt:56:1
 same-length : tie.Need-same-length Inv-loop μ-loop
 same-length c = c .before .loop .inv .1 .size
 
--- src/lib.rt:56:1
 returns : tie.Need-returns Inv-loop μ-loop
 returns c = rows-end (c .before .before .before .before .before .before .args .plan .now) (c .before .before .before .before .before .before .args .p) (c .before .before .before .before .before .before .args .payload .now) (c .before .before .before .before .before .before .pre) (c .before .loop .s) _ (c .before .loop .inv .0) (c .loop-test .left) (ap (λ (x : ℕ). 2 * x) (c .before .before .slot-length .ensures)) (c .before .loop .inv .1)
 

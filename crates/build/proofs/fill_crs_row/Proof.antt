@@ -1,20 +1,14 @@
-use Prim.Native.Nat.{ℕ, _+_, _-_, _*_, _≤_, _<_}
-use mathlib.Core.Path.{_≡_, refl, sym, ap, _∙_}
+-- `build::fill_crs_row` meets its contract: port after port. Assumes nothing.
+use Prim.Native.Nat.{_-_, _≤_}
+use mathlib.Core.Path.{sym, _∙_}
 use mathlib.Core.Logic.{⊎-elim}
 use native.Mathlib.Omega.{arith}
-use lib.ListN.{length}
 use Rattle.grid.specs.Writing.{Written}
-use Rattle.grid.proofs.Writing.{room-kept}
 use Rattle.subframe.specs.Grid.{elementNumbered}
 use Rattle.build.specs.Senders.{crsPorts}
-use Rattle.channels.specs.declared.Channel.the-variants.{Crs}
 use Rattle.build.proofs.Turns.{crs-none, crs-pass, crs-more, crs-end, crs-in}
 use Rattle.build.proofs.fill_crs_row.Statement.{statement}
 use Rattle.build.proofs.fill_crs_row.Tie as tie
-use Rattle.build.proofs.fill_crs_row.Reads as reads
-use Rattle.build.proofs.fill_crs_row.Lts as lts
-use Rattle.build.proofs.uses.Reads as uses-reads
-use Rattle.channels.proofs.map.Reads as map-reads
 
 abbrev Inv-loop : tie.InvT-loop
 Inv-loop plan p payload s grid₀ q₀ grid q = (q ≤ p .cell .ports) × Written (crsPorts p s q) (elementNumbered plan p payload) grid₀ grid
@@ -22,35 +16,27 @@ Inv-loop plan p payload s grid₀ q₀ grid q = (q ≤ p .cell .ports) × Writte
 abbrev μ-loop : tie.MeasureT-loop
 μ-loop plan p payload s grid₀ q₀ grid q = p .cell .ports - q
 
--- src/lib.rt:47:5
 loop-holds : tie.Need-loop-holds Inv-loop μ-loop
 loop-holds c = (omega arith, crs-none (c .before .before .before .args .plan .now) (c .before .before .before .args .p) (c .before .before .before .args .payload .now) (c .before .before .before .pre .0) (c .before .before .before .args .s))
 
--- src/lib.rt:48:12
 uses-requires : tie.Need-uses-requires Inv-loop μ-loop
 uses-requires c κs = tt
 
--- src/lib.rt:49:13
 map-requires : tie.Need-map-requires Inv-loop μ-loop
 map-requires c κs = crs-in (c .before .before .before .before .before .before .before .before .before .args .plan .now) (c .before .before .before .before .before .before .before .before .before .args .p) (c .before .before .before .before .before .before .before .before .before .args .payload .now) (c .before .before .before .before .before .before .before .before .before .pre .0) (c .before .before .before .before .before .loop .inv .1) (c .before .before .before .before .before .before .before .before .before .args .s) (c .before .before .before .before .before .loop .q) (c .before .before .before .before .before .before .before .before .before .pre .1) (c .before .before .before .if1 .taken)
 
--- src/lib.rt:51:9
 add-q : tie.Need-add-q Inv-loop μ-loop
 add-q c = omega (arith, c .before .before .if1 .taken, c .before .before .before .before .before .before .before .before .pre .0 .room .most)
 
--- src/lib.rt:47:5
 loop-less : tie.Need-loop-less Inv-loop μ-loop
 loop-less c = omega (arith, c .before .before .if1 .taken)
 
--- src/lib.rt:47:5
 loop-again : tie.Need-loop-again Inv-loop μ-loop
 loop-again c = (omega (arith, c .before .before .if1 .taken), ⊎-elim (λ x. rw (x .5) (crs-more (c .before .before .before .before .before .before .before .before .args .plan .now) (c .before .before .before .before .before .before .before .before .args .p) (c .before .before .before .before .before .before .before .before .args .payload .now) (c .before .before .before .before .before .before .before .before .pre .0) (c .before .before .before .before .before .before .before .before .args .s) (c .before .before .before .before .loop .q) (c .before .before .before .before .loop .inv .1) (c .before .before .before .before .before .before .before .before .args .payload .now) (sym (c .before .uses .ensures) ∙ x .0 .taken) (c .before .before .if1 .taken) (x .2 .ensures))) (λ x. rw (x .1) (crs-pass (c .before .before .before .before .before .before .before .before .args .plan .now) (c .before .before .before .before .before .before .before .before .args .p) (c .before .before .before .before .before .before .before .before .args .payload .now) (c .before .before .before .before .before .before .before .before .pre .0) (c .before .before .before .before .before .before .before .before .args .s) (c .before .before .before .before .loop .q) (c .before .before .before .before .loop .inv .1) (sym (c .before .uses .ensures) ∙ x .0 .left))) (c .if2 .came))
 
--- src/lib.rt:42:1
 same-length : tie.Need-same-length Inv-loop μ-loop
 same-length c = c .before .before .loop .inv .1 .size
 
--- src/lib.rt:42:1
 returns : tie.Need-returns Inv-loop μ-loop
 returns c = crs-end (c .before .before .before .before .before .before .args .plan .now) (c .before .before .before .before .before .before .args .p) (c .before .before .before .before .before .before .args .payload .now) (c .before .before .before .before .before .before .pre .0) (c .before .before .before .before .before .before .args .s) (c .before .before .loop .q) (c .before .before .loop .inv .0) (c .if1 .left) (c .before .before .loop .inv .1)
 

@@ -1,13 +1,10 @@
-use Prim.Native.Nat.{ℕ, _+_, _-_, _*_, _≤_, _<_}
-use mathlib.Core.Path.{_≡_, refl, sym, ap, _∙_}
-use mathlib.Core.Logic.{⊎-elim}
+-- `build::fill_units` meets its contract: unit after unit. Assumes nothing.
+use Prim.Native.Nat.{_-_, _≤_}
+use mathlib.Core.Path.{ap, _∙_}
 use native.Mathlib.Omega.{arith}
-use lib.ListN.{length}
 use Rattle.grid.specs.Writing.{Written}
-use Rattle.grid.proofs.Writing.{room-kept}
 use Rattle.subframe.specs.Grid.{elementNumbered}
 use Rattle.plan.specs.Fields.{unitsOf}
-use Rattle.channels.specs.declared.Channel.the-variants.{Phich}
 use Rattle.payload.specs.Sections.{sectionBytes}
 use Rattle.places.proofs.Listing.{ranges}
 use Rattle.build.specs.Senders.{unitsSend}
@@ -15,13 +12,6 @@ use Rattle.build.proofs.Slices.{heads-room}
 use Rattle.build.proofs.Turns.{units-none, units-more, units-end, unit-in}
 use Rattle.build.proofs.fill_units.Statement.{statement}
 use Rattle.build.proofs.fill_units.Tie as tie
-use Rattle.build.proofs.fill_units.Reads as reads
-use Rattle.build.proofs.fill_units.Lts as lts
-use Rattle.channels.proofs.map.Reads as map-reads
-use Rattle.payload.proofs.pbch_bits.Reads as pbch-bits-reads
-use Rattle.payload.proofs.section_bytes.Reads as section-bytes-reads
-use Rattle.payload.proofs.users_start.Reads as users-start-reads
-use Rattle.plan.proofs.units.Reads as units-reads
 
 abbrev Inv-loop : tie.InvT-loop
 Inv-loop plan p payload grid₀ units start end m₀ grid m = (m ≤ unitsOf (p .cell)) × Written (unitsSend plan p m) (elementNumbered plan p payload) grid₀ grid
@@ -29,63 +19,48 @@ Inv-loop plan p payload grid₀ units start end m₀ grid m = (m ≤ unitsOf (p 
 abbrev μ-loop : tie.MeasureT-loop
 μ-loop plan p payload grid₀ units start end m₀ grid m = unitsOf (p .cell) - m
 
--- src/lib.rt:95:9
 units-requires : tie.Need-units-requires Inv-loop μ-loop
 units-requires c κs = tt
 
--- src/lib.rt:96:40
 pbch-bits-requires : tie.Need-pbch-bits-requires Inv-loop μ-loop
 pbch-bits-requires c κs = tt
 
--- src/lib.rt:96:9
 section-bytes-requires : tie.Need-section-bytes-requires Inv-loop μ-loop
 section-bytes-requires c κs = tt
 
--- src/lib.rt:97:9
 users-start-requires : tie.Need-users-start-requires Inv-loop μ-loop
 users-start-requires c κs = tt
 
--- src/lib.rt:99:5
 loop-holds : tie.Need-loop-holds Inv-loop μ-loop
 loop-holds c = (omega arith, units-none (c .before .before .before .before .before .before .before .args .plan .now) (c .before .before .before .before .before .before .before .args .p) (c .before .before .before .before .before .before .before .args .payload .now) (c .before .before .before .before .before .before .before .pre))
 
--- src/lib.rt:100:31
 cast-t12 : tie.Need-cast-t12 Inv-loop μ-loop
 cast-t12 c = omega (arith, c .before .loop .inv .0, c .loop-test .taken, c .before .before .before .before .before .units .ensures, ranges (c .before .before .before .before .before .before .before .before .before .args .plan .now) (c .before .before .before .before .before .before .before .before .before .args .p) (c .before .before .before .before .before .before .before .before .before .pre .answer) .2)
 
--- src/lib.rt:100:47
 sub-map : tie.Need-sub-map Inv-loop μ-loop
 sub-map c = let h = heads-room (c .before .before .before .before .before .before .before .before .before .args .plan .now) (c .before .before .before .before .before .before .before .before .before .args .p) (c .before .before .before .before .before .before .before .before .before .pre .answer) (c .before .before .before .before .before .before .before .before .before .args .payload .now) _ _ (c .before .before .before .section-bytes .ensures ∙ ap sectionBytes (c .before .before .before .before .pbch-bits .ensures)) (c .before .before .users-start .ensures) in omega (arith, h .0)
 
--- src/lib.rt:100:47
 part-map-start : tie.Need-part-map-start Inv-loop μ-loop
 part-map-start c = let h = heads-room (c .before .before .before .before .before .before .before .before .before .args .plan .now) (c .before .before .before .before .before .before .before .before .before .args .p) (c .before .before .before .before .before .before .before .before .before .pre .answer) (c .before .before .before .before .before .before .before .before .before .args .payload .now) _ _ (c .before .before .before .section-bytes .ensures ∙ ap sectionBytes (c .before .before .before .before .pbch-bits .ensures)) (c .before .before .users-start .ensures) in omega (arith, h .0)
 
--- src/lib.rt:100:47
 part-map-end : tie.Need-part-map-end Inv-loop μ-loop
 part-map-end c = let h = heads-room (c .before .before .before .before .before .before .before .before .before .args .plan .now) (c .before .before .before .before .before .before .before .before .before .args .p) (c .before .before .before .before .before .before .before .before .before .pre .answer) (c .before .before .before .before .before .before .before .before .before .args .payload .now) _ _ (c .before .before .before .section-bytes .ensures ∙ ap sectionBytes (c .before .before .before .before .pbch-bits .ensures)) (c .before .before .users-start .ensures) in omega (arith, h .1, c .before .before .before .before .before .before .before .before .before .pre .right .size)
 
--- src/lib.rt:100:9
 map-requires : tie.Need-map-requires Inv-loop μ-loop
 map-requires c κs = unit-in (c .before .before .before .before .before .before .before .before .before .before .before .args .plan .now) (c .before .before .before .before .before .before .before .before .before .before .before .args .p) (c .before .before .before .before .before .before .before .before .before .before .before .args .payload .now) (c .before .before .before .before .before .before .before .before .before .before .before .pre) (c .before .before .before .loop .inv .1) (c .before .before .before .loop .m) (omega (arith, c .before .before .loop-test .taken, c .before .before .before .before .before .before .before .units .ensures))
 
--- src/lib.rt:101:9
 add-m : tie.Need-add-m Inv-loop μ-loop
 add-m c = omega (arith, c .before .before .before .before .before .before .loop .inv .0, c .before .before .before .before .before .loop-test .taken, c .before .before .before .before .before .before .before .before .before .before .units .ensures, ranges (c .before .before .before .before .before .before .before .before .before .before .before .before .before .before .args .plan .now) (c .before .before .before .before .before .before .before .before .before .before .before .before .before .before .args .p) (c .before .before .before .before .before .before .before .before .before .before .before .before .before .before .pre .answer) .2)
 
--- src/lib.rt:99:5
 loop-less : tie.Need-loop-less Inv-loop μ-loop
 loop-less c = omega (arith, c .before .before .before .before .before .loop-test .taken, c .before .before .before .before .before .before .before .before .before .before .units .ensures)
 
--- src/lib.rt:99:5
 loop-again : tie.Need-loop-again Inv-loop μ-loop
 loop-again c = (omega (arith, c .before .before .before .before .before .loop-test .taken, c .before .before .before .before .before .before .before .before .before .before .units .ensures), units-more (c .before .before .before .before .before .before .before .before .before .before .before .before .before .before .args .plan .now) (c .before .before .before .before .before .before .before .before .before .before .before .before .before .before .args .p) (c .before .before .before .before .before .before .before .before .before .before .before .before .before .before .args .payload .now) (c .before .before .before .before .before .before .before .before .before .before .before .before .before .before .pre) (c .before .before .before .before .before .before .loop .m) _ _ (omega (arith, c .before .before .before .before .before .loop-test .taken, c .before .before .before .before .before .before .before .before .before .before .units .ensures)) (c .before .before .before .before .before .before .before .before .section-bytes .ensures ∙ ap sectionBytes (c .before .before .before .before .before .before .before .before .before .pbch-bits .ensures)) (c .before .before .before .before .before .before .before .users-start .ensures) (c .before .before .before .before .before .before .loop .inv .1) (c .before .before .map .ensures))
 
--- src/lib.rt:91:1
 same-length : tie.Need-same-length Inv-loop μ-loop
 same-length c = c .before .loop .inv .1 .size
 
--- src/lib.rt:91:1
 returns : tie.Need-returns Inv-loop μ-loop
 returns c = units-end (c .before .before .before .before .before .before .before .before .before .args .plan .now) (c .before .before .before .before .before .before .before .before .before .args .p) (c .before .before .before .before .before .before .before .before .before .args .payload .now) (c .before .before .before .before .before .before .before .before .before .pre) (c .before .loop .m) _ (c .before .loop .inv .0) (c .loop-test .left) (c .before .before .before .before .before .units .ensures) (c .before .loop .inv .1)
 

@@ -1,3 +1,4 @@
+-- `build::uses` meets its contract: the tests of a symbol, in turn. Assumes nothing.
 use Rattle.build.proofs.Pilots.{uses-first, uses-third, uses-second, in-slot-le}
 use Prim.Native.Nat.{ℕ}
 use mathlib.Core.Path.{ap₂, _∙_}
@@ -5,40 +6,27 @@ use native.Mathlib.Omega.{arith}
 use Rattle.layout.specs.Rules.{inSlot}
 use Rattle.build.proofs.Pilots.{uses-first, uses-third, uses-second}
 use Rattle.places.proofs.Numbers.{slot-length}
-use borrow.Author.Needs.{needs}
 use Rattle.build.proofs.uses.Statement.{statement}
 use Rattle.build.proofs.uses.Tie as tie
-use Rattle.build.proofs.uses.Reads as reads
-use Rattle.build.proofs.uses.Lts as lts
-use Rattle.base.proofs.wide.Reads as wide-reads
-use Rattle.layout.proofs.in_slot.Reads as in-slot-reads
-use Rattle.layout.proofs.slot_length.Reads as slot-length-reads
 
--- src/lib.rt:33:9
 slot-length-requires : tie.Need-slot-length-requires
 slot-length-requires c κs = tt
 
--- src/lib.rt:34:35
 wide-requires : tie.Need-wide-requires
 wide-requires c κs = tt
 
--- src/lib.rt:34:9
 in-slot-requires : tie.Need-in-slot-requires
 in-slot-requires c κs = tt
 
--- src/lib.rt:36:26
 add-result : tie.Need-add-result
 add-result c = omega (arith, c .before .before .in-slot .ensures, c .before .before .before .wide .ensures, in-slot-le (c .before .before .before .before .slot-length .result) (c .before .before .before .wide .result), c .before .before .before .before .before .fits .s)
 
--- src/lib.rt:36:9
 returns : tie.Need-returns
 returns c = uses-first _ _ (c .before .before .before .before .before .args .port) _ _ (c .before .before .before .before .slot-length .ensures) (c .before .before .in-slot .ensures ∙ ap₂ (λ (x y : ℕ). inSlot x y) (c .before .before .before .before .slot-length .ensures) (c .before .before .before .wide .ensures)) (c .before .if1 .taken) (c .if2 .taken)
 
--- src/lib.rt:36:9
 returns-2 : tie.Need-returns-2
 returns-2 c = uses-third _ _ (c .before .before .before .before .before .args .port) _ _ (c .before .before .before .before .slot-length .ensures) (c .before .before .in-slot .ensures ∙ ap₂ (λ (x y : ℕ). inSlot x y) (c .before .before .before .before .slot-length .ensures) (c .before .before .before .wide .ensures)) (c .before .if1 .taken) (c .if2 .left)
 
--- src/lib.rt:30:1
 returns-3 : tie.Need-returns-3
 returns-3 c = uses-second _ _ (c .before .before .before .before .args .port) _ _ (c .before .before .before .slot-length .ensures) (c .before .in-slot .ensures ∙ ap₂ (λ (x y : ℕ). inSlot x y) (c .before .before .before .slot-length .ensures) (c .before .before .wide .ensures)) (c .if1 .left)
 
