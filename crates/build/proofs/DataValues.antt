@@ -4,7 +4,7 @@ use Prim.Native.Nat.{ℕ, _+_, _*_, _/_, _%_, _<_}
 use mathlib.Core.Path.{_≡_, refl, sym, ap, _∙_}
 use mathlib.Core.Bool.{true}
 use mathlib.Core.List.{List}
-use native.Mathlib.Nat.{zero-add, add-comm}
+use native.Mathlib.Nat.{add-comm}
 use native.Mathlib.Omega.{arith}
 use lib.ListN.{length}
 use Rattle.base.specs.Bits.{bitAt}
@@ -14,7 +14,7 @@ use Rattle.precoding.specs.Matrices.{precoded}
 use Rattle.precoding.specs.Places.{placed}
 use Rattle.codeword.specs.Codewords.{dataSymbol}
 use Rattle.codeword.specs.Streams.{outputs, symbolsOf}
-use Rattle.codeword.proofs.Laws.{output-of}
+use Rattle.codeword.proofs.Laws.{output-of, outputs-start}
 use Rattle.plan.specs.Check.{checkOf}
 use Rattle.plan.specs.Rows.{usersOf}
 use Rattle.plan.specs.declared.User.{User}
@@ -34,9 +34,6 @@ use Rattle.build.proofs.Some.{and-true}
 use Rattle.build.proofs.Numbered.{sends-port, placed-is, place-lt, numbered, place-number, index-lt}
 
 -- what the pair of a c_init gives
-from-start : (ci : ℕ) → outputs (pairAt ci 0) ≡ c ci
-from-start ci = λ i n. (output-of ci 0 n ∙ ap (c ci) (zero-add n)) i
-
 from-bit : (ci k : ℕ) → outputs (pairAt ci k) ≡ (λ (i : ℕ). c ci (i + k))
 from-bit ci k = λ i n. (output-of ci k n ∙ ap (c ci) (add-comm k n)) i
 
@@ -86,7 +83,7 @@ module _ (w : List ℕ) (p : Plan) (ok : checkOf w ≡ accepted p) (payload bits
       user-symbols : (j : ℕ) → j < countOf w p (UserOf i) → symbolsOf (u .order) bits (pairAt (userInit (p .cell) (p .frame) u) 0) j ≡ userSymbol w p payload i j
       unfolding symbolsOf userSymbol
       user-symbols j l =
-          ap (λ (x : ℕ → ℕ). dataSymbol (u .order) (bitAt bits) x j) (from-start (userInit (p .cell) (p .frame) u))
+          ap (λ (x : ℕ → ℕ). dataSymbol (u .order) (bitAt bits) x j) (outputs-start (userInit (p .cell) (p .frame) u))
           ∙ symbols-of-bits (u .order) (countOf w p (UserOf i)) (bitAt bits) (ownerBit w p payload (UserOf i)) (c (userInit (p .cell) (p .frame) u)) same j l
 
       pub user-value :

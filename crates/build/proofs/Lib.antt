@@ -1,3 +1,4 @@
+-- Laws that the proofs cite. For the crates above: Answers (the ways to an answer, and its numbers), Apart (theorem C of two calls).
 mod Some
 mod Pilots
 mod Numbered
@@ -7,4 +8,5 @@ mod ControlValues
 mod Quiet
 mod Slices
 mod Turns
-mod Answers
+pub mod Answers
+pub mod Apart

@@ -73,6 +73,10 @@ output-of ci k i = ap outputOf (pair-after ci k i) ∙ pair-output ci (k + i)
 pub outputs-are : (ci k : ℕ) → outputs (pairAt ci k) ≡ (λ (i : ℕ). c ci (k + i))
 outputs-are ci k = λ t i. output-of ci k i t
 
+-- of a pair that stands at c(0)
+pub outputs-start : (ci : ℕ) → outputs (pairAt ci 0) ≡ c ci
+outputs-start ci = outputs-are ci 0 ∙ (λ i n. c ci (zero-add n i))
+
 -- the symbols of a slice by the sequence of a c_init, from c(k) on and from c(0) on
 pub symbols-are : (q : ℕ) (bits : List ℕ) (ci k j : ℕ) → symbolsOf q bits (pairAt ci k) j ≡ dataSymbol q (bitAt bits) (λ (i : ℕ). c ci (k + i)) j
 unfolding symbolsOf

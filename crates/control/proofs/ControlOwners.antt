@@ -3,11 +3,9 @@
 use Prim.Native.Nat.{ℕ, _+_, _*_, _/_, _%_, _<_}
 use mathlib.Core.Path.{_≡_, refl, sym, ap, _∙_}
 use mathlib.Core.Bool.{true}
-use mathlib.Core.Logic.{⊎-elim}
-use mathlib.Core.List.{List, [], _∷_}
-use native.Mathlib.Nat.{mod-lt, zero-add}
+use mathlib.Core.List.{List}
+use native.Mathlib.Nat.{mod-lt}
 use native.Mathlib.Omega.{arith}
-use lib.Dec.{eqb}
 use lib.ListN.{getD}
 use Rattle.base.specs.declared.Pair.{Pair}
 use Rattle.base.specs.Bits.{bitAt}
@@ -15,22 +13,17 @@ use Rattle.base.specs.Pairs.{nil}
 use Rattle.gold.specs.Sequence.{c, pairAt}
 use Rattle.codeword.specs.Codewords.{dataSymbol, cfiBit}
 use Rattle.codeword.specs.Streams.{outputs}
-use Rattle.codeword.proofs.Laws.{outputs-are}
-use Rattle.precoding.specs.Layers.{Occurs, one, two, four}
+use Rattle.codeword.proofs.Laws.{outputs-start}
 use Rattle.precoding.specs.Matrices.{precoded}
 use Rattle.precoding.specs.Phich.{phichPrecoded}
 use Rattle.precoding.specs.Places.{placed}
 use Rattle.precoding.proofs.Diversity.{by-place, phich-by-place}
-use Rattle.phich.specs.His.{Fresh, Distinct}
-use Rattle.phich.specs.Units.{Within, unitSums, SameBits}
+use Rattle.phich.specs.Units.{unitSums, SameBits}
 use Rattle.phich.proofs.Units.{bit-le, exactly}
 use Rattle.plan.specs.Check.{checkOf}
-use Rattle.plan.specs.Fields.{portCounts, unitsOf, sequencesOf}
-use Rattle.plan.specs.Lists.{Among, Every, Apart}
+use Rattle.plan.specs.Fields.{unitsOf}
 use Rattle.plan.specs.Rows.{hisOf}
-use Rattle.plan.specs.Valid.{CellIn, HiIn, OtherPair}
-use Rattle.plan.specs.declared.Cell.{Cell}
-use Rattle.plan.specs.declared.Hi.{Hi}
+use Rattle.plan.specs.Valid.{CellIn}
 use Rattle.plan.specs.declared.Plan.{Plan}
 use Rattle.plan.specs.declared.Checked.the-variants.{Plan as accepted}
 use Rattle.plan.proofs.Listed.{and-left}
@@ -39,61 +32,26 @@ use Rattle.layout.specs.Rules.{pcfich, phich}
 use Rattle.layout.specs.Owners.{fixedRule, owns}
 use Rattle.layout.specs.declared.Owner.the-variants.{Pcfich, Phich}
 use Rattle.places.specs.Places.{placeNumber, symbolOf, carrierOf, placesOf, ownsAt, orderOf, indexBy, indexOf}
-use Rattle.places.proofs.Counts.{by-test}
 use Rattle.places.proofs.Numbers.{place-both}
 use Rattle.grid.specs.Writing.{sends, Room}
 use Rattle.subframe.specs.Elements.{controlInit, pcfichSymbol, spreadLength, hiBit, phichSum, elementFor}
+use Rattle.subframe.proofs.Acknowledged.{length-ok, within, distinct}
+use Rattle.subframe.proofs.Occurs.{even-occurs}
 use Rattle.control.specs.Control.{pcfichIndex, pcfichSends, pcfichSent, phichIndex, phichSends, sumsFrom, phichSent}
 use Rattle.control.specs.Filling.{PcfichIn, PhichIn}
 use Rattle.control.proofs.Listings.{some-places, pcfich-listed, phich-listed}
-use Rattle.control.proofs.Sums.{spread-is}
-
--- the pair that stands at c(0) gives c
-outputs-c : (ci : ℕ) → outputs (pairAt ci 0) ≡ c ci
-outputs-c ci = outputs-are ci 0 ∙ (λ i n. c ci (zero-add n i))
-
--- ---- the ports of a cell
-pub ports-occur : (P M : ℕ) → M % 2 ≡ 0 → Among P portCounts → Occurs P M
-ports-occur P M e h =
-    ⊎-elim (λ a. rw a one) (λ x. ⊎-elim (λ a. rw a (two e)) (λ y. ⊎-elim (λ a. rw a (four e)) (λ z. absurd z) y) x) h
-
--- ---- the HIs of a plan
-within-his : (l : ℕ) (c : Cell) → sequencesOf c ≡ 2 * l → (hs : List Hi) → Every (HiIn c) hs → Within l hs
-unfolding Within
-within-his l c e [] h = tt
-within-his l c e (x ∷ hs) h = (omega (arith, h .0 .sequence), within-his l c e hs (h .1))
-
-two-lengths : (c : Cell) → sequencesOf c ≡ 2 * spreadLength c
-unfolding sequencesOf spreadLength
-two-lengths c = by-test (eqb (c .prefix) 1) (λ e. rw e refl) (λ e. rw e refl)
-
-fresh-hi : (h : Hi) (hs : List Hi) → Every (OtherPair h) hs → Fresh h hs
-unfolding Fresh
-fresh-hi h [] a = tt
-fresh-hi h (x ∷ hs) a = ((λ e. a .0 (ap (λ (y : Hi). y .group) e) (ap (λ (y : Hi). y .sequence) e)), fresh-hi h hs (a .1))
-
-distinct-his : (hs : List Hi) → Apart OtherPair hs → Distinct hs
-unfolding Distinct
-distinct-his [] a = tt
-distinct-his (h ∷ hs) a = (fresh-hi h hs (a .0), distinct-his hs (a .1))
 
 module _ (w : List ℕ) (p : Plan) (ok : checkOf w ≡ accepted p) where
   -- ---- what the functions require
   pub cell-ok : CellIn (p .cell)
   cell-ok = valid w p ok .cell
 
-  pub his-within : Within (spreadLength (p .cell)) (hisOf w p)
-  his-within = within-his (spreadLength (p .cell)) (p .cell) (two-lengths (p .cell)) (hisOf w p) (valid w p ok .his)
-
-  pub his-distinct : Distinct (hisOf w p)
-  his-distinct = distinct-his (hisOf w p) (valid w p ok .pairs)
-
   pub pcfich-in : {grid : List ℕ} → Room (p .cell .ports) (placesOf (p .cell)) grid → PcfichIn (p .cell) (p .frame .cfi) grid
   pcfich-in r = record { cell = cell-ok; some = valid w p ok .frame .some; most = valid w p ok .frame .most; room = r }
 
   pub phich-in : (m : ℕ) → m < unitsOf (p .cell) → {grid : List ℕ} → Room (p .cell .ports) (placesOf (p .cell)) grid → PhichIn (p .cell) m (p .his) w grid
   unfolding hisOf
-  phich-in m h r = record { cell = cell-ok; unit = h; room = r; known = his-within; apart = his-distinct }
+  phich-in m h r = record { cell = cell-ok; unit = h; room = r; known = within w p ok; apart = distinct w p ok }
 
   -- ---- places
   pub pcfich-index : (t : ℕ) → pcfichIndex (p .cell) t ≡ indexOf w p Pcfich t
@@ -133,7 +91,7 @@ module _ (w : List ℕ) (p : Plan) (ok : checkOf w ≡ accepted p) where
   -- ---- values
   pcfich-symbols : (j : ℕ) → dataSymbol 2 (cfiBit (p .frame .cfi)) (outputs (pairAt (controlInit (p .cell) (p .frame)) 0)) j ≡ pcfichSymbol (p .cell) (p .frame) j
   unfolding pcfichSymbol
-  pcfich-symbols j = ap (λ (x : ℕ → ℕ). dataSymbol 2 (cfiBit (p .frame .cfi)) x j) (outputs-c (controlInit (p .cell) (p .frame)))
+  pcfich-symbols j = ap (λ (x : ℕ → ℕ). dataSymbol 2 (cfiBit (p .frame .cfi)) x j) (outputs-start (controlInit (p .cell) (p .frame)))
 
   pub pcfich-value :
       (payload : List ℕ) (e : ℕ) → pcfichSends (p .cell) e ≡ true → e / placesOf (p .cell) < p .cell .ports
@@ -145,7 +103,7 @@ module _ (w : List ℕ) (p : Plan) (ok : checkOf w ≡ accepted p) where
       let j = pcfichIndex (p .cell) t in
       let at : indexOf w p Pcfich (placeNumber (p .cell) (symbolOf (p .cell) t) (carrierOf (p .cell) t)) ≡ j = ap (indexOf w p Pcfich) (place-both (p .cell) t) ∙ sym (pcfich-index t) in
       ap (λ (d : ℕ → Pair). placed (p .cell .ports) (j / 2 % 2) 2 d j (e / placesOf (p .cell))) (λ i x. pcfich-symbols x i)
-      ∙ sym (by-place (ports-occur (p .cell .ports) 16 refl (cell-ok .ports)) 2 (pcfichSymbol (p .cell) (p .frame)) j (e / placesOf (p .cell)) (pcfich-below e h) q)
+      ∙ sym (by-place (even-occurs w p ok 16 refl) 2 (pcfichSymbol (p .cell) (p .frame)) j (e / placesOf (p .cell)) (pcfich-below e h) q)
       ∙ ap (λ (x : ℕ). precoded (p .cell .ports) 16 2 (pcfichSymbol (p .cell) (p .frame)) x (e / placesOf (p .cell))) (sym at)
 
   phich-sums :
@@ -155,9 +113,9 @@ module _ (w : List ℕ) (p : Plan) (ok : checkOf w ≡ accepted p) where
   phich-sums payload bits m same i =
       let l = spreadLength (p .cell) in
       let x = c (controlInit (p .cell) (p .frame)) in
-      ap (λ (y : ℕ → ℕ). getD (unitSums l y m (bitAt bits) (hisOf w p)) i nil) (outputs-c (controlInit (p .cell) (p .frame)))
+      ap (λ (y : ℕ → ℕ). getD (unitSums l y m (bitAt bits) (hisOf w p)) i nil) (outputs-start (controlInit (p .cell) (p .frame)))
       ∙ ap (λ (y : List Pair). getD y i nil)
-      (exactly l (spread-is (p .cell)) x (hisOf w p) his-within his-distinct m (bitAt bits) (hiBit w p payload) (λ n. bit-le bits n) (λ n. bit-le payload _)
+      (exactly l (length-ok (p .cell)) x (hisOf w p) (within w p ok) (distinct w p ok) m (bitAt bits) (hiBit w p payload) (λ n. bit-le bits n) (λ n. bit-le payload _)
       .1 (λ n r u. same n (omega (arith, valid w p ok .his-count))))
 
   pub phich-value :
@@ -175,5 +133,5 @@ module _ (w : List ℕ) (p : Plan) (ok : checkOf w ≡ accepted p) where
       let whole : 4 * (j / 4) + j % 4 ≡ j = omega arith in
       ap (λ (d : ℕ → Pair). placed P ((j / 4 + m) % 2) 2 d j (e / placesOf (p .cell))) (λ i x. phich-sums payload bits m same x i)
       ∙ ap (λ (y : ℕ). placed P ((j / 4 + m) % 2) 2 (phichSum w p payload m) y (e / placesOf (p .cell))) (sym whole)
-      ∙ sym (phich-by-place (ports-occur P 12 refl (cell-ok .ports)) m 2 (phichSum w p payload m) (j / 4) (j % 4) (e / placesOf (p .cell)) (omega arith) (omega arith) q)
+      ∙ sym (phich-by-place (even-occurs w p ok 12 refl) m 2 (phichSum w p payload m) (j / 4) (j % 4) (e / placesOf (p .cell)) (omega arith) (omega arith) q)
       ∙ ap (λ (y : ℕ). phichPrecoded P m 2 (phichSum w p payload m) (y / 4) (y % 4) (e / placesOf (p .cell))) (sym at)

@@ -2,8 +2,6 @@
 use Prim.Native.Nat.{ℕ}
 use mathlib.Core.Path.{_≡_, refl, ap, _∙_}
 use mathlib.Core.List.{List}
-use native.Mathlib.Omega.{arith}
-use lib.Dec.{eqb}
 use lib.ListN.{drop}
 use borrow.Author.Tests.{eq-eqb, ne-eqb}
 use Rattle.base.specs.declared.Pair.{Pair}
@@ -11,15 +9,15 @@ use Rattle.base.specs.Bits.{bitAt}
 use Rattle.gold.specs.declared.Registers.{Registers}
 use Rattle.gold.specs.Steps.{wordOf}
 use Rattle.codeword.specs.Streams.{outputs}
-use Rattle.phich.specs.Spreading.{Length, wordBit}
+use Rattle.phich.specs.Spreading.{wordBit}
 use Rattle.phich.specs.Units.{unitSums, Ready}
 use Rattle.phich.proofs.Units.{ready, small}
 use Rattle.phich.proofs.Chips.{sums-chips}
 use Rattle.plan.specs.Rows.{hisFrom}
 use Rattle.plan.specs.declared.Cell.{Cell}
 use Rattle.plan.specs.declared.Row.{Row}
-use Rattle.places.proofs.Counts.{by-test}
 use Rattle.grid.specs.Writing.{Written}
+use Rattle.subframe.proofs.Acknowledged.{length-ok}
 use Rattle.subframe.specs.Elements.{spreadLength}
 use Rattle.control.specs.Control.{phichSends, sumsFrom, phichSent}
 use Rattle.control.specs.Filling.{PhichIn, UnitIn, unitSent}
@@ -34,13 +32,9 @@ pub length-four : (c : Cell) → (c .prefix ≡ 1 → ⊥) → 4 ≡ spreadLengt
 unfolding spreadLength
 length-four c e = rw (ne-eqb (c .prefix) 1 e) refl
 
-pub spread-is : (c : Cell) → Length (spreadLength c)
-unfolding spreadLength
-spread-is c = by-test (eqb (c .prefix) 1) (λ e. rw e (omega arith, omega arith, refl)) (λ e. rw e (omega arith, omega arith, refl))
-
 module _ {c : Cell} {m : ℕ} {his : Row} {plan grid : List ℕ} (ok : PhichIn c m his plan grid) {l : ℕ} (is : l ≡ spreadLength c) where
   pub sums-ready : Ready l m plan (his .at) (his .count)
-  sums-ready = rw is (ready (spreadLength c) m plan (his .at) (his .count) (spread-is c) (ok .known) (ok .apart))
+  sums-ready = rw is (ready (spreadLength c) m plan (his .at) (his .count) (length-ok c) (ok .known) (ok .apart))
 
   module _ (w : ℕ) (bits : List ℕ) {sums : List Pair} (e : sums ≡ unitSums l (wordBit w) m (bitAt bits) (hisFrom (drop (his .at) plan) (his .count))) where
     pub unit-ready : UnitIn c m sums grid
@@ -49,14 +43,14 @@ module _ {c : Cell} {m : ℕ} {his : Row} {plan grid : List ℕ} (ok : PhichIn c
           cell = ok .cell;
           unit = ok .unit;
           room = ok .room;
-          small = λ i r. rw (e, is) (small (spreadLength c) (spread-is c) (wordBit w) (hisFrom (drop (his .at) plan) (his .count)) (ok .known) (ok .apart) m (bitAt bits) i r);
+          small = λ i r. rw (e, is) (small (spreadLength c) (length-ok c) (wordBit w) (hisFrom (drop (his .at) plan) (his .count)) (ok .known) (ok .apart) m (bitAt bits) i r);
         }
 
     -- the sums by the word's bits are those by the pair's
     by-pair : (r : Registers) → w ≡ wordOf r 12 → sums ≡ unitSums (spreadLength c) (outputs r) m (bitAt bits) (hisFrom (drop (his .at) plan) (his .count))
     by-pair r h =
         e ∙ ap (λ (x : ℕ). unitSums x (wordBit w) m (bitAt bits) (hisFrom (drop (his .at) plan) (his .count))) is
-        ∙ sums-chips (spreadLength c) (spread-is c) (wordBit w) (outputs r) (word-bits r w h) m (bitAt bits) (hisFrom (drop (his .at) plan) (his .count))
+        ∙ sums-chips (spreadLength c) (length-ok c) (wordBit w) (outputs r) (word-bits r w h) m (bitAt bits) (hisFrom (drop (his .at) plan) (his .count))
 
     pub unit-done : (r : Registers) → w ≡ wordOf r 12 → {g : List ℕ} → Written (phichSends c m) (unitSent c m sums) grid g
         → Written (phichSends c m) (phichSent c m r (hisFrom (drop (his .at) plan) (his .count)) bits) grid g

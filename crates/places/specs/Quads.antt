@@ -11,7 +11,7 @@ use Rattle.places.specs.Counts.{cnt, nth, which}
 unfoldable pub keeps : ℕ → ℕ → Bool
 keeps v k = not (eqb (k % 3) v)
 
--- the subcarrier of the j-th place of group g, in ascending k, and which of its group's places k is
+-- the subcarrier of the j-th place of group g, in ascending k (36.211 6.2.4), and which of its group's places k is
 unfoldable pub quadPlace : ℕ → ℕ → ℕ → ℕ
 quadPlace C g j = 6 * g + nth (keeps (C % 3)) 6 j
 

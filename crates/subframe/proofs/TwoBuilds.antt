@@ -1,5 +1,5 @@
--- THEOREM C, for the regulator. One owner's data never changes what is sent for another: two builds of an accepted plan answer
--- document 01's second question as demand 3 says, whatever the two payloads are: that they are accepted is not even needed.
+-- THEOREM C, for the regulator's second question: one owner's data never changes what is sent for another. The grids of any two payloads of
+-- an accepted plan stand to each other as demand 3 says; that the payloads are accepted is not even needed.
 use Prim.Native.Nat.{ℕ}
 use mathlib.Core.Path.{_≡_}
 use mathlib.Core.List.{List}

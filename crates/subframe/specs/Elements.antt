@@ -1,6 +1,6 @@
--- What the promises cite: the element of every place on every port, by the place's owner. Document 01, Owners; TS 36.211. In document
--- 01's letters: C identity, N blocks, P ports, F frame, f subframe, n slot, l a symbol's number in its slot, (s, k) a place. w is a
--- plan's bytes, p the plan that the plan check answers with.
+-- What the promises cite: the element of every place on every port, by the place's owner. Document 01, Owners; TS 36.211. (s, k) is a
+-- place, symbol s and subcarrier k; w is a plan's bytes, p the plan that the plan check answers with; `c ci n` is the sequence's c(n) for
+-- the c_init ci.
 use Prim.Native.Nat.{ℕ, _+_, _-_, _*_, _/_, _%_}
 use mathlib.Core.List.{List}
 use lib.Dec.{eqb}
@@ -33,29 +33,30 @@ use Rattle.layout.specs.declared.Owner.{Owner}
 use Rattle.layout.specs.declared.Owner.the-variants.{Crs, Sync, Pbch, Pcfich, Phich, User as UserOf, Held, Idle}
 use Rattle.places.specs.Places.{placeNumber, countOf, indexOf}
 use Rattle.payload.specs.Sections.{startOf}
-use Rattle.payload.specs.Payload.{sections, pbchBits}
+use Rattle.payload.specs.Payload.{sections}
 use Rattle.payload.specs.Bits.{ownerBits}
 
--- ---- CRS (6.10.1): slot n = 2f or 2f+1, "k = 6m+((v+C) mod 6)", unit 2 on the signal's own port; "Other ports are silent there"
+-- ---- CRS (6.10.1): "slots are n = 2f and 2f+1", of L symbols each; "k = 6m+((v+C) mod 6)", so m is k / 6; unit 2 on the signal's own
+-- port q; "Other ports are silent there"
 unfoldable pub crsElement : Cell → Frame → ℕ → ℕ → ℕ → ℕ → Element
-crsElement c f q port s k =
-    let L = slotOfCell c in
+crsElement cell frame q port s k =
+    let L = slotOfCell cell in
     if eqb port q
-    then elementOf 2 (crsValue (c .prefix) (c .identity) (c .blocks) (2 * f .subframe + slotOf L s) (inSlot L s) (k / 6))
+    then elementOf 2 (crsValue (cell .prefix) (cell .identity) (cell .blocks) (2 * frame .subframe + slotOf L s) (inSlot L s) (k / 6))
     else silent
 
 -- ---- synchronisation (6.11), "62 used, port 0": the first of them is subcarrier 6N − 31
 unfoldable pub markNumber : Cell → ℕ → ℕ
-markNumber c k = k + 31 - 6 * c .blocks
+markNumber cell k = k + 31 - 6 * cell .blocks
 
--- "unit 63, I = w×t mod 63"; "Unit 63 means phase −2πI/63, I 0..62, J = 0"
+-- "unit 63, I = w×t mod 63" (sync/specs/Pss.antt); "Unit 63 means phase −2πI/63, I 0..62, J = 0"
 unfoldable pub pssElement : Cell → ℕ → ℕ → Element
-pssElement c port k = if eqb port 0 then record { unit = 63; i = pssPhase (c .identity) (markNumber c k); j = 0 } else silent
+pssElement cell port k = if eqb port 0 then record { unit = 63; i = pssPhase (cell .identity) (markNumber cell k); j = 0 } else silent
 
 -- "unit 1, J = 0, by 36.211 6.11.2"
 unfoldable pub sssElement : Cell → Frame → ℕ → ℕ → Element
-sssElement c f port k =
-    if eqb port 0 then elementOf 1 (record { re = sssLevel (c .identity) (f .subframe) (markNumber c k); im = pos 0 }) else silent
+sssElement cell frame port k =
+    if eqb port 0 then elementOf 1 (record { re = sssLevel (cell .identity) (frame .subframe) (markNumber cell k); im = pos 0 }) else silent
 
 -- ---- the bits of an owner, by their number among them (payload/specs/Bits.antt has their positions in the payload)
 unfoldable pub ownerBit : List ℕ → Plan → List ℕ → Owner → ℕ → ℕ
@@ -63,22 +64,23 @@ ownerBit w p payload o i = bitAt payload (getD (ownerBits w p o) i 0)
 
 -- ---- PBCH (6.6): "c_init = C; bit i uses c(i+480(F mod 4)), extended 432. QPSK"
 unfoldable pub pbchFirst : Cell → Frame → ℕ
-pbchFirst c f = (if eqb (c .prefix) 1 then 432 else 480) * (f .number % 4)
+pbchFirst cell frame = (if eqb (cell .prefix) 1 then 432 else 480) * (frame .number % 4)
 
 unfoldable pub pbchSymbol : List ℕ → Plan → List ℕ → ℕ → Pair
 pbchSymbol w p payload j = dataSymbol 2 (ownerBit w p payload Pbch) (λ (i : ℕ). c (p .cell .identity) (i + pbchFirst (p .cell) (p .frame))) j
 
 -- ---- PCFICH (6.7): "c_init = (f+1)(2C+1)512+C. QPSK"
 unfoldable pub controlInit : Cell → Frame → ℕ
-controlInit c f = (f .subframe + 1) * (2 * c .identity + 1) * 512 + c .identity
+controlInit cell frame = (frame .subframe + 1) * (2 * cell .identity + 1) * 512 + cell .identity
 
 unfoldable pub pcfichSymbol : Cell → Frame → ℕ → Pair
-pcfichSymbol cell f j = dataSymbol 2 (cfiBit (f .cfi)) (c (controlInit cell f)) j
+pcfichSymbol cell frame j = dataSymbol 2 (cfiBit (frame .cfi)) (c (controlInit cell frame)) j
 
--- ---- PHICH (6.9): "sequences 0–7, extended 0–3", so of length 4, extended 2; "scrambled by 36.211 6.9.1 with PCFICH's c_init"; "one
--- bit per HI in plan order"; "summed per unit": the sum at the i-th of unit m's twelve places
+-- ---- PHICH (6.9): N_SF, the length of a spreading sequence, is 4, extended 2 (6.9.1); "scrambled by 36.211 6.9.1 with PCFICH's c_init";
+-- "one bit per HI in plan order"; "summed per unit": the sum at the i-th of unit m's twelve places. "an empty unit still owns its
+-- elements, with sum 0"
 unfoldable pub spreadLength : Cell → ℕ
-spreadLength c = if eqb (c .prefix) 1 then 2 else 4
+spreadLength cell = if eqb (cell .prefix) 1 then 2 else 4
 
 unfoldable pub hiBit : List ℕ → Plan → List ℕ → ℕ → ℕ
 hiBit w p payload n = bitAt payload (8 * startOf (sections w p) 1 + n)
@@ -89,7 +91,7 @@ phichSum w p payload m i =
 
 -- ---- USER (6.3, 6.4): "c_init = RNTI×16384+512f+C", Q bits a symbol
 unfoldable pub userInit : Cell → Frame → User → ℕ
-userInit c f u = u .rnti * 16384 + 512 * f .subframe + c .identity
+userInit cell frame u = u .rnti * 16384 + 512 * frame .subframe + cell .identity
 
 unfoldable pub userNumber : List ℕ → Plan → ℕ → User
 userNumber w p i = getD (usersOf w p) i (record { rnti = 0; order = 0; first = 0; count = 0 })
@@ -99,9 +101,10 @@ userSymbol w p payload i j =
     let u = userNumber w p i in
     dataSymbol (u .order) (ownerBit w p payload (UserOf i)) (c (userInit (p .cell) (p .frame) u)) j
 
--- ---- THE ELEMENT of an owner's place (s, k) on a port. The j-th of a channel's places, in its filling order, takes its j-th symbol:
--- "layer mapping and precoding 6.3.3.3, 6.3.4.3, units doubled, ports without a term silent"; "Units 2, 10, 42; PHICH 2"; "An element
--- given no value on a port is silent there"
+-- ---- THE ELEMENT of an owner's place (s, k) on a port. The j-th of a channel's places, in its filling order (6.3.5, 6.6.4, 6.7.4, 6.9.3),
+-- takes its j-th symbol: "P = 1 sends on port 0. P = 2, 4 (CRS, PSS and SSS apart): layer mapping and precoding 6.3.3.3, 6.3.4.3, units
+-- doubled, ports without a term silent"; "Units 2, 10, 42; PHICH 2, kept where a sum is 0"; "An element given no value on a port is
+-- silent there". A user's number of places, `countOf`, is the G of its section (places/proofs/Elements.antt, counts/proofs/UserElements.antt)
 unfoldable pub elementFor : List ℕ → Plan → List ℕ → Owner → ℕ → ℕ → ℕ → Element
 elementFor w p payload (Crs q) port s k = crsElement (p .cell) (p .frame) q port s k
 elementFor w p payload (Sync Primary) port s k = pssElement (p .cell) port k

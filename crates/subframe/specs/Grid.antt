@@ -10,7 +10,7 @@ use Rattle.places.specs.Places.{symbolOf, carrierOf, placesOf}
 use Rattle.payload.specs.Payload.{gridLength}
 use Rattle.subframe.specs.Elements.{elementAt}
 
--- the element with the number e = (p×S+s)×12N+k
+-- the element with the number e = (port×S+s)×12N+k
 unfoldable pub elementNumbered : List ℕ → Plan → List ℕ → ℕ → Element
 elementNumbered w p payload e =
     let t = e % placesOf (p .cell) in

@@ -1,5 +1,7 @@
--- What the promises cite: THE REGULATOR'S SECOND QUESTION, can one owner's data change what is sent for another? w is a plan's bytes and p
--- the plan that the plan check answers with; A and B are two payloads, g and h the grids that building them makes.
+-- What the promises cite: DEMAND 3 (docs/APPROVAL.md), the regulator's second question: can one owner's data change what is sent for
+-- another? Its owners and elements are document 01's: "the format indicator is PCFICH, the broadcast channel PBCH, an acknowledgement unit
+-- a PHICH unit". w is a plan's bytes and p the plan that the plan check answers with; A and B are two payloads; g and h are two grids:
+-- proofs/TwoBuilds.antt has them as the grids of A and B, and build/proofs/Apart.antt as what two calls of build leave.
 use Prim.Native.Nat.{ℕ, _+_, _*_, _<_}
 use mathlib.Core.Path.{_≡_}
 use mathlib.Core.Logic.{_↔_}
@@ -28,7 +30,7 @@ SameBytes w p o g h =
 abbrev pub SameBits : List ℕ → Plan → Owner → List ℕ → List ℕ → Type 0
 SameBits w p o A B = Every (λ (b : ℕ). bitAt A b ≡ bitAt B b) (ownerBits w p o)
 
--- DEMAND 3
+-- the demand's sentences, one after the other
 pub record TwoBuilds (w : List ℕ) (p : Plan) (A B g h : List ℕ) : Type 0 where
   -- "Each element has exactly one owner"
   pub owner : (s k : ℕ) → gridPlace (p .cell) s k → (o : Owner) × (owns w p o s k ≡ true) × ((other : Owner) → owns w p other s k ≡ true → other ≡ o)
