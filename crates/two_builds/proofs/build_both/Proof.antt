@@ -1,0 +1,127 @@
+use mathlib.Core.Path.{sym, ap, _∙_}
+use lib.ListN.{length}
+use borrow.Author.Tests.{not-true, not-false}
+use Rattle.subframe.proofs.Bytes.{grid-size}
+use Rattle.two_builds.proofs.Both.{way-refused, way-first-grid, way-second-grid, way-first-payload, way-second-payload, way-first-spare, way-second-spare, way-first-ready, way-second-ready, way-both}
+use borrow.Author.Needs.{needs}
+use Rattle.two_builds.proofs.build_both.Statement.{statement}
+use Rattle.two_builds.proofs.build_both.Tie as tie
+use Rattle.two_builds.proofs.build_both.Reads as reads
+use Rattle.two_builds.proofs.build_both.Lts as lts
+use Rattle.build.proofs.fill.Reads as fill-reads
+use Rattle.counts.proofs.users_count.Reads as users-count-reads
+use Rattle.layout.proofs.refusal.Reads as refusal-reads
+use Rattle.payload.proofs.grid_length.Reads as grid-length-reads
+use Rattle.payload.proofs.payload_length.Reads as payload-length-reads
+use Rattle.payload.proofs.spare_clear.Reads as spare-clear-reads
+use Rattle.plan.proofs.check.Reads as check-reads
+
+-- src/lib.rt:17:9
+check-requires : tie.Need-check-requires
+check-requires c κs = search needs
+
+-- src/lib.rt:18:23
+enum-known-checked : tie.Need-enum-known-checked
+enum-known-checked c = search needs
+
+-- src/lib.rt:19:31
+enum-told : tie.Need-enum-told
+enum-told c = search needs
+
+-- src/lib.rt:19:31
+refusal-requires : tie.Need-refusal-requires
+refusal-requires c κs = search needs
+
+-- src/lib.rt:19:9
+returns : tie.Need-returns
+returns c = way-refused (c .before .before .before .before .before .before .before .before .before .args .plan .now) (c .before .before .before .before .before .before .before .before .before .args .a .now) (c .before .before .before .before .before .before .before .before .before .args .b .now) (c .before .before .before .before .before .before .before .before .before .args .grid-a .now) (c .before .before .before .before .before .before .before .before .before .args .grid-b .now) _ (c .before .before .before .check .ensures) (c .before .before .match .keys2) _ (c .refusal .ensures)
+
+-- src/lib.rt:21:9
+grid-length-requires : tie.Need-grid-length-requires
+grid-length-requires c κs = search needs
+
+-- src/lib.rt:23:9
+returns-2 : tie.Need-returns-2
+returns-2 c = way-first-grid (c .before .before .before .before .before .before .before .before .before .before .before .args .plan .now) (c .before .before .before .before .before .before .before .before .before .before .before .args .a .now) (c .before .before .before .before .before .before .before .before .before .before .before .args .b .now) (c .before .before .before .before .before .before .before .before .before .before .before .args .grid-a .now) (c .before .before .before .before .before .before .before .before .before .before .before .args .grid-b .now) _ (sym (c .before .before .before .before .before .check .ensures) ∙ c .before .before .before .checked .given .1) _ (c .before .grid-length .ensures) (c .if1 .taken)
+
+-- src/lib.rt:26:9
+returns-3 : tie.Need-returns-3
+returns-3 c = way-second-grid (c .before .before .before .before .before .before .before .before .before .before .before .before .args .plan .now) (c .before .before .before .before .before .before .before .before .before .before .before .before .args .a .now) (c .before .before .before .before .before .before .before .before .before .before .before .before .args .b .now) (c .before .before .before .before .before .before .before .before .before .before .before .before .args .grid-a .now) (c .before .before .before .before .before .before .before .before .before .before .before .before .args .grid-b .now) _ (sym (c .before .before .before .before .before .before .check .ensures) ∙ c .before .before .before .before .checked .given .1) _ (c .before .before .grid-length .ensures) (c .before .if1 .left) (c .if2 .taken)
+
+-- src/lib.rt:28:9
+payload-length-requires : tie.Need-payload-length-requires
+payload-length-requires c κs = (sym (c .before .before .before .before .before .before .check .ensures) ∙ c .before .before .before .before .checked .given .1)
+
+-- src/lib.rt:30:9
+returns-4 : tie.Need-returns-4
+returns-4 c = way-first-payload (c .before .before .before .before .before .before .before .before .before .before .before .before .before .before .args .plan .now) (c .before .before .before .before .before .before .before .before .before .before .before .before .before .before .args .a .now) (c .before .before .before .before .before .before .before .before .before .before .before .before .before .before .args .b .now) (c .before .before .before .before .before .before .before .before .before .before .before .before .before .before .args .grid-a .now) (c .before .before .before .before .before .before .before .before .before .before .before .before .before .before .args .grid-b .now) _ (sym (c .before .before .before .before .before .before .before .before .check .ensures) ∙ c .before .before .before .before .before .before .checked .given .1) _ (c .before .before .before .before .grid-length .ensures) (c .before .before .before .if1 .left) (c .before .before .if2 .left) _ (c .before .payload-length .ensures) (c .if3 .taken)
+
+-- src/lib.rt:33:9
+returns-5 : tie.Need-returns-5
+returns-5 c = way-second-payload (c .before .before .before .before .before .before .before .before .before .before .before .before .before .before .before .args .plan .now) (c .before .before .before .before .before .before .before .before .before .before .before .before .before .before .before .args .a .now) (c .before .before .before .before .before .before .before .before .before .before .before .before .before .before .before .args .b .now) (c .before .before .before .before .before .before .before .before .before .before .before .before .before .before .before .args .grid-a .now) (c .before .before .before .before .before .before .before .before .before .before .before .before .before .before .before .args .grid-b .now) _ (sym (c .before .before .before .before .before .before .before .before .before .check .ensures) ∙ c .before .before .before .before .before .before .before .checked .given .1) _ (c .before .before .before .before .before .grid-length .ensures) (c .before .before .before .before .if1 .left) (c .before .before .before .if2 .left) _ (c .before .before .payload-length .ensures) (c .before .if3 .left) (c .if4 .taken)
+
+-- src/lib.rt:35:9
+spare-clear-requires : tie.Need-spare-clear-requires
+spare-clear-requires c κs = ((sym (c .before .before .before .before .before .before .before .before .before .check .ensures) ∙ c .before .before .before .before .before .before .before .checked .given .1), c .before .if3 .left ∙ c .before .before .payload-length .ensures)
+
+-- src/lib.rt:36:9
+returns-6 : tie.Need-returns-6
+returns-6 c = way-first-spare (c .before .before .before .before .before .before .before .before .before .before .before .before .before .before .before .before .before .args .plan .now) (c .before .before .before .before .before .before .before .before .before .before .before .before .before .before .before .before .before .args .a .now) (c .before .before .before .before .before .before .before .before .before .before .before .before .before .before .before .before .before .args .b .now) (c .before .before .before .before .before .before .before .before .before .before .before .before .before .before .before .before .before .args .grid-a .now) (c .before .before .before .before .before .before .before .before .before .before .before .before .before .before .before .before .before .args .grid-b .now) _ (sym (c .before .before .before .before .before .before .before .before .before .before .before .check .ensures) ∙ c .before .before .before .before .before .before .before .before .before .checked .given .1) _ (c .before .before .before .before .before .before .before .grid-length .ensures) (c .before .before .before .before .before .before .if1 .left) (c .before .before .before .before .before .if2 .left) _ (c .before .before .before .before .payload-length .ensures) (c .before .before .before .if3 .left) (c .before .before .if4 .left) _ (c .before .spare-clear .ensures) (not-true _ (c .if5 .taken))
+
+-- src/lib.rt:38:9
+spare-clear-requires-2 : tie.Need-spare-clear-requires-2
+spare-clear-requires-2 c κs = ((sym (c .before .before .before .before .before .before .before .before .before .before .before .check .ensures) ∙ c .before .before .before .before .before .before .before .before .before .checked .given .1), c .before .before .if4 .left ∙ c .before .before .before .before .payload-length .ensures)
+
+-- src/lib.rt:39:9
+returns-7 : tie.Need-returns-7
+returns-7 c = way-second-spare (c .before .before .before .before .before .before .before .before .before .before .before .before .before .before .before .before .before .before .before .args .plan .now) (c .before .before .before .before .before .before .before .before .before .before .before .before .before .before .before .before .before .before .before .args .a .now) (c .before .before .before .before .before .before .before .before .before .before .before .before .before .before .before .before .before .before .before .args .b .now) (c .before .before .before .before .before .before .before .before .before .before .before .before .before .before .before .before .before .before .before .args .grid-a .now) (c .before .before .before .before .before .before .before .before .before .before .before .before .before .before .before .before .before .before .before .args .grid-b .now) _ (sym (c .before .before .before .before .before .before .before .before .before .before .before .before .before .check .ensures) ∙ c .before .before .before .before .before .before .before .before .before .before .before .checked .given .1) _ (c .before .before .before .before .before .before .before .before .before .grid-length .ensures) (c .before .before .before .before .before .before .before .before .if1 .left) (c .before .before .before .before .before .before .before .if2 .left) _ (c .before .before .before .before .before .before .payload-length .ensures) (c .before .before .before .before .before .if3 .left) (c .before .before .before .before .if4 .left) _ (c .before .before .before .spare-clear .ensures) (not-false _ (c .before .before .if5 .left)) _ (c .before .spare-clear2 .ensures) (not-true _ (c .if6 .taken))
+
+-- src/lib.rt:41:5
+fill-requires : tie.Need-fill-requires
+fill-requires c κs = way-first-ready (c .before .before .before .before .before .before .before .before .before .before .before .before .before .before .before .before .before .before .before .before .args .plan .now) (c .before .before .before .before .before .before .before .before .before .before .before .before .before .before .before .before .before .before .before .before .args .a .now) (c .before .before .before .before .before .before .before .before .before .before .before .before .before .before .before .before .before .before .before .before .args .b .now) (c .before .before .before .before .before .before .before .before .before .before .before .before .before .before .before .before .before .before .before .before .args .grid-a .now) (c .before .before .before .before .before .before .before .before .before .before .before .before .before .before .before .before .before .before .before .before .args .grid-b .now) _ (sym (c .before .before .before .before .before .before .before .before .before .before .before .before .before .before .check .ensures) ∙ c .before .before .before .before .before .before .before .before .before .before .before .before .checked .given .1) _ (c .before .before .before .before .before .before .before .before .before .before .grid-length .ensures) (c .before .before .before .before .before .before .before .before .before .if1 .left) (c .before .before .before .before .before .before .before .before .if2 .left) _ (c .before .before .before .before .before .before .before .payload-length .ensures) (c .before .before .before .before .before .before .if3 .left) (c .before .before .before .before .before .if4 .left) _ (c .before .before .before .before .spare-clear .ensures) (not-false _ (c .before .before .before .if5 .left)) _ (c .before .before .spare-clear2 .ensures) (not-false _ (c .before .if6 .left))
+
+-- src/lib.rt:42:5
+fill-requires-2 : tie.Need-fill-requires-2
+fill-requires-2 c κs = way-second-ready (c .before .before .before .before .before .before .before .before .before .before .before .before .before .before .before .before .before .before .before .before .before .before .before .before .args .plan .now) (c .before .before .before .before .before .before .before .before .before .before .before .before .before .before .before .before .before .before .before .before .before .before .before .before .args .a .now) (c .before .before .before .before .before .before .before .before .before .before .before .before .before .before .before .before .before .before .before .before .before .before .before .before .args .b .now) (c .before .before .before .before .before .before .before .before .before .before .before .before .before .before .before .before .before .before .before .before .before .before .before .before .args .grid-a .now) (c .before .before .before .before .before .before .before .before .before .before .before .before .before .before .before .before .before .before .before .before .before .before .before .before .args .grid-b .now) _ (sym (c .before .before .before .before .before .before .before .before .before .before .before .before .before .before .before .before .before .before .check .ensures) ∙ c .before .before .before .before .before .before .before .before .before .before .before .before .before .before .before .before .checked .given .1) _ (c .before .before .before .before .before .before .before .before .before .before .before .before .before .before .grid-length .ensures) (c .before .before .before .before .before .before .before .before .before .before .before .before .before .if1 .left) (c .before .before .before .before .before .before .before .before .before .before .before .before .if2 .left) _ (c .before .before .before .before .before .before .before .before .before .before .before .payload-length .ensures) (c .before .before .before .before .before .before .before .before .before .before .if3 .left) (c .before .before .before .before .before .before .before .before .before .if4 .left) _ (c .before .before .before .before .before .before .before .before .spare-clear .ensures) (not-false _ (c .before .before .before .before .before .before .before .if5 .left)) _ (c .before .before .before .before .before .before .spare-clear2 .ensures) (not-false _ (c .before .before .before .before .before .if6 .left))
+
+-- src/lib.rt:43:21
+users-count-requires : tie.Need-users-count-requires
+users-count-requires c κs = (sym (c .before .before .before .before .before .before .before .before .before .before .before .before .before .before .before .before .before .before .before .before .before .check .ensures) ∙ c .before .before .before .before .before .before .before .before .before .before .before .before .before .before .before .before .before .before .before .checked .given .1)
+
+-- src/lib.rt:9:1
+same-length : tie.Need-same-length
+same-length c = ap length (c .before .before .before .before .before .before .before .fill .ensures) ∙ grid-size _ _ _ ∙ sym (c .before .before .before .before .before .before .before .before .before .before .before .before .before .before .before .before .before .if1 .left ∙ c .before .before .before .before .before .before .before .before .before .before .before .before .before .before .before .before .before .before .grid-length .ensures)
+
+-- src/lib.rt:9:1
+same-length-2 : tie.Need-same-length-2
+same-length-2 c = ap length (c .before .before .before .fill2 .ensures) ∙ grid-size _ _ _ ∙ sym (c .before .before .before .before .before .before .before .before .before .before .before .before .before .before .before .before .if2 .left ∙ c .before .before .before .before .before .before .before .before .before .before .before .before .before .before .before .before .before .before .grid-length .ensures)
+
+-- src/lib.rt:9:1
+returns-8 : tie.Need-returns-8
+returns-8 c = way-both (c .before .before .before .before .before .before .before .before .before .before .before .before .before .before .before .before .before .before .before .before .before .before .before .before .before .before .before .before .args .plan .now) (c .before .before .before .before .before .before .before .before .before .before .before .before .before .before .before .before .before .before .before .before .before .before .before .before .before .before .before .before .args .a .now) (c .before .before .before .before .before .before .before .before .before .before .before .before .before .before .before .before .before .before .before .before .before .before .before .before .before .before .before .before .args .b .now) (c .before .before .before .before .before .before .before .before .before .before .before .before .before .before .before .before .before .before .before .before .before .before .before .before .before .before .before .before .args .grid-a .now) (c .before .before .before .before .before .before .before .before .before .before .before .before .before .before .before .before .before .before .before .before .before .before .before .before .before .before .before .before .args .grid-b .now) _ (sym (c .before .before .before .before .before .before .before .before .before .before .before .before .before .before .before .before .before .before .before .before .before .before .check .ensures) ∙ c .before .before .before .before .before .before .before .before .before .before .before .before .before .before .before .before .before .before .before .before .checked .given .1) _ (c .before .before .before .before .before .before .before .before .before .before .before .before .before .before .before .before .before .before .grid-length .ensures) (c .before .before .before .before .before .before .before .before .before .before .before .before .before .before .before .before .before .if1 .left) (c .before .before .before .before .before .before .before .before .before .before .before .before .before .before .before .before .if2 .left) _ (c .before .before .before .before .before .before .before .before .before .before .before .before .before .before .before .payload-length .ensures) (c .before .before .before .before .before .before .before .before .before .before .before .before .before .before .if3 .left) (c .before .before .before .before .before .before .before .before .before .before .before .before .before .if4 .left) _ (c .before .before .before .before .before .before .before .before .before .before .before .before .spare-clear .ensures) (not-false _ (c .before .before .before .before .before .before .before .before .before .before .before .if5 .left)) _ (c .before .before .before .before .before .before .before .before .before .before .spare-clear2 .ensures) (not-false _ (c .before .before .before .before .before .before .before .before .before .if6 .left)) _ (c .users-count .ensures) _ (c .before .before .before .before .before .before .before .fill .ensures) _ (c .before .before .before .fill2 .ensures)
+
+pub build-both-spec : {M : Type 1} → statement M
+build-both-spec =
+    tie.close
+    (tie.spec
+    check-requires
+    enum-known-checked
+    enum-told
+    refusal-requires
+    returns
+    grid-length-requires
+    returns-2
+    returns-3
+    payload-length-requires
+    returns-4
+    returns-5
+    spare-clear-requires
+    returns-6
+    spare-clear-requires-2
+    returns-7
+    fill-requires
+    fill-requires-2
+    users-count-requires
+    same-length
+    same-length-2
+    returns-8)
