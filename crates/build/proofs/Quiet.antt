@@ -22,13 +22,12 @@ use Rattle.plan.specs.Fields.{unitsOf}
 use Rattle.plan.specs.Rows.{usersOf}
 use Rattle.plan.specs.declared.Plan.{Plan}
 use Rattle.plan.specs.declared.Checked.the-variants.{Plan as accepted}
-use Rattle.layout.specs.Rules.{slotOf, inSlot, crsSymbol, crs, crsOf, marked, pss, sss, pbch, pbchArea, phich}
-use Rattle.layout.specs.Owners.{slotOfCell, symbols, owns, fixedRule, userRule}
+use Rattle.layout.specs.Rules.{inSlot, crsSymbol, crs, crsOf, marked, pss, sss, pbch, pbchArea}
+use Rattle.layout.specs.Owners.{slotOfCell, symbols, owns, fixedRule}
 use Rattle.layout.specs.declared.Mark.the-variants.{Primary, Secondary}
 use Rattle.layout.specs.declared.Owner.{Owner}
 use Rattle.layout.specs.declared.Owner.the-variants.{Crs, Sync, Pbch, Pcfich, Phich, User as UserOf, Held, Idle}
 use Rattle.layout.proofs.OneOwner.{one-owner}
-use Rattle.layout.proofs.Partition.{has-index}
 use Rattle.places.specs.Places.{placeNumber, symbolOf, carrierOf, placesOf, ownsAt, countOf, indexOf}
 use Rattle.places.proofs.Counts.{clash}
 use Rattle.places.proofs.Listing.{pcfich-count, phich-count}
@@ -36,6 +35,7 @@ use Rattle.grid.specs.Writing.{sends}
 use Rattle.grid.proofs.Sending.{silent-port}
 use Rattle.subframe.specs.Elements.{elementFor, crsElement, pssElement, sssElement, pbchSymbol, pcfichSymbol, phichSum, userNumber, userSymbol}
 use Rattle.subframe.specs.Grid.{elementNumbered}
+use Rattle.subframe.proofs.Owned.{unit-owner, user-owner}
 use Rattle.subframe.proofs.Occurs.{even-occurs, pbch-occurs, user-occurs}
 use Rattle.signals.specs.Signals.{markSends}
 use Rattle.signals.proofs.SignalOwners.{crs-covers, pss-sends, sss-sends}
@@ -169,28 +169,20 @@ module _ (w : List ℕ) (p : Plan) (ok : checkOf w ≡ accepted p) (payload : Li
         ap (λ (j : ℕ). precoded (p .cell .ports) 16 2 (pcfichSymbol (p .cell) (p .frame)) j q) (index-at Pcfich)
         ∙ quiet-data (even-occurs w p ok 16 refl) 2 (pcfichSymbol (p .cell) (p .frame)) (indexOf w p Pcfich t) q (omega (arith, l, pcfich-count w p ok)) q-lt (inactive Pcfich no-pcfich h)
 
-    unit-lt : (m : ℕ) → owns w p (Phich m) s k ≡ true → m < unitsOf (p .cell)
-    unfolding owns fixedRule phich
-    unit-lt m h = ltb-true m (unitsOf (p .cell)) (and-true (ltb m (unitsOf (p .cell))) _ (and-true _ _ h .0) .0)
-
     quiet-phich : (m : ℕ) → owns w p (Phich m) s k ≡ true → elementFor w p payload (Phich m) q s k ≡ silent
     unfolding elementFor active ownsAt unitsSend
     quiet-phich m h =
         let l = index-lt w p ok (Phich m) e h in
-        let a = inactive (Phich m) (none-at (λ (i : ℕ). ownerSends w p (Phich i) e) (unitsOf (p .cell)) no-units m (unit-lt m h)) h in
+        let a = inactive (Phich m) (none-at (λ (i : ℕ). ownerSends w p (Phich i) e) (unitsOf (p .cell)) no-units m (unit-owner w p m s k h)) h in
         ap (λ (j : ℕ). phichPrecoded (p .cell .ports) m 2 (phichSum w p payload m) (j / 4) (j % 4) q) (index-at (Phich m))
-        ∙ quiet-unit (even-occurs w p ok 12 refl) m 2 (phichSum w p payload m) (indexOf w p (Phich m) t) q (omega (arith, l, phich-count w p ok m (unit-lt m h))) q-lt a
-
-    user-lt : (i : ℕ) → owns w p (UserOf i) s k ≡ true → i < length (usersOf w p)
-    unfolding owns userRule
-    user-lt i h = has-index (slotOf (slotOfCell (p .cell)) s) k (usersOf w p) i (and-true _ _ (and-true _ _ h .0) .0)
+        ∙ quiet-unit (even-occurs w p ok 12 refl) m 2 (phichSum w p payload m) (indexOf w p (Phich m) t) q (omega (arith, l, phich-count w p ok m (unit-owner w p m s k h))) q-lt a
 
     quiet-user : (i : ℕ) → owns w p (UserOf i) s k ≡ true → elementFor w p payload (UserOf i) q s k ≡ silent
     unfolding elementFor active ownsAt usersSend
     quiet-user i h =
-        let a = inactive (UserOf i) (none-at (λ (n : ℕ). ownerSends w p (UserOf n) e) (length (usersOf w p)) no-users i (user-lt i h)) h in
+        let a = inactive (UserOf i) (none-at (λ (n : ℕ). ownerSends w p (UserOf n) e) (length (usersOf w p)) no-users i (user-owner w p i s k h)) h in
         ap (λ (j : ℕ). precoded (p .cell .ports) (countOf w p (UserOf i)) (unitOf (userNumber w p i .order)) (userSymbol w p payload i) j q) (index-at (UserOf i))
-        ∙ quiet-data (user-occurs w p ok i (user-lt i h)) (unitOf (userNumber w p i .order)) (userSymbol w p payload i) (indexOf w p (UserOf i) t) q (index-lt w p ok (UserOf i) e h) q-lt a
+        ∙ quiet-data (user-occurs w p ok i (user-owner w p i s k h)) (unitOf (userNumber w p i .order)) (userSymbol w p payload i) (indexOf w p (UserOf i) t) q (index-lt w p ok (UserOf i) e h) q-lt a
 
     by-owner : (o : Owner) → owns w p o s k ≡ true → elementFor w p payload o q s k ≡ silent
     unfolding elementFor

@@ -6,7 +6,6 @@ use native.Mathlib.Omega.{arith}
 use lib.ListN.{length, getD, take, drop}
 use lib.Seq.{getD-take, getD-drop, drop-cons}
 use Rattle.base.specs.Bits.{bitAt}
-use Rattle.base.proofs.Tables.{table-at, table-length}
 use Rattle.plan.specs.Check.{checkOf}
 use Rattle.plan.specs.Commands.{userOf}
 use Rattle.plan.specs.Rows.{nextOf, usersFrom, usersOf}
@@ -26,7 +25,7 @@ use Rattle.payload.specs.Bits.{ownerBits}
 use Rattle.payload.specs.Loops.{UserReady}
 use Rattle.payload.proofs.Sections.{length-is, userStart, user-start, user-start-next, user-bits-at}
 use Rattle.subframe.specs.Elements.{ownerBit, hiBit, userNumber}
-use Rattle.subframe.proofs.OwnerBits.{pbch-size, user-size, user-places}
+use Rattle.subframe.proofs.OwnerBits.{span-length, span-at, pbch-size, user-size, user-places}
 use Rattle.data.proofs.AreaOwners.{each-at}
 
 -- bit n of a part that starts at byte a
@@ -80,14 +79,6 @@ start-le [] zero = omega arith
 start-le [] (suc i) = omega arith
 start-le (n ∷ ns) zero = omega arith
 start-le (n ∷ ns) (suc i) = omega (arith, start-le ns i)
-
-span-at : (a n i : ℕ) → i < n → getD (span a n) i 0 ≡ a + i
-unfolding span
-span-at a n i h = table-at n (λ (j : ℕ). a + j) 0 i h
-
-span-length : (a n : ℕ) → length (span a n) ≡ n
-unfolding span
-span-length a n = table-length n (λ (j : ℕ). a + j)
 
 module _ (w : List ℕ) (p : Plan) (ok : checkOf w ≡ accepted p) (payload : List ℕ) where
   pub start-room : (i : ℕ) → userStart w p i ≤ payloadLength w p

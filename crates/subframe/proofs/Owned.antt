@@ -4,15 +4,23 @@ use mathlib.Core.Path.{_≡_, sym, ap, _∙_}
 use mathlib.Core.Logic.{_↔_}
 use mathlib.Core.Bool.{true}
 use mathlib.Core.List.{List}
-use lib.ListN.{getD}
+use borrow.Author.Tests.{ltb-true}
+use lib.Dec.{ltb}
+use lib.ListN.{length, getD}
 use Rattle.base.specs.declared.Element.{Element}
 use Rattle.base.specs.Bytes.{byteIn}
+use Rattle.plan.specs.Fields.{unitsOf}
 use Rattle.plan.specs.Check.{checkOf}
+use Rattle.plan.specs.Rows.{usersOf}
 use Rattle.plan.specs.declared.Plan.{Plan}
 use Rattle.plan.specs.declared.Checked.the-variants.{Plan as accepted}
-use Rattle.layout.specs.Owners.{gridPlace, symbols, carriers, owns, ownerOf}
+use Rattle.plan.proofs.Listed.{and-left}
+use Rattle.layout.specs.Rules.{slotOf, phich}
+use Rattle.layout.specs.Owners.{slotOfCell, gridPlace, symbols, carriers, fixedRule, userRule, owns, ownerOf}
 use Rattle.layout.specs.declared.Owner.{Owner}
+use Rattle.layout.specs.declared.Owner.the-variants.{Phich, User as UserOf}
 use Rattle.layout.proofs.OneOwner.{owner-is, owner-of}
+use Rattle.layout.proofs.Partition.{has-index}
 use Rattle.places.specs.Places.{placeNumber, symbolOf, carrierOf, ownsAt, countOf, placeOf, indexOf}
 use Rattle.places.proofs.Numbers.{place-both, symbol-inside, carrier-inside}
 use Rattle.places.proofs.Listing.{some-carriers, listed}
@@ -26,6 +34,16 @@ abbrev pub SameElements : List ℕ → Plan → Owner → List ℕ → List ℕ 
 SameElements w p o A B =
     (port s k : ℕ) → port < p .cell .ports → gridPlace (p .cell) s k → owns w p o s k ≡ true
     → elementFor w p A o port s k ≡ elementFor w p B o port s k
+
+-- a unit or a user that has a place is one of the plan's
+module _ (w : List ℕ) (p : Plan) where
+  pub unit-owner : (m s k : ℕ) → owns w p (Phich m) s k ≡ true → m < unitsOf (p .cell)
+  unfolding owns fixedRule phich
+  unit-owner m s k h = ltb-true m (unitsOf (p .cell)) (and-left (ltb m (unitsOf (p .cell))) _ (and-left _ _ h))
+
+  pub user-owner : (i s k : ℕ) → owns w p (UserOf i) s k ≡ true → i < length (usersOf w p)
+  unfolding owns userRule
+  user-owner i s k h = has-index (slotOf (slotOfCell (p .cell)) s) k (usersOf w p) i (and-left _ _ (and-left _ _ h))
 
 module _ (w : List ℕ) (p : Plan) (ok : checkOf w ≡ accepted p) (o : Owner) where
   -- at an owner's place stand the owner's element and its bytes

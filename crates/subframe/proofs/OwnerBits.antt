@@ -10,7 +10,7 @@ use native.Mathlib.Omega.{arith}
 use lib.Dec.{eqb}
 use lib.ListN.{length, getD}
 use Rattle.base.specs.Bits.{bitAt}
-use Rattle.base.proofs.Tables.{table-length}
+use Rattle.base.proofs.Tables.{table-at, table-length}
 use Rattle.modulation.specs.Symbols.{Order}
 use Rattle.codeword.specs.Codewords.{dataSymbol}
 use Rattle.codeword.proofs.Laws.{symbols-same, symbol-bits}
@@ -70,10 +70,14 @@ module _ (Q M : ℕ) (b b′ x : ℕ → ℕ) where
       let k : n / Q < M = div-lt-iff-lt-mul some .1 (omega (arith, mul-comm Q M)) in
       ap b (sym e) ∙ symbol-bits Q b b′ x (n / Q) two two′ twox (h (n / Q) k) (n % Q) (mod-lt n some) ∙ ap b′ e
 
--- ---- how many
-span-length : (a n : ℕ) → length (span a n) ≡ n
+-- ---- positions one after the other, and how many there are
+pub span-length : (a n : ℕ) → length (span a n) ≡ n
 unfolding span
 span-length a n = table-length n (λ (j : ℕ). a + j)
+
+pub span-at : (a n i : ℕ) → i < n → getD (span a n) i 0 ≡ a + i
+unfolding span
+span-at a n i h = table-at n (λ (j : ℕ). a + j) 0 i h
 
 pbch-twice : (a b : Bool) → (if a then (if b then 432 else 480) else 0) ≡ 2 * (if a then (if b then 216 else 240) else 0)
 pbch-twice true true = refl

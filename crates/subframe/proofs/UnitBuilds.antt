@@ -91,7 +91,7 @@ module _ (cell : Cell) (m : ℕ) (F : ℕ → Type 0) where
       let z : at + 1 + n ≡ at + suc n = omega arith in
       subst F z (to-his hs (at + 1) (later h hs at e) n (le-of-suc-le-suc l) u)
 
-  from-his : (hs : List Hi) (at : ℕ) → OfHis at hs → Every F (unitBits cell m at hs)
+  pub from-his : (hs : List Hi) (at : ℕ) → OfHis at hs → Every F (unitBits cell m at hs)
   unfolding unitBits
   from-his [] at f = tt
   from-his (h ∷ hs) at f =

@@ -1,0 +1,1 @@
+// The payload that a grid was built from: definitions and their laws. No code.
