@@ -18,7 +18,7 @@ use Rattle.plan.specs.declared.Plan.{Plan}
 use Rattle.plan.specs.declared.Checked.the-variants.{Plan as accepted}
 use Rattle.layout.specs.Owners.{gridPlace}
 use Rattle.layout.specs.declared.Owner.{Owner}
-use Rattle.places.specs.Places.{placeNumber, symbolOf, carrierOf, placesOf, ownsAt, countOf, indexOf}
+use Rattle.places.specs.Places.{placeNumber, symbolNumber, carrierOf, placesOf, ownsAt, placeCount, indexOf}
 use Rattle.places.proofs.Numbers.{place-both, carrier-inside, symbol-inside, first-row}
 use Rattle.places.proofs.Listing.{listed, some-carriers}
 use Rattle.grid.specs.Writing.{sends, Room}
@@ -55,18 +55,18 @@ module _ (w : List ℕ) (p : Plan) (ok : checkOf w ≡ accepted p) where
   pub port-lt : (e : ℕ) → e < p .cell .ports * placesOf (p .cell) → e / placesOf (p .cell) < p .cell .ports
   port-lt e l = div-lt-iff-lt-mul some-places .1 l
 
-  pub place-in : (e : ℕ) → gridPlace (p .cell) (symbolOf (p .cell) (e % T)) (carrierOf (p .cell) (e % T))
+  pub place-in : (e : ℕ) → gridPlace (p .cell) (symbolNumber (p .cell) (e % T)) (carrierOf (p .cell) (e % T))
   place-in e = (symbol-inside (p .cell) (some-carriers w p ok) (e % T) (place-lt e), carrier-inside (p .cell) (some-carriers w p ok) (e % T))
 
   pub numbered :
       (payload : List ℕ) (o : Owner) (e : ℕ) → ownsAt w p o (e % T) ≡ true
-      → elementNumbered w p payload e ≡ elementFor w p payload o (e / T) (symbolOf (p .cell) (e % T)) (carrierOf (p .cell) (e % T))
+      → elementNumbered w p payload e ≡ elementFor w p payload o (e / T) (symbolNumber (p .cell) (e % T)) (carrierOf (p .cell) (e % T))
   unfolding elementNumbered ownsAt
-  numbered payload o e h = owned-element w p ok o payload (e / T) (symbolOf (p .cell) (e % T)) (carrierOf (p .cell) (e % T)) (place-in e) h
+  numbered payload o e h = owned-element w p ok o payload (e / T) (symbolNumber (p .cell) (e % T)) (carrierOf (p .cell) (e % T)) (place-in e) h
 
   -- the place of an element as a number, and its index
-  pub place-number : (e : ℕ) → placeNumber (p .cell) (symbolOf (p .cell) (e % T)) (carrierOf (p .cell) (e % T)) ≡ e % T
+  pub place-number : (e : ℕ) → placeNumber (p .cell) (symbolNumber (p .cell) (e % T)) (carrierOf (p .cell) (e % T)) ≡ e % T
   place-number e = place-both (p .cell) (e % T)
 
-  pub index-lt : (o : Owner) (e : ℕ) → ownsAt w p o (e % T) ≡ true → indexOf w p o (e % T) < countOf w p o
+  pub index-lt : (o : Owner) (e : ℕ) → ownsAt w p o (e % T) ≡ true → indexOf w p o (e % T) < placeCount w p o
   index-lt o e h = listed w p ok o .below (e % T) (place-lt e) h

@@ -17,7 +17,7 @@ use Rattle.plan.proofs.RowLaws.{row-next}
 use Rattle.plan.proofs.Valid.{valid}
 use Rattle.layout.specs.declared.Owner.the-variants.{Pbch, User as UserOf}
 use Rattle.counts.specs.Users.{userElements}
-use Rattle.places.specs.Places.{placesOf, ownsAt, countOf}
+use Rattle.places.specs.Places.{placesOf, ownsAt, placeCount}
 use Rattle.places.proofs.Counts.{cnt-most}
 use Rattle.payload.specs.Sections.{sectionBytes, bytesOf, startOf, span, sectionBits}
 use Rattle.payload.specs.Payload.{pbchBits, userBits, heads, userSections, sections, payloadLength, usersStart}
@@ -93,7 +93,7 @@ module _ (w : List ℕ) (p : Plan) (ok : checkOf w ≡ accepted p) (payload : Li
     user-valid = each-at (UserIn (p .cell)) (usersOf w p) (valid w p ok .users) i in-i _
 
     user-least : userElements (p .cell) (p .frame) (u .first) (u .count) ≤ placesOf (p .cell)
-    unfolding countOf
+    unfolding placeCount
     user-least = omega (arith, user-places w p ok i in-i, cnt-most (ownsAt w p (UserOf i)) (placesOf (p .cell)))
 
     pub user-ready : placesOf (p .cell) ≤ 16800 → UserReady (p .cell) (p .frame) (userNumber w p i)
@@ -105,17 +105,17 @@ module _ (w : List ℕ) (p : Plan) (ok : checkOf w ≡ accepted p) (payload : Li
 
     pub user-slice :
         (start end : ℕ) → start ≡ userStart w p i → end ≡ start + sectionBytes (userBits (p .cell) (p .frame) (userNumber w p i))
-        → (n : ℕ) → n < userNumber w p i .order * countOf w p (UserOf i) → bitAt (take (end - start) (drop start payload)) n ≡ ownerBit w p payload (UserOf i) n
+        → (n : ℕ) → n < userNumber w p i .order * placeCount w p (UserOf i) → bitAt (take (end - start) (drop start payload)) n ≡ ownerBit w p payload (UserOf i) n
     unfolding ownerBit userNumber
     user-slice start end es ee n l =
-        let size : length (ownerBits w p (UserOf i)) ≡ u .order * countOf w p (UserOf i) = user-size w p ok i in-i in
+        let size : length (ownerBits w p (UserOf i)) ≡ u .order * placeCount w p (UserOf i) = user-size w p ok i in-i in
         let bits : ownerBits w p (UserOf i) ≡ span (8 * userStart w p i) (userBits (p .cell) (p .frame) u) = user-bits-at w p _ i in-i in
         let less : n < userBits (p .cell) (p .frame) u = omega (arith, span-length (8 * userStart w p i) (userBits (p .cell) (p .frame) u), ap length bits, size) in
         bit-slice payload start (end - start) n (omega arith)
         ∙ ap (bitAt payload) (sym (ap (λ (x : List ℕ). getD x n 0) bits ∙ span-at (8 * userStart w p i) (userBits (p .cell) (p .frame) u) n less ∙ ap (λ (x : ℕ). 8 * x + n) (sym es)))
 
   -- PBCH's section is the first, the HIs' the second
-  pub pbch-slice : (end : ℕ) → end ≡ sectionBytes (pbchBits (p .cell) (p .frame)) → (n : ℕ) → n < 2 * countOf w p Pbch → bitAt (take (end - 0) (drop 0 payload)) n ≡ ownerBit w p payload Pbch n
+  pub pbch-slice : (end : ℕ) → end ≡ sectionBytes (pbchBits (p .cell) (p .frame)) → (n : ℕ) → n < 2 * placeCount w p Pbch → bitAt (take (end - 0) (drop 0 payload)) n ≡ ownerBit w p payload Pbch n
   unfolding ownerBit ownerBits sectionBits sections heads startOf bytesOf
   pbch-slice end ee n l =
       let less : n < pbchBits (p .cell) (p .frame) = omega (arith, span-length 0 (pbchBits (p .cell) (p .frame)), pbch-size w p ok) in

@@ -14,11 +14,11 @@ use Rattle.base.proofs.Fits.{fits-abs, turn-abs}
 use Rattle.base.proofs.Pairs.{pair-of}
 use Rattle.gold.specs.Sequence.{c, bitsFrom}
 use Rattle.gold.proofs.Laws.{bits-two, c-lt}
-use Rattle.crs.specs.Crs.{normalPrefix, crsInit, inWidest, crsValue, valueOf}
+use Rattle.crs.specs.Crs.{normalPrefix, crsInit, inWidest, crsValue, wordValue}
 
 -- m values on from the first, at bit 2 (110 - N) + 2 m, stand the two bits of value m
-pub value-at : (prefix C N n l m : ℕ) → N ≤ 110 → valueOf (bitsFrom (crsInit prefix C n l) (2 * (110 - N) + 2 * m) 2) ≡ crsValue prefix C N n l m
-unfolding valueOf crsValue inWidest
+pub value-at : (prefix C N n l m : ℕ) → N ≤ 110 → wordValue (bitsFrom (crsInit prefix C n l) (2 * (110 - N) + 2 * m) 2) ≡ crsValue prefix C N n l m
+unfolding wordValue crsValue inWidest
 value-at prefix C N n l m few =
     let init = crsInit prefix C n l in
     let k = 2 * (110 - N) + 2 * m in

@@ -26,5 +26,5 @@ crsValue prefix C N n l m =
     record { re = turn (c init k) (pos 1); im = turn (c init (k + 1)) (pos 1) }
 
 -- the value of two bits as a word, the first more significant
-unfoldable pub valueOf : ℕ → Pair
-valueOf word = record { re = turn (word / 2) (pos 1); im = turn (word % 2) (pos 1) }
+unfoldable pub wordValue : ℕ → Pair
+wordValue word = record { re = turn (word / 2) (pos 1); im = turn (word % 2) (pos 1) }

@@ -2,7 +2,7 @@
 ghost use mathlib.Core.Path.{_≡_};
 ghost use Prim.Native.Nat.{ℕ, _<_, _≤_, _-_, _*_};
 ghost use Rattle.gold.specs.Sequence.{pairAt};
-ghost use Rattle.crs.specs.Crs.{normalPrefix, crsInit, valueOf};
+ghost use Rattle.crs.specs.Crs.{normalPrefix, crsInit, wordValue};
 ghost use Rattle.base.specs.Signs.{turn};
 ghost use lib.IntN.{pos};
 use base::Pair;
@@ -41,7 +41,7 @@ fn level(bit: u32) -> i8
 
 // The value of two bits of the sequence, the first more significant.
 pub fn value(word: u32) -> Pair
-    ensures { λ r. ⌜ r ≡ valueOf word ⌝ }
+    ensures { λ r. ⌜ r ≡ wordValue word ⌝ }
 {
     Pair {
         re: level(word / 2),

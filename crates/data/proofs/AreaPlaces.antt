@@ -8,7 +8,7 @@ use native.Mathlib.Omega.{arith}
 use lib.Dec.{leb, ltb}
 use borrow.Author.Tests.{le-leb, lt-leb, lt-ltb, le-ltb, leb-true}
 use Rattle.layout.specs.Owners.{slotOfCell, carriers}
-use Rattle.places.specs.Places.{symbolOf, carrierOf}
+use Rattle.places.specs.Places.{symbolNumber, carrierOf}
 use Rattle.places.specs.Halves.{without, taken}
 use Rattle.places.proofs.Counts.{by-test, clash}
 use Rattle.places.proofs.Numbers.{place-symbol, place-carrier, place-both, carrier-inside}
@@ -83,12 +83,12 @@ module _ (a : Area) where
     pub rows-early : (s t : ℕ) → s ≤ a .first → t < s * W → areaAt a t ≡ false
     unfolding areaAt
     rows-early s t h l =
-        let m : symbolOf (a .cell) t < s = div-lt-iff-lt-mul some .1 l in
-        early-row (symbolOf (a .cell) t) (carrierOf (a .cell) t) (omega arith)
+        let m : symbolNumber (a .cell) t < s = div-lt-iff-lt-mul some .1 l in
+        early-row (symbolNumber (a .cell) t) (carrierOf (a .cell) t) (omega arith)
 
     pub rows-late : (s t : ℕ) → a .last ≤ s → s * W ≤ t → areaAt a t ≡ false
     unfolding areaAt
-    rows-late s t h l = late-row (symbolOf (a .cell) t) (carrierOf (a .cell) t) (after (symbolOf (a .cell) t) (place-both (a .cell) t) (carrier-inside (a .cell) some t))
+    rows-late s t h l = late-row (symbolNumber (a .cell) t) (carrierOf (a .cell) t) (after (symbolNumber (a .cell) t) (place-both (a .cell) t) (carrier-inside (a .cell) some t))
       where
         after : (y : ℕ) {k : ℕ} → y * W + k ≡ t → k < W → a .last ≤ y
         after y e m = pick (decLe s y)

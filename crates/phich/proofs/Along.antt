@@ -13,7 +13,7 @@ use Rattle.base.specs.Pairs.{nil, plus, turned}
 use Rattle.base.proofs.Pairs.{turned-turned, turned-nil}
 use Rattle.plan.specs.declared.Hi.{Hi}
 use Rattle.phich.specs.Spreading.{Length, signAt, plainChip, chipAt}
-use Rattle.phich.specs.Units.{unitOf, firstOf, has, chipNumber, partAt, addedAt, sumAt}
+use Rattle.phich.specs.Units.{mappingUnit, firstOf, has, chipNumber, partAt, addedAt, sumAt}
 use Rattle.phich.specs.Recovery.{dot, along}
 use Rattle.phich.proofs.Correlation.{dot-plus, dot-nil, dot-turn, dot-turned, total-same, total-add, total-turn, total-zero}
 use Rattle.phich.proofs.Parts.{waveAt, part-wave}
@@ -32,7 +32,7 @@ module _ (l : ℕ) (c : ℕ → ℕ) where
 
   added-turn : (m : ℕ) (h : Hi) (b i : ℕ) → addedAt l c m h b i ≡ turned b (addedAt l c m h 0 i)
   unfolding addedAt
-  added-turn m h b i = pick (eqb (unitOf l h) m)
+  added-turn m h b i = pick (eqb (mappingUnit l h) m)
     where
       pick : (t : Bool) → cond t (partAt l c h b i) nil ≡ turned b (cond t (partAt l c h 0 i) nil)
       pick true = part-turn h b i
@@ -65,7 +65,7 @@ module _ (l : ℕ) (c : ℕ → ℕ) where
       ∙ ap (λ (x : ℤ). x +ℤ along l c g (λ i. sumAt l c m bit i hs (suc k)))
       (along-same g _ _ (λ i _. added-turn m h (bit k) i) ∙ along-turn g (bit k) (addedAt l c m h 0))
 
-  other-unit : (g : Hi) (m : ℕ) (h : Hi) → (unitOf l h ≡ m → ⊥) → along l c g (addedAt l c m h 0) ≡ pos 0
+  other-unit : (g : Hi) (m : ℕ) (h : Hi) → (mappingUnit l h ≡ m → ⊥) → along l c g (addedAt l c m h 0) ≡ pos 0
   unfolding addedAt
   other-unit g m h ne = along-same g _ _ (λ i _. ap (λ (t : Bool). cond t (partAt l c h 0 i) nil) (ne-eqb _ _ ne)) ∙ along-nil g
 
@@ -81,22 +81,22 @@ module _ (l : ℕ) (ok : Length l) (c : ℕ → ℕ) where
       ∙ dot-turned (c (i / 4 * l + i % 4 % l)) (waveAt l (firstOf l g) (g .sequence) i) (waveAt l (firstOf l h) (h .sequence) i)
       ∙ ap₂ dot (slot-wave g wg i) (slot-wave h wh i)
 
-  same-unit : (g : Hi) (m : ℕ) (h : Hi) → g .sequence < 2 * l → h .sequence < 2 * l → unitOf l h ≡ m → along l c g (addedAt l c m h 0) ≡ gram l (slotOf l g) (slotOf l h)
+  same-unit : (g : Hi) (m : ℕ) (h : Hi) → g .sequence < 2 * l → h .sequence < 2 * l → mappingUnit l h ≡ m → along l c g (addedAt l c m h 0) ≡ gram l (slotOf l g) (slotOf l h)
   unfolding addedAt along gram
   same-unit g m h wg wh e =
       along-same l c g _ _ (λ i _. ap (λ (t : Bool). cond t (partAt l c h 0 i) nil) (eq-eqb _ _ e))
       ∙ total-same 4 _ _ (λ i _. part-dot g h wg wh i)
 
   -- another HI gives 0
-  pub apart : (g h : Hi) → g .sequence < 2 * l → h .sequence < 2 * l → (g ≡ h → ⊥) → along l c g (addedAt l c (unitOf l g) h 0) ≡ pos 0
-  apart g h wg wh ne = pick (ℕ-discrete (unitOf l h) (unitOf l g))
+  pub apart : (g h : Hi) → g .sequence < 2 * l → h .sequence < 2 * l → (g ≡ h → ⊥) → along l c g (addedAt l c (mappingUnit l g) h 0) ≡ pos 0
+  apart g h wg wh ne = pick (ℕ-discrete (mappingUnit l h) (mappingUnit l g))
     where
-      pick : Dec (unitOf l h ≡ unitOf l g) → along l c g (addedAt l c (unitOf l g) h 0) ≡ pos 0
+      pick : Dec (mappingUnit l h ≡ mappingUnit l g) → along l c g (addedAt l c (mappingUnit l g) h 0) ≡ pos 0
       pick (yes u) =
-          same-unit g (unitOf l g) h wg wh u
+          same-unit g (mappingUnit l g) h wg wh u
           ∙ gram-apart l ok (slotOf l g) (slotOf l h) (slot-lt l ok g wg) (slot-lt l ok h wh) (λ s. ne (same-hi l ok g h wg wh (sym u) s))
-      pick (no u) = other-unit l c g (unitOf l g) h u
+      pick (no u) = other-unit l c g (mappingUnit l g) h u
 
   -- and the HI itself its square
-  pub square : (g : Hi) → g .sequence < 2 * l → along l c g (addedAt l c (unitOf l g) g 0) ≡ pos (2 * l)
-  square g wg = same-unit g (unitOf l g) g wg wg refl ∙ gram-same l ok (slotOf l g) (slot-lt l ok g wg)
+  pub square : (g : Hi) → g .sequence < 2 * l → along l c g (addedAt l c (mappingUnit l g) g 0) ≡ pos (2 * l)
+  square g wg = same-unit g (mappingUnit l g) g wg wg refl ∙ gram-same l ok (slotOf l g) (slot-lt l ok g wg)

@@ -14,7 +14,7 @@ use Rattle.base.specs.Tables.{table}
 use Rattle.base.proofs.Tables.{table-length, table-at, filled}
 use Rattle.plan.specs.declared.Hi.{Hi}
 use Rattle.phich.specs.Spreading.{Length}
-use Rattle.phich.specs.Units.{unitOf, firstOf, partAt, addedAt, sumAt, unitSums}
+use Rattle.phich.specs.Units.{mappingUnit, firstOf, partAt, addedAt, sumAt, unitSums}
 use Rattle.phich.specs.Recovery.{dot, along, bitIn}
 use Rattle.phich.proofs.Correlation.{total-same}
 use Rattle.phich.proofs.Lengths.{chip-lt}
@@ -34,7 +34,7 @@ module _ (l : ℕ) (ok : Length l) (c c′ : ℕ → ℕ) (same : (e : ℕ) → 
   sum-chips : (m : ℕ) (bit : ℕ → ℕ) (i : ℕ) → i < 12 → (hs : List Hi) (k : ℕ) → sumAt l c m bit i hs k ≡ sumAt l c′ m bit i hs k
   unfolding sumAt addedAt
   sum-chips m bit i r [] k = refl
-  sum-chips m bit i r (h ∷ hs) k = ap₂ plus (ap (λ (p : Pair). cond (eqb (unitOf l h) m) p nil) (part-chips h (bit k) i r)) (sum-chips m bit i r hs (suc k))
+  sum-chips m bit i r (h ∷ hs) k = ap₂ plus (ap (λ (p : Pair). cond (eqb (mappingUnit l h) m) p nil) (part-chips h (bit k) i r)) (sum-chips m bit i r hs (suc k))
 
   -- from a word's bits to the sequence they are of
   pub sums-chips : (m : ℕ) (bit : ℕ → ℕ) (hs : List Hi) → unitSums l c m bit hs ≡ unitSums l c′ m bit hs

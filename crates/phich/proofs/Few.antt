@@ -11,7 +11,7 @@ use lib.Dec.{eqb}
 use Rattle.plan.specs.declared.Hi.{Hi}
 use Rattle.phich.specs.His.{Fresh, Distinct}
 use Rattle.phich.specs.Spreading.{Length}
-use Rattle.phich.specs.Units.{unitOf, countIn, Within}
+use Rattle.phich.specs.Units.{mappingUnit, countIn, Within}
 use Rattle.phich.proofs.Slots.{slotOf, slot-lt, same-hi}
 
 -- ---- sums of counts
@@ -41,28 +41,28 @@ tally-at (suc n) f x h = pick (ℕ-discrete x n) (tally-at n f x)
 module _ (l : ℕ) (ok : Length l) (m : ℕ) where
   -- 1 where h is the unit's HI in the slot s
   hit : ℕ → Hi → ℕ
-  hit s h = cond (eqb (unitOf l h) m) (cond (eqb (slotOf l h) s) 1 0) 0
+  hit s h = cond (eqb (mappingUnit l h) m) (cond (eqb (slotOf l h) s) 1 0) 0
 
   hits : ℕ → List Hi → ℕ
   hits s [] = 0
   hits s (h ∷ hs) = hit s h + hits s hs
 
-  hit-not : (s : ℕ) (h : Hi) → (unitOf l h ≡ m → slotOf l h ≡ s → ⊥) → hit s h ≡ 0
+  hit-not : (s : ℕ) (h : Hi) → (mappingUnit l h ≡ m → slotOf l h ≡ s → ⊥) → hit s h ≡ 0
   unfolding hit
-  hit-not s h n = pick (ℕ-discrete (unitOf l h) m) (ℕ-discrete (slotOf l h) s)
+  hit-not s h n = pick (ℕ-discrete (mappingUnit l h) m) (ℕ-discrete (slotOf l h) s)
     where
-      pick : Dec (unitOf l h ≡ m) → Dec (slotOf l h ≡ s) → _≡_ {A = ℕ} (cond (eqb (unitOf l h) m) (cond (eqb (slotOf l h) s) 1 0) 0) 0
+      pick : Dec (mappingUnit l h ≡ m) → Dec (slotOf l h ≡ s) → _≡_ {A = ℕ} (cond (eqb (mappingUnit l h) m) (cond (eqb (slotOf l h) s) 1 0) 0) 0
       pick (yes x) (yes y) = absurd (n x y)
       pick (yes x) (no y) = simp (eq-eqb _ _ x, ne-eqb _ _ y)
       pick (no x) y = simp (ne-eqb _ _ x)
 
-  hit-own : (h : Hi) → hit (slotOf l h) h ≡ cond (eqb (unitOf l h) m) 1 0
+  hit-own : (h : Hi) → hit (slotOf l h) h ≡ cond (eqb (mappingUnit l h) m) 1 0
   unfolding hit
   hit-own h = simp (eq-eqb (slotOf l h) (slotOf l h) refl)
 
   hit-most : (s : ℕ) (h : Hi) → hit s h ≤ 1
   unfolding hit
-  hit-most s h = pick (eqb (unitOf l h) m) (eqb (slotOf l h) s)
+  hit-most s h = pick (eqb (mappingUnit l h) m) (eqb (slotOf l h) s)
     where
       pick : (x y : Bool) → cond x (cond y 1 0) 0 ≤ 1
       pick true true = omega arith
@@ -70,7 +70,7 @@ module _ (l : ℕ) (ok : Length l) (m : ℕ) where
       pick false y = omega arith
 
   -- an HI that hits is the only one
-  rest-zero : (s : ℕ) (h : Hi) → h .sequence < 2 * l → unitOf l h ≡ m → slotOf l h ≡ s → (hs : List Hi) → Within l hs → Fresh h hs → hits s hs ≡ 0
+  rest-zero : (s : ℕ) (h : Hi) → h .sequence < 2 * l → mappingUnit l h ≡ m → slotOf l h ≡ s → (hs : List Hi) → Within l hs → Fresh h hs → hits s hs ≡ 0
   unfolding hits Within Fresh
   rest-zero s h v x y [] w f = refl
   rest-zero s h v x y (g ∷ hs) w f =
@@ -81,9 +81,9 @@ module _ (l : ℕ) (ok : Length l) (m : ℕ) where
   hits-most : (s : ℕ) (hs : List Hi) → Within l hs → Distinct hs → hits s hs ≤ 1
   unfolding hits Within Distinct
   hits-most s [] w d = omega arith
-  hits-most s (h ∷ hs) w d = pick (ℕ-discrete (unitOf l h) m) (ℕ-discrete (slotOf l h) s) (hits-most s hs (w .1) (d .1))
+  hits-most s (h ∷ hs) w d = pick (ℕ-discrete (mappingUnit l h) m) (ℕ-discrete (slotOf l h) s) (hits-most s hs (w .1) (d .1))
     where
-      pick : Dec (unitOf l h ≡ m) → Dec (slotOf l h ≡ s) → hits s hs ≤ 1 → hit s h + hits s hs ≤ 1
+      pick : Dec (mappingUnit l h ≡ m) → Dec (slotOf l h ≡ s) → hits s hs ≤ 1 → hit s h + hits s hs ≤ 1
       pick (yes x) (yes y) ih = omega (arith, rest-zero s h (w .0) x y hs (w .1) (d .0), hit-most s h)
       pick (yes x) (no y) ih = omega (arith, hit-not s h (λ u t. y t))
       pick (no x) y ih = omega (arith, hit-not s h (λ u t. x u))

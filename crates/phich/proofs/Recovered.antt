@@ -12,7 +12,7 @@ use Rattle.base.proofs.Signs.{turn-zero}
 use Rattle.plan.specs.declared.Hi.{Hi}
 use Rattle.phich.specs.His.{hiNumber, Fresh, Distinct}
 use Rattle.phich.specs.Spreading.{Length}
-use Rattle.phich.specs.Units.{unitOf, sumAt, Within}
+use Rattle.phich.specs.Units.{mappingUnit, sumAt, Within}
 use Rattle.phich.specs.Recovery.{along}
 use Rattle.phich.proofs.Along.{along-nil, along-sum, apart, square}
 
@@ -40,23 +40,23 @@ within-at l w (later s) = within-at l (w .1) s
 
 module _ (l : ℕ) (ok : Length l) (c : ℕ → ℕ) where
   -- no HI of the list is g: nothing along g
-  none-along : (g : Hi) (wg : g .sequence < 2 * l) (bit : ℕ → ℕ) (hs : List Hi) (k : ℕ) → Within l hs → Fresh g hs → along l c g (λ i. sumAt l c (unitOf l g) bit i hs k) ≡ pos 0
+  none-along : (g : Hi) (wg : g .sequence < 2 * l) (bit : ℕ → ℕ) (hs : List Hi) (k : ℕ) → Within l hs → Fresh g hs → along l c g (λ i. sumAt l c (mappingUnit l g) bit i hs k) ≡ pos 0
   unfolding Within Fresh sumAt
   none-along g wg bit [] k w f = along-nil l c g
   none-along g wg bit (h ∷ hs) k w f =
-      along-sum l c g (unitOf l g) bit h hs k
+      along-sum l c g (mappingUnit l g) bit h hs k
       ∙ ap₂ (λ (x y : ℤ). turn (bit k) x +ℤ y) (apart l ok c g h wg (w .0) (f .0)) (none-along g wg bit hs (suc k) (w .1) (f .1))
       ∙ ap (λ (x : ℤ). x +ℤ pos 0) (turn-zero (bit k))
 
   -- g is number n: its bit, times the square
-  one-along : {hs : List Hi} {k n : ℕ} {g : Hi} (bit : ℕ → ℕ) → Within l hs → Distinct hs → Stands hs k g n → along l c g (λ i. sumAt l c (unitOf l g) bit i hs k) ≡ turn (bit n) (pos (2 * l))
+  one-along : {hs : List Hi} {k n : ℕ} {g : Hi} (bit : ℕ → ℕ) → Within l hs → Distinct hs → Stands hs k g n → along l c g (λ i. sumAt l c (mappingUnit l g) bit i hs k) ≡ turn (bit n) (pos (2 * l))
   unfolding Within Distinct
   one-along {g = g} bit w d (here {hs = hs} {k = k}) =
-      along-sum l c g (unitOf l g) bit g hs k
+      along-sum l c g (mappingUnit l g) bit g hs k
       ∙ ap₂ (λ (x y : ℤ). turn (bit k) x +ℤ y) (square l ok c g (w .0)) (none-along g (w .0) bit hs (suc k) (w .1) (d .0))
       ∙ +ℤ-idr (turn (bit k) (pos (2 * l)))
   one-along {n = n} {g = g} bit w d (later {x = x} {hs = hs} {k = k} s) =
-      along-sum l c g (unitOf l g) bit x hs k
+      along-sum l c g (mappingUnit l g) bit x hs k
       ∙ ap₂ (λ (x y : ℤ). turn (bit k) x +ℤ y) (apart l ok c g x (within-at l (w .1) s) (w .0) (fresh-apart x (d .0) s)) (one-along bit (w .1) (d .1) s)
       ∙ ap (λ (x : ℤ). x +ℤ turn (bit n) (pos (2 * l))) (turn-zero (bit k))
       ∙ +ℤ-idl (turn (bit n) (pos (2 * l)))
@@ -67,7 +67,7 @@ below-turn zero (suc n) hb hn = refl
 below-turn (suc b) (suc n) hb hn = omega arith
 
 -- the law, read as a bit
-pub below-along : (l : ℕ) (ok : Length l) (c : ℕ → ℕ) (hs : List Hi) (n : ℕ) → Within l hs → Distinct hs → (bit : ℕ → ℕ) → bit n ≤ 1 → n < length hs → below (along l c (hiNumber hs n) (λ i. sumAt l c (unitOf l (hiNumber hs n)) bit i hs 0)) ≡ bit n
+pub below-along : (l : ℕ) (ok : Length l) (c : ℕ → ℕ) (hs : List Hi) (n : ℕ) → Within l hs → Distinct hs → (bit : ℕ → ℕ) → bit n ≤ 1 → n < length hs → below (along l c (hiNumber hs n) (λ i. sumAt l c (mappingUnit l (hiNumber hs n)) bit i hs 0)) ≡ bit n
 below-along l ok c hs n w d bit b r =
     let e : 0 + n ≡ n = omega arith in
     ap below (one-along l ok c bit w d (subst (λ (i : ℕ). Stands hs 0 (hiNumber hs n) i) e (stands hs 0 n r)))

@@ -4,7 +4,7 @@ use mathlib.Core.Path.{_≡_, ap, ap₂}
 use native.Mathlib.Omega.{arith}
 use Rattle.plan.specs.declared.Hi.{Hi}
 use Rattle.phich.specs.Spreading.{Length}
-use Rattle.phich.specs.Units.{unitOf, firstOf}
+use Rattle.phich.specs.Units.{mappingUnit, firstOf}
 use Rattle.phich.proofs.Lengths.{by-length}
 
 unfoldable pub slotOf : ℕ → Hi → ℕ
@@ -35,6 +35,6 @@ pair-same l ok g h =
     (λ w v u s. (omega arith, omega arith))
     l ok
 
-pub same-hi : (l : ℕ) → Length l → (g h : Hi) → g .sequence < 2 * l → h .sequence < 2 * l → unitOf l g ≡ unitOf l h → slotOf l g ≡ slotOf l h → g ≡ h
-unfolding unitOf slotOf firstOf
+pub same-hi : (l : ℕ) → Length l → (g h : Hi) → g .sequence < 2 * l → h .sequence < 2 * l → mappingUnit l g ≡ mappingUnit l h → slotOf l g ≡ slotOf l h → g ≡ h
+unfolding mappingUnit slotOf firstOf
 same-hi l ok g h w v u s = let e = pair-same l ok g h w v u s in ap₂ (λ (x y : ℕ). record { group = x; sequence = y }) (e .0) (e .1)

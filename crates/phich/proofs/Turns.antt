@@ -20,7 +20,7 @@ use Rattle.plan.specs.declared.Hi.{Hi}
 use Rattle.plan.specs.Commands.{hiOf}
 use Rattle.plan.specs.Rows.{hisFrom, nextOf}
 use Rattle.plan.proofs.RowLaws.{row-next, row-zero}
-use Rattle.phich.specs.Units.{unitOf, partAt, addedAt, sumAt, unitSums, countIn, Within, Ready}
+use Rattle.phich.specs.Units.{mappingUnit, partAt, addedAt, sumAt, unitSums, countIn, Within, Ready}
 use Rattle.phich.specs.Loops.{withHi, Room}
 use Rattle.phich.proofs.Parts.{part-small}
 
@@ -73,20 +73,20 @@ module _ {l : ℕ} {c : ℕ → ℕ} {m : ℕ} {plan : List ℕ} {at count : ℕ
   room = record { below = λ i r. (omega (arith, t .few i r .0), omega (arith, t .few i r .1)) }
 
   -- the HI's part in the count and in the sums, by whether it is the unit's
-  grows : (x : Bool) → eqb (unitOf l (here plan from)) m ≡ x → countIn l m (rest plan from count k) ≡ cond x 1 0 + countIn l m (rest plan (nextOf plan from) count (k + 1))
+  grows : (x : Bool) → eqb (mappingUnit l (here plan from)) m ≡ x → countIn l m (rest plan from count k) ≡ cond x 1 0 + countIn l m (rest plan (nextOf plan from) count (k + 1))
   unfolding countIn
   grows x e = ap (countIn l m) split ∙ ap (λ (y : Bool). cond y 1 0 + countIn l m (rest plan (nextOf plan from) count (k + 1))) e
 
-  adds : (x : Bool) → eqb (unitOf l (here plan from)) m ≡ x → (i : ℕ) → sumAt l c m bit i (rest plan from count k) k ≡ plus (cond x (partAt l c (here plan from) (bit k) i) nil) (sumAt l c m bit i (rest plan (nextOf plan from) count (k + 1)) (k + 1))
+  adds : (x : Bool) → eqb (mappingUnit l (here plan from)) m ≡ x → (i : ℕ) → sumAt l c m bit i (rest plan from count k) k ≡ plus (cond x (partAt l c (here plan from) (bit k) i) nil) (sumAt l c m bit i (rest plan (nextOf plan from) count (k + 1)) (k + 1))
   unfolding sumAt addedAt
   adds x e i =
       ap (λ (hs : List Hi). sumAt l c m bit i hs k) split
       ∙ ap₂ (λ (y : Bool) (n : ℕ). plus (cond y (partAt l c (here plan from) (bit k) i) nil) (sumAt l c m bit i (rest plan (nextOf plan from) count (k + 1)) n)) e (sym (add-one k))
 
   -- an HI of another unit
-  pub pass : {h : Hi} → h ≡ here plan from → (unitOf l h ≡ m → ⊥) → Turn l c m plan at count bit sums (nextOf plan from) (k + 1)
+  pub pass : {h : Hi} → h ≡ here plan from → (mappingUnit l h ≡ m → ⊥) → Turn l c m plan at count bit sums (nextOf plan from) (k + 1)
   pass is ne =
-      let e = ne-eqb (unitOf l (here plan from)) m (λ u. ne (ap (unitOf l) is ∙ u)) in
+      let e = ne-eqb (mappingUnit l (here plan from)) m (λ u. ne (ap (mappingUnit l) is ∙ u)) in
       record {
         done = omega arith;
         full = t .full;
@@ -96,11 +96,11 @@ module _ {l : ℕ} {c : ℕ → ℕ} {m : ℕ} {plan : List ℕ} {at count : ℕ
       }
 
   -- an HI of the unit
-  with-here : unitOf l (here plan from) ≡ m → Turn l c m plan at count bit (withHi l c (here plan from) (bit k) sums) (nextOf plan from) (k + 1)
+  with-here : mappingUnit l (here plan from) ≡ m → Turn l c m plan at count bit (withHi l c (here plan from) (bit k) sums) (nextOf plan from) (k + 1)
   unfolding withHi
   with-here u =
       let h = here plan from in
-      let e = eq-eqb (unitOf l h) m u in
+      let e = eq-eqb (mappingUnit l h) m u in
       let f : ℕ → Pair = λ i. plus (getD sums i nil) (partAt l c h (bit k) i) in
       record {
         done = omega arith;
@@ -119,9 +119,9 @@ module _ {l : ℕ} {c : ℕ → ℕ} {m : ℕ} {plan : List ℕ} {at count : ℕ
             ∙ t .whole i r;
       }
 
-  pub add : {h : Hi} {b : ℕ} {new : List Pair} → h ≡ here plan from → b ≡ bit k → unitOf l h ≡ m → new ≡ withHi l c h b sums → Turn l c m plan at count bit new (nextOf plan from) (k + 1)
+  pub add : {h : Hi} {b : ℕ} {new : List Pair} → h ≡ here plan from → b ≡ bit k → mappingUnit l h ≡ m → new ≡ withHi l c h b sums → Turn l c m plan at count bit new (nextOf plan from) (k + 1)
   add is same u e =
-      rw (e ∙ ap₂ (λ (g : Hi) (x : ℕ). withHi l c g x sums) is same) (with-here (ap (unitOf l) (sym is) ∙ u))
+      rw (e ∙ ap₂ (λ (g : Hi) (x : ℕ). withHi l c g x sums) is same) (with-here (ap (mappingUnit l) (sym is) ∙ u))
 
 pub finish : {l : ℕ} {c : ℕ → ℕ} {m : ℕ} {plan : List ℕ} {at count : ℕ} {bit : ℕ → ℕ} {sums : List Pair} {from k : ℕ} → Turn l c m plan at count bit sums from k → count ≤ k → sums ≡ unitSums l c m bit (hisFrom (drop at plan) count)
 unfolding unitSums sumAt

@@ -20,7 +20,7 @@ use Rattle.plan.specs.declared.Hi.{Hi}
 use Rattle.plan.specs.Rows.{hisFrom}
 use Rattle.phich.specs.His.{hiNumber, Distinct}
 use Rattle.phich.specs.Spreading.{Length}
-use Rattle.phich.specs.Units.{unitOf, firstOf, partAt, addedAt, sumAt, unitSums, countIn, Within, Ready, SameBits}
+use Rattle.phich.specs.Units.{mappingUnit, firstOf, partAt, addedAt, sumAt, unitSums, countIn, Within, Ready, SameHiBits}
 use Rattle.phich.specs.Recovery.{bitIn}
 use Rattle.phich.proofs.Parts.{part-small}
 use Rattle.phich.proofs.Along.{along-same}
@@ -28,12 +28,12 @@ use Rattle.phich.proofs.Recovered.{below-along}
 use Rattle.phich.proofs.Few.{few}
 
 -- ---- units and places of both prefixes, in the papers' words
-pub unit-normal : (h : Hi) → unitOf 4 h ≡ h .group
-unfolding unitOf
+pub unit-normal : (h : Hi) → mappingUnit 4 h ≡ h .group
+unfolding mappingUnit
 unit-normal h = omega arith
 
-pub unit-extended : (h : Hi) → unitOf 2 h ≡ h .group / 2
-unfolding unitOf
+pub unit-extended : (h : Hi) → mappingUnit 2 h ≡ h .group / 2
+unfolding mappingUnit
 unit-extended h = omega arith
 
 pub first-normal : (h : Hi) → firstOf 4 h ≡ 0
@@ -55,9 +55,9 @@ ready l m plan at count ok w d = record { spread = ok; known = w; few = few l ok
 
 -- ---- sizes: an HI adds at most 1 either way, and only to its unit
 module _ (l : ℕ) (c : ℕ → ℕ) (m : ℕ) (i : ℕ) where
-  added-small : (h : Hi) (b : ℕ) → Small (cond (eqb (unitOf l h) m) 1 0) (addedAt l c m h b i)
+  added-small : (h : Hi) (b : ℕ) → Small (cond (eqb (mappingUnit l h) m) 1 0) (addedAt l c m h b i)
   unfolding addedAt
-  added-small h b = pick (eqb (unitOf l h) m)
+  added-small h b = pick (eqb (mappingUnit l h) m)
     where
       pick : (t : Bool) → Small (cond t 1 0) (cond t (partAt l c h b i) nil)
       pick true = part-small l c h b i
@@ -66,13 +66,13 @@ module _ (l : ℕ) (c : ℕ → ℕ) (m : ℕ) (i : ℕ) where
   pub sum-small : (bit : ℕ → ℕ) (hs : List Hi) (k : ℕ) → Small (countIn l m hs) (sumAt l c m bit i hs k)
   unfolding sumAt countIn
   sum-small bit [] k = (omega arith, omega arith)
-  sum-small bit (h ∷ hs) k = plus-small (cond (eqb (unitOf l h) m) 1 0) (countIn l m hs) (addedAt l c m h (bit k) i) (sumAt l c m bit i hs (suc k)) (added-small h (bit k)) (sum-small bit hs (suc k))
+  sum-small bit (h ∷ hs) k = plus-small (cond (eqb (mappingUnit l h) m) 1 0) (countIn l m hs) (addedAt l c m h (bit k) i) (sumAt l c m bit i hs (suc k)) (added-small h (bit k)) (sum-small bit hs (suc k))
 
 -- ---- "an empty unit still owns its elements, with sum 0"
 none-sum : (l : ℕ) (c : ℕ → ℕ) (m : ℕ) (bit : ℕ → ℕ) (i : ℕ) (hs : List Hi) (k : ℕ) → countIn l m hs ≡ 0 → sumAt l c m bit i hs k ≡ nil
 unfolding sumAt addedAt countIn
 none-sum l c m bit i [] k e = refl
-none-sum l c m bit i (h ∷ hs) k e = pick (eqb (unitOf l h) m) e (λ z. none-sum l c m bit i hs (suc k) z)
+none-sum l c m bit i (h ∷ hs) k e = pick (eqb (mappingUnit l h) m) e (λ z. none-sum l c m bit i hs (suc k) z)
   where
     pick : (t : Bool) → cond t 1 0 + countIn l m hs ≡ 0 → (countIn l m hs ≡ 0 → sumAt l c m bit i hs (suc k) ≡ nil) → plus (cond t (partAt l c h (bit k) i) nil) (sumAt l c m bit i hs (suc k)) ≡ nil
     pick true z ih = absurd (omega arith)
@@ -83,17 +83,17 @@ unfolding unitSums
 empty l c m bit hs e = table-same 12 _ _ (λ i. none-sum l c m bit i hs 0 e)
 
 -- ---- the same bits of a unit's HIs make the same sums
-agreed : (l : ℕ) (c : ℕ → ℕ) (m : ℕ) (bit bit′ : ℕ → ℕ) (i : ℕ) (hs : List Hi) (k : ℕ) → ((n : ℕ) → n < length hs → unitOf l (hiNumber hs n) ≡ m → bit (k + n) ≡ bit′ (k + n)) → sumAt l c m bit i hs k ≡ sumAt l c m bit′ i hs k
+agreed : (l : ℕ) (c : ℕ → ℕ) (m : ℕ) (bit bit′ : ℕ → ℕ) (i : ℕ) (hs : List Hi) (k : ℕ) → ((n : ℕ) → n < length hs → mappingUnit l (hiNumber hs n) ≡ m → bit (k + n) ≡ bit′ (k + n)) → sumAt l c m bit i hs k ≡ sumAt l c m bit′ i hs k
 unfolding sumAt addedAt
 agreed l c m bit bit′ i [] k h = refl
 agreed l c m bit bit′ i (g ∷ hs) k h =
-    ap₂ plus (pick (ℕ-discrete (unitOf l g) m))
+    ap₂ plus (pick (ℕ-discrete (mappingUnit l g) m))
     (agreed l c m bit bit′ i hs (suc k) (λ n r u. let e : k + suc n ≡ suc k + n = omega arith in subst (λ (x : ℕ). bit x ≡ bit′ x) e (h (suc n) (suc-le-suc r) u)))
   where
-    pick : Dec (unitOf l g ≡ m) → addedAt l c m g (bit k) i ≡ addedAt l c m g (bit′ k) i
+    pick : Dec (mappingUnit l g ≡ m) → addedAt l c m g (bit k) i ≡ addedAt l c m g (bit′ k) i
     pick (yes e) =
         let z : k + 0 ≡ k = omega arith in
-        ap (λ (b : ℕ). cond (eqb (unitOf l g) m) (partAt l c g b i) nil) (subst (λ (x : ℕ). bit x ≡ bit′ x) z (h 0 (suc-le-suc zero-le) e))
+        ap (λ (b : ℕ). cond (eqb (mappingUnit l g) m) (partAt l c g b i) nil) (subst (λ (x : ℕ). bit x ≡ bit′ x) z (h 0 (suc-le-suc zero-le) e))
     pick (no e) = simp (ne-eqb _ _ e)
 
 module _ (l : ℕ) (ok : Length l) (c : ℕ → ℕ) (hs : List Hi) (w : Within l hs) (d : Distinct hs) where
@@ -106,15 +106,15 @@ module _ (l : ℕ) (ok : Length l) (c : ℕ → ℕ) (hs : List Hi) (w : Within 
   small m bit i r = rw (at-place m bit i r) (let s = sum-small l c m i bit hs 0 in (omega (arith, s .0, few l ok m hs w d), omega (arith, s .1, few l ok m hs w d)))
 
   -- THE LAW: the bit of each HI is read back from its unit's sums
-  pub recovered : (bit : ℕ → ℕ) (n : ℕ) → bit n ≤ 1 → n < length hs → bitIn l c (hiNumber hs n) (unitSums l c (unitOf l (hiNumber hs n)) bit hs) ≡ bit n
+  pub recovered : (bit : ℕ → ℕ) (n : ℕ) → bit n ≤ 1 → n < length hs → bitIn l c (hiNumber hs n) (unitSums l c (mappingUnit l (hiNumber hs n)) bit hs) ≡ bit n
   unfolding bitIn
   recovered bit n b r =
-      ap below (along-same l c (hiNumber hs n) _ (λ i. sumAt l c (unitOf l (hiNumber hs n)) bit i hs 0) (λ i k. at-place (unitOf l (hiNumber hs n)) bit i (omega arith)))
+      ap below (along-same l c (hiNumber hs n) _ (λ i. sumAt l c (mappingUnit l (hiNumber hs n)) bit i hs 0) (λ i k. at-place (mappingUnit l (hiNumber hs n)) bit i (omega arith)))
       ∙ below-along l ok c hs n w d bit b r
 
   -- and so a unit's sums are the same exactly where its bits are
-  pub exactly : (m : ℕ) (bit bit′ : ℕ → ℕ) → ((n : ℕ) → bit n ≤ 1) → ((n : ℕ) → bit′ n ≤ 1) → (unitSums l c m bit hs ≡ unitSums l c m bit′ hs) ↔ SameBits l m hs bit bit′
-  unfolding SameBits unitSums
+  pub exactly : (m : ℕ) (bit bit′ : ℕ → ℕ) → ((n : ℕ) → bit n ≤ 1) → ((n : ℕ) → bit′ n ≤ 1) → (unitSums l c m bit hs ≡ unitSums l c m bit′ hs) ↔ SameHiBits l m hs bit bit′
+  unfolding SameHiBits unitSums
   exactly m bit bit′ b b′ = (
     (λ e n r u. sym (recovered bit n (b n) r) ∙ ap (bitIn l c (hiNumber hs n)) (rw u e) ∙ recovered bit′ n (b′ n) r),
     (λ same. table-same 12 _ _ (λ i. agreed l c m bit bit′ i hs 0 (λ n r u. let z : 0 + n ≡ n = omega arith in rw z (same n r u)))),

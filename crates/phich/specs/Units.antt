@@ -15,8 +15,8 @@ use Rattle.phich.specs.Spreading.{Length, chipAt}
 
 -- A group has l of the four places of each quad, and groups lie side by side: document 01's unit, "normal unit = group,
 -- extended unit = groups 2m, 2m+1" (laws unit-normal, unit-extended)
-unfoldable pub unitOf : ℕ → Hi → ℕ
-unitOf l h = h .group * l / 4
+unfoldable pub mappingUnit : ℕ → Hi → ℕ
+mappingUnit l h = h .group * l / 4
 
 -- the first of its group's places in each quad: 0, and with the extended prefix 2 for an odd group
 unfoldable pub firstOf : ℕ → Hi → ℕ
@@ -36,7 +36,7 @@ partAt l c h b i = cond (has l h i) (chipAt l c (h .sequence) b (chipNumber l h 
 
 -- what the HI h, with the bit b, adds at place i of the unit m
 unfoldable pub addedAt : ℕ → (ℕ → ℕ) → ℕ → Hi → ℕ → ℕ → Pair
-addedAt l c m h b i = cond (eqb (unitOf l h) m) (partAt l c h b i) nil
+addedAt l c m h b i = cond (eqb (mappingUnit l h) m) (partAt l c h b i) nil
 
 -- 6.9.3: the sum at place i of the unit m, over the HIs hs of which the first is number k; bit n is that of HI n
 unfoldable pub sumAt : ℕ → (ℕ → ℕ) → ℕ → (ℕ → ℕ) → ℕ → List Hi → ℕ → Pair
@@ -50,7 +50,7 @@ unitSums l c m bit hs = table 12 (λ (i : ℕ). sumAt l c m bit i hs 0)
 -- the number of the unit's HIs
 unfoldable pub countIn : ℕ → ℕ → List Hi → ℕ
 countIn l m [] = 0
-countIn l m (h ∷ hs) = cond (eqb (unitOf l h) m) 1 0 + countIn l m hs
+countIn l m (h ∷ hs) = cond (eqb (mappingUnit l h) m) 1 0 + countIn l m hs
 
 -- "sequences 0–7, extended 0–3"
 unfoldable pub Within : ℕ → List Hi → Type 0
@@ -65,5 +65,5 @@ pub record Ready (l m : ℕ) (plan : List ℕ) (at count : ℕ) : Type 0 where
   pub few : countIn l m (hisFrom (drop at plan) count) ≤ 8
 
 -- "A unit's bits are those of the HIs of its groups": the two agree in all of them
-unfoldable pub SameBits : ℕ → ℕ → List Hi → (ℕ → ℕ) → (ℕ → ℕ) → Type 0
-SameBits l m hs bit bit′ = (n : ℕ) → n < length hs → unitOf l (hiNumber hs n) ≡ m → bit n ≡ bit′ n
+unfoldable pub SameHiBits : ℕ → ℕ → List Hi → (ℕ → ℕ) → (ℕ → ℕ) → Type 0
+SameHiBits l m hs bit bit′ = (n : ℕ) → n < length hs → mappingUnit l (hiNumber hs n) ≡ m → bit n ≡ bit′ n

@@ -14,7 +14,7 @@ ghost use Rattle.base.specs.Pairs.{plus as plusOf};
 ghost use Rattle.base.specs.Bits.{bitAt};
 ghost use Rattle.plan.specs.Rows.{hisFrom};
 ghost use Rattle.phich.specs.Spreading.{Length, signAt, plainChip, wordBit};
-ghost use Rattle.phich.specs.Units.{unitOf, firstOf, partAt, unitSums, Ready};
+ghost use Rattle.phich.specs.Units.{mappingUnit, firstOf, partAt, unitSums, Ready};
 ghost use Rattle.phich.specs.Recovery.{dot as dotOf, bitIn};
 ghost use Rattle.phich.specs.Loops.{withHi, Room};
 
@@ -78,7 +78,7 @@ fn scrambling(w: u32, e: usize) -> u8
 // The unit of the HI's group. Every caller's l is a spreading length.
 pub fn unit_of(l: usize, h: Hi) -> usize
     requires { ⌜ l ≤ 4 ⌝ }
-    ensures { λ r. ⌜ r ≡ unitOf l h ⌝ }
+    ensures { λ r. ⌜ r ≡ mappingUnit l h ⌝ }
 {
     let g = h.group;
     g as usize * l / 4

@@ -14,7 +14,7 @@ use Rattle.plan.specs.Commands.{hiOf}
 use Rattle.plan.specs.Rows.{hisFrom, nextOf}
 use Rattle.plan.proofs.RowLaws.{row-next, row-zero}
 use Rattle.phich.specs.Spreading.{Length}
-use Rattle.phich.specs.Units.{unitOf, countIn, Within, Ready}
+use Rattle.phich.specs.Units.{mappingUnit, countIn, Within, Ready}
 
 -- the HIs from number k on, which stand from position `from` on
 abbrev rest : List ℕ → ℕ → ℕ → ℕ → List Hi
@@ -42,14 +42,14 @@ pub one-small : (x : Bool) → cond x 1 0 ≤ 1
 one-small true = omega arith
 one-small false = omega arith
 
-pub next : {l m : ℕ} {plan : List ℕ} {count mine from k : ℕ} → Seen l m plan count mine from k → k < count → (n : ℕ) → n ≡ cond (eqb (unitOf l (here plan from)) m) 1 0 → here plan from .sequence < 2 * l → Seen l m plan count (mine + n) (nextOf plan from) (k + 1)
+pub next : {l m : ℕ} {plan : List ℕ} {count mine from k : ℕ} → Seen l m plan count mine from k → k < count → (n : ℕ) → n ≡ cond (eqb (mappingUnit l (here plan from)) m) 1 0 → here plan from .sequence < 2 * l → Seen l m plan count (mine + n) (nextOf plan from) (k + 1)
 unfolding Within countIn
 next {l = l} {m = m} {plan = plan} {count = count} {mine = mine} {from = from} {k = k} s r n e w =
     let a : count - k - 1 ≡ count - (k + 1) = omega arith in
     let split : rest plan from count k ≡ here plan from ∷ rest plan (nextOf plan from) count (k + 1) = first plan from (count - k) (omega arith) ∙ ap (λ (j : ℕ). here plan from ∷ hisFrom (drop (nextOf plan from) plan) j) a in
     record {
       done = omega arith;
-      small = omega (arith, s .small, e, one-small (eqb (unitOf l (here plan from)) m));
+      small = omega (arith, s .small, e, one-small (eqb (mappingUnit l (here plan from)) m));
       known = λ v. s .known (rw split (w, v));
       counted = omega (arith, s .counted, e, ap (countIn l m) split);
     }

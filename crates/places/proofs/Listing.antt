@@ -23,7 +23,7 @@ use Rattle.layout.proofs.Few.{blocks-least, blocks-most, sixths-most}
 use Rattle.layout.proofs.Units.{units-fit}
 use Rattle.places.specs.Counts.{Listed}
 use Rattle.places.specs.Quads.{keeps, quadPlace, unitGroup, quadsPlace, quadsIndex, InQuads}
-use Rattle.places.specs.Places.{placeNumber, symbolOf, carrierOf, placesOf, ownsAt, countOf, orderOf, placeBy, indexBy, placeOf, indexOf, PlacesListed}
+use Rattle.places.specs.Places.{placeNumber, symbolNumber, carrierOf, placesOf, ownsAt, placeCount, orderOf, placeBy, indexBy, placeOf, indexOf, PlacesListed}
 use Rattle.places.proofs.Counts.{by-test, listed-nth, listed-none, listed-count}
 use Rattle.places.proofs.Quads.{Groups, quads-listed, quads-exactly, quads-at}
 use Rattle.places.proofs.Channels.{format-groups, unit-groups}
@@ -90,7 +90,7 @@ module _ (w : List ℕ) (p : Plan) where
 -- ---- a channel of quads with the rule of its groups
 module _ (c : Cell) (n : ℕ) (group : ℕ → ℕ) (has : ℕ → Bool) (some : 0 < carriers c) (gs : Groups n (2 * c .blocks) group has) where
   pub by-quads :
-      (own : ℕ → Bool) → ((t : ℕ) → own t ≡ eqb (symbolOf c t) 0 && (keeps (c .identity % 3) (carrierOf c t) && has (carrierOf c t / 6)))
+      (own : ℕ → Bool) → ((t : ℕ) → own t ≡ eqb (symbolNumber c t) 0 && (keeps (c .identity % 3) (carrierOf c t) && has (carrierOf c t / 6)))
       → Listed own (placesOf c) (4 * n) (λ (j : ℕ). placeNumber c 0 (quadsPlace (c .identity) group j)) (λ (t : ℕ). quadsIndex (c .identity) n group (carrierOf c t))
   by-quads own same =
       let e : 6 * (2 * c .blocks) ≡ carriers c = omega arith in
@@ -114,8 +114,8 @@ module _ (c : Cell) (n : ℕ) (group : ℕ → ℕ) (has : ℕ → Bool) (some :
       from h = e ∙ rw (eq-eqb s 0 (h .0)) (exactly .1 (h .1))
 
 module _ (w : List ℕ) (p : Plan) (o : Owner) (m : ℕ) (l : Listed (ownsAt w p o) (placesOf (p .cell)) m (placeOf w p o) (indexOf w p o)) where
-  count-is : countOf w p o ≡ m
-  unfolding countOf
+  count-is : placeCount w p o ≡ m
+  unfolding placeCount
   count-is = listed-count m (ownsAt w p o) (placesOf (p .cell)) (placeOf w p o) (indexOf w p o) l
 
   counted : PlacesListed w p o
@@ -141,19 +141,19 @@ module _ (w : List ℕ) (p : Plan) (ok : checkOf w ≡ accepted p) where
 
   pcfich-at :
       (t : ℕ)
-      → ownsAt w p Pcfich t ≡ eqb (symbolOf (p .cell) t) 0 && (keeps (p .cell .identity % 3) (carrierOf (p .cell) t) && isFormat (p .cell .identity) (p .cell .blocks) (carrierOf (p .cell) t / 6))
+      → ownsAt w p Pcfich t ≡ eqb (symbolNumber (p .cell) t) 0 && (keeps (p .cell .identity % 3) (carrierOf (p .cell) t) && isFormat (p .cell .identity) (p .cell .blocks) (carrierOf (p .cell) t / 6))
   unfolding ownsAt owns fixedRule
-  pcfich-at t = pcfich-is (p .cell .identity) (p .cell .blocks) (symbolOf (p .cell) t) (carrierOf (p .cell) t)
+  pcfich-at t = pcfich-is (p .cell .identity) (p .cell .blocks) (symbolNumber (p .cell) t) (carrierOf (p .cell) t)
 
   phich-at :
       (m : ℕ) → m < unitsOf (p .cell) → (t : ℕ)
-      → ownsAt w p (Phich m) t ≡ eqb (symbolOf (p .cell) t) 0 && (keeps (p .cell .identity % 3) (carrierOf (p .cell) t) && unitHas (p .cell .identity) (p .cell .blocks) m 0 (carrierOf (p .cell) t / 6))
+      → ownsAt w p (Phich m) t ≡ eqb (symbolNumber (p .cell) t) 0 && (keeps (p .cell .identity % 3) (carrierOf (p .cell) t) && unitHas (p .cell .identity) (p .cell .blocks) m 0 (carrierOf (p .cell) t / 6))
   unfolding ownsAt owns fixedRule
-  phich-at m h t = phich-is (p .cell .identity) (p .cell .blocks) (unitsOf (p .cell)) m (symbolOf (p .cell) t) (carrierOf (p .cell) t) h
+  phich-at m h t = phich-is (p .cell .identity) (p .cell .blocks) (unitsOf (p .cell)) m (symbolNumber (p .cell) t) (carrierOf (p .cell) t) h
 
   no-unit : (m : ℕ) → unitsOf (p .cell) ≤ m → (t : ℕ) → ownsAt w p (Phich m) t ≡ false
   unfolding ownsAt owns fixedRule
-  no-unit m h t = phich-none (p .cell .identity) (p .cell .blocks) (unitsOf (p .cell)) m (symbolOf (p .cell) t) (carrierOf (p .cell) t) h
+  no-unit m h t = phich-none (p .cell .identity) (p .cell .blocks) (unitsOf (p .cell)) m (symbolNumber (p .cell) t) (carrierOf (p .cell) t) h
 
   pcfich-listed : Listed (ownsAt w p Pcfich) (placesOf (p .cell)) 16 (placeOf w p Pcfich) (indexOf w p Pcfich)
   unfolding placeOf indexOf placeBy indexBy orderOf
@@ -166,10 +166,10 @@ module _ (w : List ℕ) (p : Plan) (ok : checkOf w ≡ accepted p) where
   phich-listed m h = by-quads (p .cell) 3 (unitGroup (p .cell .identity) (p .cell .blocks) m) (unitHas (p .cell .identity) (p .cell .blocks) m 0) some-carriers (phich-groups m h) (ownsAt w p (Phich m)) (phich-at m h)
 
   -- PCFICH has sixteen places, a unit twelve
-  pub pcfich-count : countOf w p Pcfich ≡ 16
+  pub pcfich-count : placeCount w p Pcfich ≡ 16
   pcfich-count = count-is w p Pcfich 16 pcfich-listed
 
-  pub phich-count : (m : ℕ) → m < unitsOf (p .cell) → countOf w p (Phich m) ≡ 12
+  pub phich-count : (m : ℕ) → m < unitsOf (p .cell) → placeCount w p (Phich m) ≡ 12
   phich-count m h = count-is w p (Phich m) 12 (phich-listed m h)
 
   unit-listed : (m : ℕ) → PlacesListed w p (Phich m)
@@ -180,7 +180,7 @@ module _ (w : List ℕ) (p : Plan) (ok : checkOf w ≡ accepted p) where
 
   -- THE LAW
   pub listed : (o : Owner) → PlacesListed w p o
-  unfolding countOf placeOf indexOf placeBy indexBy orderOf
+  unfolding placeCount placeOf indexOf placeBy indexBy orderOf
   listed (Crs q) = listed-nth (ownsAt w p (Crs q)) (placesOf (p .cell))
   listed (Sync m) = listed-nth (ownsAt w p (Sync m)) (placesOf (p .cell))
   listed Pbch = listed-nth (ownsAt w p Pbch) (placesOf (p .cell))

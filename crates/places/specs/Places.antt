@@ -16,8 +16,8 @@ use Rattle.places.specs.Quads.{unitGroup, quadsPlace, quadsIndex}
 abbrev pub placeNumber : Cell → ℕ → ℕ → ℕ
 placeNumber c s k = s * carriers c + k
 
-abbrev pub symbolOf : Cell → ℕ → ℕ
-symbolOf c t = t / carriers c
+abbrev pub symbolNumber : Cell → ℕ → ℕ
+symbolNumber c t = t / carriers c
 
 abbrev pub carrierOf : Cell → ℕ → ℕ
 carrierOf c t = t % carriers c
@@ -27,11 +27,11 @@ placesOf c = symbols c * carriers c
 
 -- the owner's rule at place number t
 unfoldable pub ownsAt : List ℕ → Plan → Owner → ℕ → Bool
-ownsAt w p o t = owns w p o (symbolOf (p .cell) t) (carrierOf (p .cell) t)
+ownsAt w p o t = owns w p o (symbolNumber (p .cell) t) (carrierOf (p .cell) t)
 
 -- "its element count (a user's G) is the number of its places, ports not multiplied"
-unfoldable pub countOf : List ℕ → Plan → Owner → ℕ
-countOf w p o = cnt (ownsAt w p o) (placesOf (p .cell))
+unfoldable pub placeCount : List ℕ → Plan → Owner → ℕ
+placeCount w p o = cnt (ownsAt w p o) (placesOf (p .cell))
 
 -- the order of an owner's places: "k first, then s", or by quads, n of them, quad i in group `group i` of symbol 0
 pub data Order : Type 0 where
@@ -66,4 +66,4 @@ indexOf w p o t = indexBy (p .cell) (ownsAt w p o) (orderOf (p .cell) o) t
 -- the two undo each other on the owner's places and on the indices below its count. proofs/Listing.antt: so for every owner of an
 -- accepted plan
 abbrev pub PlacesListed : List ℕ → Plan → Owner → Type 0
-PlacesListed w p o = Listed (ownsAt w p o) (placesOf (p .cell)) (countOf w p o) (placeOf w p o) (indexOf w p o)
+PlacesListed w p o = Listed (ownsAt w p o) (placesOf (p .cell)) (placeCount w p o) (placeOf w p o) (indexOf w p o)

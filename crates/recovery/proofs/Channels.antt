@@ -30,7 +30,7 @@ use Rattle.plan.specs.declared.Plan.{Plan}
 use Rattle.plan.specs.declared.Checked.the-variants.{Plan as accepted}
 use Rattle.layout.specs.declared.Owner.{Owner}
 use Rattle.layout.specs.declared.Owner.the-variants.{Pbch, User as UserOf}
-use Rattle.places.specs.Places.{symbolOf, carrierOf, countOf, placeOf}
+use Rattle.places.specs.Places.{symbolNumber, carrierOf, placeCount, placeOf}
 use Rattle.payload.specs.Sections.{startOf, sectionBits}
 use Rattle.payload.specs.Payload.{pbchBits, userBits, heads, sections}
 use Rattle.payload.specs.Bits.{ownerBits}
@@ -68,29 +68,29 @@ bit-back Q b x some i two =
 module _
     (w : List ℕ) (p : Plan) (ok : checkOf w ≡ accepted p) (A : List ℕ) (o : Owner) (Q u : ℕ) (x : ℕ → ℕ)
     (order : Order Q)
-    (occurs : Occurs (p .cell .ports) (countOf w p o))
+    (occurs : Occurs (p .cell .ports) (placeCount w p o))
     (sends : Sends w p o u (dataSymbol Q (ownerBit w p A o) x) A)
   where
-    symbol-back : (j : ℕ) → j < countOf w p o → symbolIn w p (gridOf w p A) o (j / 2) j ≡ dataSymbol Q (ownerBit w p A o) x j
+    symbol-back : (j : ℕ) → j < placeCount w p o → symbolIn w p (gridOf w p A) o (j / 2) j ≡ dataSymbol Q (ownerBit w p A o) x j
     symbol-back j l =
         let d : ℕ → Pair = dataSymbol Q (ownerBit w p A o) x in
         let q : ℕ = ownPort (p .cell .ports) (j / 2) in
-        let s : ℕ = symbolOf (p .cell) (placeOf w p o j) in
+        let s : ℕ = symbolNumber (p .cell) (placeOf w p o j) in
         let k : ℕ = carrierOf (p .cell) (placeOf w p o j) in
         let in-port : q < p .cell .ports = own-inside (j / 2) occurs in
         let h : Small 7 (d j) = order-symbol Q order (ownerBit w p A o) x j in
         symbol-in w p ok o A (j / 2) j l in-port
         ∙ ap pairOf
         (sends q s k
-        ∙ ap (λ (n : ℕ). precoded (p .cell .ports) (countOf w p o) u d n q) (index-back w p ok o j l)
+        ∙ ap (λ (n : ℕ). precoded (p .cell .ports) (placeCount w p o) u d n q) (index-back w p ok o j l)
         ∙ by-place occurs u d j q l in-port)
         ∙ own-read (p .cell .ports) (j / 2) u (j % 2) (d j) (d (beside j)) (omega arith, omega arith)
 
-    data-back : (i : ℕ) → i < Q * countOf w p o → dataBit w p (gridOf w p A) o Q x i ≡ ownerBit w p A o i
+    data-back : (i : ℕ) → i < Q * placeCount w p o → dataBit w p (gridOf w p A) o Q x i ≡ ownerBit w p A o i
     unfolding dataBit
     data-back i l =
         let some : 0 < Q = omega arith in
-        let k : i / Q < countOf w p o = div-lt-iff-lt-mul some .1 (omega (arith, mul-comm Q (countOf w p o))) in
+        let k : i / Q < placeCount w p o = div-lt-iff-lt-mul some .1 (omega (arith, mul-comm Q (placeCount w p o))) in
         ap (λ (y : Pair). (dig (wordOf (demapOf Q y)) (Q - 1 - i % Q) + x i) % 2) (symbol-back (i / Q) k)
         ∙ bit-back Q (ownerBit w p A o) x some i (bit-two w p o A i)
 
@@ -100,12 +100,12 @@ module _ (w : List ℕ) (p : Plan) (ok : checkOf w ≡ accepted p) where
   unfolding ownerBits sectionBits sections heads
   pbch-length = span-length (8 * startOf (sections w p) 0) (pbchBits (p .cell) (p .frame))
 
-  pbch-fits : (i : ℕ) → i < pbchBits (p .cell) (p .frame) → i < 2 * countOf w p Pbch
+  pbch-fits : (i : ℕ) → i < pbchBits (p .cell) (p .frame) → i < 2 * placeCount w p Pbch
   pbch-fits i l = omega (arith, pbch-length, pbch-size w p ok)
 
   user-fits :
       (i : ℕ) → i < length (usersOf w p) → (n : ℕ) → n < userBits (p .cell) (p .frame) (userNumber w p i)
-      → n < userNumber w p i .order * countOf w p (UserOf i)
+      → n < userNumber w p i .order * placeCount w p (UserOf i)
   unfolding userBits
   user-fits i in-i n l = rw (user-places w p ok i in-i) l
 

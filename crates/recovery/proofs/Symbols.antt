@@ -18,7 +18,7 @@ use Rattle.plan.specs.declared.Plan.{Plan}
 use Rattle.plan.specs.declared.Checked.the-variants.{Plan as accepted}
 use Rattle.layout.specs.Owners.{symbols, carriers}
 use Rattle.layout.specs.declared.Owner.{Owner}
-use Rattle.places.specs.Places.{symbolOf, carrierOf, placesOf, countOf, placeOf}
+use Rattle.places.specs.Places.{symbolNumber, carrierOf, placesOf, placeCount, placeOf}
 use Rattle.places.proofs.Numbers.{place-both}
 use Rattle.subframe.specs.Elements.{elementFor}
 use Rattle.subframe.specs.Grid.{gridOf}
@@ -48,16 +48,16 @@ own-read P turn u odd d e s =
     ap (λ (q : ℕ). pairOf (onPort P (turn % 2) u odd d e q)) (sym (own-turn P turn)) ∙ read P (turn % 2) u odd d e s
 
 -- ---- THE LAW: at an owner's j-th place the grid has the owner's element
-module _ (w : List ℕ) (p : Plan) (ok : checkOf w ≡ accepted p) (o : Owner) (A : List ℕ) (turn j : ℕ) (l : j < countOf w p o) where
+module _ (w : List ℕ) (p : Plan) (ok : checkOf w ≡ accepted p) (o : Owner) (A : List ℕ) (turn j : ℕ) (l : j < placeCount w p o) where
   pub symbol-in :
       ownPort (p .cell .ports) turn < p .cell .ports
       → symbolIn w p (gridOf w p A) o turn j
-      ≡ pairOf (elementFor w p A o (ownPort (p .cell .ports) turn) (symbolOf (p .cell) (placeOf w p o j)) (carrierOf (p .cell) (placeOf w p o j)))
+      ≡ pairOf (elementFor w p A o (ownPort (p .cell .ports) turn) (symbolNumber (p .cell) (placeOf w p o j)) (carrierOf (p .cell) (placeOf w p o j)))
   unfolding symbolIn
   symbol-in in-port =
       let q : ℕ = ownPort (p .cell .ports) turn in
       let t : ℕ = placeOf w p o j in
-      let s : ℕ = symbolOf (p .cell) t in
+      let s : ℕ = symbolNumber (p .cell) t in
       let k : ℕ = carrierOf (p .cell) t in
       let e : ℕ = (q * symbols (p .cell) + s) * carriers (p .cell) + k in
       let at : e ≡ q * placesOf (p .cell) + t =

@@ -18,7 +18,7 @@ use Rattle.precoding.specs.Places.{ownPort, beside}
 use Rattle.precoding.proofs.Ports.{own-inside}
 use Rattle.precoding.proofs.Diversity.{phich-by-place}
 use Rattle.phich.specs.His.{hiNumber}
-use Rattle.phich.specs.Units.{unitOf, sumAt, unitSums}
+use Rattle.phich.specs.Units.{mappingUnit, sumAt, unitSums}
 use Rattle.phich.specs.Recovery.{bitIn}
 use Rattle.phich.proofs.Units.{unit-normal, unit-extended, bit-le, recovered}
 use Rattle.plan.specs.Fields.{unitsOf, groupsOf}
@@ -33,7 +33,7 @@ use Rattle.plan.proofs.Listed.{every-at}
 use Rattle.plan.proofs.Valid.{valid}
 use Rattle.layout.specs.Choice.{if_then_else_}
 use Rattle.layout.specs.declared.Owner.the-variants.{Phich}
-use Rattle.places.specs.Places.{countOf}
+use Rattle.places.specs.Places.{placeCount}
 use Rattle.places.proofs.Listing.{phich-count}
 use Rattle.payload.specs.Sections.{startOf}
 use Rattle.payload.specs.Payload.{sections}
@@ -46,11 +46,11 @@ use Rattle.recovery.specs.Recovery.{symbolIn, sumsIn, ackBit}
 use Rattle.recovery.proofs.Symbols.{own-read, symbol-in}
 
 -- ---- the unit of an HI is one of the cell's
-hi-unit : (cell : Cell) (h : Hi) → HiIn cell h → unitOf (spreadLength cell) h < unitsOf cell
+hi-unit : (cell : Cell) (h : Hi) → HiIn cell h → mappingUnit (spreadLength cell) h < unitsOf cell
 unfolding spreadLength groupsOf
 hi-unit cell h i = pick (eqb (cell .prefix) 1) (i .group)
   where
-    pick : (t : Bool) → h .group < cond t (2 * unitsOf cell) (unitsOf cell) → unitOf (if t then 2 else 4) h < unitsOf cell
+    pick : (t : Bool) → h .group < cond t (2 * unitsOf cell) (unitsOf cell) → mappingUnit (if t then 2 else 4) h < unitsOf cell
     pick true l = omega (arith, unit-extended h)
     pick false l = omega (arith, unit-normal h)
 
@@ -64,7 +64,7 @@ module _ (w : List ℕ) (p : Plan) (ok : checkOf w ≡ accepted p) (A : List ℕ
         let occurs : Occurs (p .cell .ports) 12 = unit-occurs w p ok in
         let q : ℕ = ownPort (p .cell .ports) (i / 4 + m) in
         let in-port : q < p .cell .ports = own-inside (i / 4 + m) occurs in
-        let l : i < countOf w p (Phich m) = omega (arith, phich-count w p ok m in-m) in
+        let l : i < placeCount w p (Phich m) = omega (arith, phich-count w p ok m in-m) in
         let n : ℕ = 4 * (i / 4) + i % 4 in
         let e : n ≡ i = omega arith in
         let h : Small 8 (d n) = sums-small w p ok A m n (omega arith) in
@@ -89,7 +89,7 @@ module _ (w : List ℕ) (p : Plan) (ok : checkOf w ≡ accepted p) (A : List ℕ
     listed : n < length (hisOf w p)
     listed = omega (arith, valid w p ok .his-count)
 
-    in-unit : unitOf (spreadLength (p .cell)) (hiNumber (hisOf w p) n) < unitsOf (p .cell)
+    in-unit : mappingUnit (spreadLength (p .cell)) (hiNumber (hisOf w p) n) < unitsOf (p .cell)
     in-unit = hi-unit (p .cell) (hiNumber (hisOf w p) n) (every-at (HiIn (p .cell)) (record { group = 0; sequence = 0 }) (hisOf w p) n (valid w p ok .his) listed)
 
     pub ack-recovered : ackBit w p (gridOf w p A) n ≡ hiBit w p A n
@@ -97,6 +97,6 @@ module _ (w : List ℕ) (p : Plan) (ok : checkOf w ≡ accepted p) (A : List ℕ
     ack-recovered =
         let L : ℕ = spreadLength (p .cell) in
         let h : Hi = hiNumber (hisOf w p) n in
-        ap (bitIn L (c (controlInit (p .cell) (p .frame))) h) (sums-back (unitOf L h) in-unit)
+        ap (bitIn L (c (controlInit (p .cell) (p .frame))) h) (sums-back (mappingUnit L h) in-unit)
         ∙ recovered L (spread w p ok) (c (controlInit (p .cell) (p .frame))) (hisOf w p) (within w p ok) (distinct w p ok) (hiBit w p A) n
         (bit-le A (8 * startOf (sections w p) 1 + n)) listed

@@ -15,7 +15,7 @@ use Rattle.modulation.specs.declared.Demapped.the-variants.{Word, NoLevel}
 use Rattle.modulation.specs.Demapping.{demapOf}
 use Rattle.precoding.specs.Places.{ownPort}
 use Rattle.phich.specs.His.{hiNumber}
-use Rattle.phich.specs.Units.{unitOf}
+use Rattle.phich.specs.Units.{mappingUnit}
 use Rattle.phich.specs.Recovery.{bitIn}
 use Rattle.plan.specs.Rows.{hisOf, usersOf}
 use Rattle.plan.specs.declared.User.{User}
@@ -59,7 +59,7 @@ unfoldable pub ackBit : List ℕ → Plan → List ℕ → ℕ → ℕ
 ackBit w p g n =
     let l = spreadLength (p .cell) in
     let h = hiNumber (hisOf w p) n in
-    bitIn l (c (controlInit (p .cell) (p .frame))) h (sumsIn w p g (unitOf l h))
+    bitIn l (c (controlInit (p .cell) (p .frame))) h (sumsIn w p g (mappingUnit l h))
 
 -- "each starting on a byte and filled most significant bit first", "spare bits zero": the bytes of a section of n bits
 unfoldable pub sectionOf : (ℕ → ℕ) → ℕ → List ℕ

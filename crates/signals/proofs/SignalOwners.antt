@@ -28,7 +28,7 @@ use Rattle.layout.specs.declared.Mark.the-variants.{Primary, Secondary}
 use Rattle.layout.specs.declared.Owner.the-variants.{Crs, Sync}
 use Rattle.counts.proofs.Logic.{both}
 use Rattle.counts.proofs.Ranges.{big}
-use Rattle.places.specs.Places.{symbolOf, carrierOf, placesOf}
+use Rattle.places.specs.Places.{symbolNumber, carrierOf, placesOf}
 use Rattle.subframe.specs.Elements.{crsElement, pssElement, sssElement}
 use Rattle.signals.specs.Signals.{crsSends, crsFrom, crsSent, markSends, pssSent, sssSent}
 
@@ -53,19 +53,19 @@ module _ (w : List ℕ) (p : Plan) where
   -- ---- reference signals
   module _ (q s e : ℕ) where
     crs-parts : crsSends (p .cell) s q e ≡ true
-        → (e / placesOf (p .cell) ≡ q) × (symbolOf (p .cell) (e % placesOf (p .cell)) ≡ s)
+        → (e / placesOf (p .cell) ≡ q) × (symbolNumber (p .cell) (e % placesOf (p .cell)) ≡ s)
         × (standsAt (p .cell .identity) (carrierOf (p .cell) (e % placesOf (p .cell))) (shift q (inSlot (slotOfCell (p .cell)) s) (slotOf (slotOfCell (p .cell)) s)) ≡ true)
     unfolding crsSends
     crs-parts h =
         let t = e % placesOf (p .cell) in
         let a = eqb (e / placesOf (p .cell)) q in
-        let b = eqb (symbolOf (p .cell) t) s in
+        let b = eqb (symbolNumber (p .cell) t) s in
         let d = standsAt (p .cell .identity) (carrierOf (p .cell) t) (shift q (inSlot (slotOfCell (p .cell)) s) (slotOf (slotOfCell (p .cell)) s)) in
         let ab : a && b ≡ true = and-left (a && b) d h in
         (eqb-true _ _ (and-left a b ab), eqb-true _ _ (and-right a b ab), and-right (a && b) d h)
 
     pub crs-sends : q < p .cell .ports → crsSymbol (slotOfCell (p .cell)) q (inSlot (slotOfCell (p .cell)) s) ≡ true → crsSends (p .cell) s q e ≡ true
-        → (owns w p (Crs q) s (carrierOf (p .cell) (e % placesOf (p .cell))) ≡ true) × (e / placesOf (p .cell) ≡ q) × (symbolOf (p .cell) (e % placesOf (p .cell)) ≡ s)
+        → (owns w p (Crs q) s (carrierOf (p .cell) (e % placesOf (p .cell))) ≡ true) × (e / placesOf (p .cell) ≡ q) × (symbolNumber (p .cell) (e % placesOf (p .cell)) ≡ s)
     unfolding owns fixedRule crs crsOf
     crs-sends l y h =
         let d = crs-parts h in
@@ -84,12 +84,12 @@ module _ (w : List ℕ) (p : Plan) where
         (carrierOf (p .cell) (e % placesOf (p .cell)) / 6) (omega (arith, big (p .cell .blocks) (valid w p ok .cell .blocks)))))
 
   -- and every place of the signal is sent on its port
-  pub crs-covers : (q e : ℕ) → owns w p (Crs q) (symbolOf (p .cell) (e % placesOf (p .cell))) (carrierOf (p .cell) (e % placesOf (p .cell))) ≡ true → e / placesOf (p .cell) ≡ q
-      → crsSends (p .cell) (symbolOf (p .cell) (e % placesOf (p .cell))) q e ≡ true
+  pub crs-covers : (q e : ℕ) → owns w p (Crs q) (symbolNumber (p .cell) (e % placesOf (p .cell))) (carrierOf (p .cell) (e % placesOf (p .cell))) ≡ true → e / placesOf (p .cell) ≡ q
+      → crsSends (p .cell) (symbolNumber (p .cell) (e % placesOf (p .cell))) q e ≡ true
   unfolding owns fixedRule crs crsOf crsSends
   crs-covers q e o d =
       let L = slotOfCell (p .cell) in
-      let s = symbolOf (p .cell) (e % placesOf (p .cell)) in
+      let s = symbolNumber (p .cell) (e % placesOf (p .cell)) in
       let k = carrierOf (p .cell) (e % placesOf (p .cell)) in
       let y = crsSymbol L q (inSlot L s) in
       let v = standsAt (p .cell .identity) k (shift q (inSlot L s) (slotOf L s)) in
@@ -98,34 +98,34 @@ module _ (w : List ℕ) (p : Plan) where
   -- ---- synchronisation signals
   module _ (e : ℕ) where
     mark-parts : (y : ℕ) → markSends (p .cell) y e ≡ true
-        → (e / placesOf (p .cell) ≡ 0) × (eqb (symbolOf (p .cell) (e % placesOf (p .cell)) + y) (slotOfCell (p .cell)) ≡ true)
+        → (e / placesOf (p .cell) ≡ 0) × (eqb (symbolNumber (p .cell) (e % placesOf (p .cell)) + y) (slotOfCell (p .cell)) ≡ true)
         × (used (p .cell .blocks) (carrierOf (p .cell) (e % placesOf (p .cell))) ≡ true)
     unfolding markSends
     mark-parts y h =
         let t = e % placesOf (p .cell) in
         let a = eqb (e / placesOf (p .cell)) 0 in
-        let b = eqb (symbolOf (p .cell) t + y) (slotOfCell (p .cell)) in
+        let b = eqb (symbolNumber (p .cell) t + y) (slotOfCell (p .cell)) in
         let d = used (p .cell .blocks) (carrierOf (p .cell) t) in
         let ab : a && b ≡ true = and-left (a && b) d h in
         (eqb-true _ _ (and-left a b ab), and-right a b ab, and-right (a && b) d h)
 
-    mark-whole : (y : ℕ) → marked (p .frame .subframe) && eqb (symbolOf (p .cell) (e % placesOf (p .cell)) + y) (slotOfCell (p .cell)) && used (p .cell .blocks) (carrierOf (p .cell) (e % placesOf (p .cell))) ≡ true
+    mark-whole : (y : ℕ) → marked (p .frame .subframe) && eqb (symbolNumber (p .cell) (e % placesOf (p .cell)) + y) (slotOfCell (p .cell)) && used (p .cell .blocks) (carrierOf (p .cell) (e % placesOf (p .cell))) ≡ true
         → e / placesOf (p .cell) ≡ 0 → markSends (p .cell) y e ≡ true
     unfolding markSends
     mark-whole y o d =
         let t = e % placesOf (p .cell) in
         let m = marked (p .frame .subframe) in
-        let b = eqb (symbolOf (p .cell) t + y) (slotOfCell (p .cell)) in
+        let b = eqb (symbolNumber (p .cell) t + y) (slotOfCell (p .cell)) in
         let u = used (p .cell .blocks) (carrierOf (p .cell) t) in
         both (both (eq-eqb _ _ d) (and-right m b (and-left (m && b) u o))) (and-right (m && b) u o)
 
     pub pss-sends : marked (p .frame .subframe) ≡ true
-        → (markSends (p .cell) 1 e ≡ true) ↔ ((owns w p (Sync Primary) (symbolOf (p .cell) (e % placesOf (p .cell))) (carrierOf (p .cell) (e % placesOf (p .cell))) ≡ true) × (e / placesOf (p .cell) ≡ 0))
+        → (markSends (p .cell) 1 e ≡ true) ↔ ((owns w p (Sync Primary) (symbolNumber (p .cell) (e % placesOf (p .cell))) (carrierOf (p .cell) (e % placesOf (p .cell))) ≡ true) × (e / placesOf (p .cell) ≡ 0))
     unfolding owns fixedRule pss
     pss-sends m = (λ h. let d = mark-parts 1 h in (both (both m (d .1)) (d .2), d .0), λ h. mark-whole 1 (h .0) (h .1))
 
     pub sss-sends : marked (p .frame .subframe) ≡ true
-        → (markSends (p .cell) 2 e ≡ true) ↔ ((owns w p (Sync Secondary) (symbolOf (p .cell) (e % placesOf (p .cell))) (carrierOf (p .cell) (e % placesOf (p .cell))) ≡ true) × (e / placesOf (p .cell) ≡ 0))
+        → (markSends (p .cell) 2 e ≡ true) ↔ ((owns w p (Sync Secondary) (symbolNumber (p .cell) (e % placesOf (p .cell))) (carrierOf (p .cell) (e % placesOf (p .cell))) ≡ true) × (e / placesOf (p .cell) ≡ 0))
     unfolding owns fixedRule sss
     sss-sends m = (λ h. let d = mark-parts 2 h in (both (both m (d .1)) (d .2), d .0), λ h. mark-whole 2 (h .0) (h .1))
 

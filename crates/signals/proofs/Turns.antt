@@ -21,7 +21,7 @@ use Rattle.gold.specs.Steps.{after, outputOf, wordOf}
 use Rattle.gold.proofs.Binary.{binary-digit}
 use Rattle.gold.proofs.Laws.{after-none, after-after, output-lt}
 use Rattle.codeword.specs.Streams.{outputs}
-use Rattle.crs.specs.Crs.{valueOf}
+use Rattle.crs.specs.Crs.{wordValue}
 use Rattle.crs.proofs.Values.{held}
 use Rattle.sync.specs.declared.Sss.{Sss}
 use Rattle.sync.specs.Pss.{pssPhase}
@@ -46,7 +46,7 @@ word-first word n first g = record { few = omega arith; done = empty (wordSent w
 
 pub word-turn :
     (word n first : ℕ) {g₀ g g′ : List ℕ} (i : ℕ) {d : Pair} {el : Element} → i < n → WordDone word n first g₀ g i
-    → d ≡ valueOf (word / 2 ^ (2 * (n - 1 - i)) % 4) → el ≡ elementOf 2 d → Written (eqb (first + 6 * i)) (λ (x : ℕ). el) g g′
+    → d ≡ wordValue (word / 2 ^ (2 * (n - 1 - i)) % 4) → el ≡ elementOf 2 d → Written (eqb (first + 6 * i)) (λ (x : ℕ). el) g g′
     → WordDone word n first g₀ g′ (i + 1)
 unfolding wordSent valueIn
 word-turn word n first i {d} {el} l h ed ee put = record { few = omega arith; done = over (h .done) put value (sixth-one first i) }
@@ -55,7 +55,7 @@ word-turn word n first i {d} {el} l h ed ee put = record { few = omega arith; do
     value e t =
         let b : first + 6 * i ≡ e = eqb-true _ _ t in
         let j : i ≡ (e - first) / 6 = omega arith in
-        ee ∙ ap (elementOf 2) ed ∙ ap (λ (j : ℕ). elementOf 2 (valueOf (word / 2 ^ (2 * (n - 1 - j)) % 4))) j
+        ee ∙ ap (elementOf 2) ed ∙ ap (λ (j : ℕ). elementOf 2 (wordValue (word / 2 ^ (2 * (n - 1 - j)) % 4))) j
 
 pub word-last : (word n first : ℕ) {g₀ g : List ℕ} (i : ℕ) → WordDone word n first g₀ g i → n ≤ i → Written (everySixth first n) (wordSent word n first) g₀ g
 word-last word n first i h l =
@@ -71,8 +71,8 @@ pair-bit r m n a b t e f =
     ∙ ap outputOf (after-after r (2 * m) (0 + a) ∙ ap (after r) f)
 
 -- the value of two bits from bit j on, counted from the right
-two-bits : (w j : ℕ) {a b : ℕ} → dig w (j + 1) ≡ a → dig w j ≡ b → valueOf (w / 2 ^ j % 4) ≡ record { re = turn a (pos 1); im = turn b (pos 1) }
-unfolding valueOf dig
+two-bits : (w j : ℕ) {a b : ℕ} → dig w (j + 1) ≡ a → dig w j ≡ b → wordValue (w / 2 ^ j % 4) ≡ record { re = turn a (pos 1); im = turn b (pos 1) }
+unfolding wordValue dig
 two-bits w j ea eb =
     pair-of
     (ap (λ (b : ℕ). turn b (pos 1)) (halved (w / 2 ^ j) ∙ ap (λ (x : ℕ). x % 2) (shr-shr w j 1) ∙ ea))
@@ -85,7 +85,7 @@ two-bits w j ea eb =
     last x = omega arith
 
 -- value i of the next word is value m + i
-value-bits : (r : Registers) (m n i : ℕ) → i < n → valueOf (wordOf (after r (2 * m)) (2 * n) / 2 ^ (2 * (n - 1 - i)) % 4) ≡ crsFrom r (m + i)
+value-bits : (r : Registers) (m n i : ℕ) → i < n → wordValue (wordOf (after r (2 * m)) (2 * n) / 2 ^ (2 * (n - 1 - i)) % 4) ≡ crsFrom r (m + i)
 unfolding crsFrom
 value-bits r m n i l =
     let j = 2 * (n - 1 - i) in
@@ -119,7 +119,7 @@ values-turn r n first {pair = pair} m count word l h ew written en =
         let i = (e - (first + 6 * m)) / 6 in
         let j : m + i ≡ (e - first) / 6 = omega arith in
         let w : word ≡ wordOf (after r (2 * m)) (2 * count) = ew ∙ ap (λ (x : Registers). wordOf x (2 * count)) (h .stands) in
-        ap (elementOf 2) (ap (λ (x : ℕ). valueOf (x / 2 ^ (2 * (count - 1 - i)) % 4)) w ∙ value-bits r m count i (d .2) ∙ ap (crsFrom r) j)
+        ap (elementOf 2) (ap (λ (x : ℕ). wordValue (x / 2 ^ (2 * (count - 1 - i)) % 4)) w ∙ value-bits r m count i (d .2) ∙ ap (crsFrom r) j)
 
 pub values-last :
     (r : Registers) (n first : ℕ) {g₀ g : List ℕ} {pair : Registers} (m : ℕ) → ValuesDone r n first g₀ g pair m → n ≤ m

@@ -7,7 +7,7 @@ use lib.IntN.{pos}
 use Rattle.base.specs.declared.Element.{Element}
 use Rattle.base.specs.Bytes.{elementOf}
 use Rattle.gold.specs.declared.Registers.{Registers}
-use Rattle.crs.specs.Crs.{valueOf}
+use Rattle.crs.specs.Crs.{wordValue}
 use Rattle.sync.specs.declared.Sss.{Sss}
 use Rattle.sync.specs.Pss.{pssPhase}
 use Rattle.sync.specs.Sss.{levelIn}
@@ -36,7 +36,7 @@ everySixth first n e = leb first e && eqb ((e - first) % 6) 0 && ltb ((e - first
 
 -- value i of n in a word of 2n bits, the first most significant
 unfoldable pub valueIn : ℕ → ℕ → ℕ → Element
-valueIn word n i = elementOf 2 (valueOf (word / 2 ^ (2 * (n - 1 - i)) % 4))
+valueIn word n i = elementOf 2 (wordValue (word / 2 ^ (2 * (n - 1 - i)) % 4))
 
 unfoldable pub wordSent : ℕ → ℕ → ℕ → ℕ → Element
 wordSent word n first e = valueIn word n ((e - first) / 6)

@@ -14,14 +14,14 @@ use Rattle.plan.specs.declared.Cell.{Cell}
 use Rattle.plan.specs.declared.Frame.{Frame}
 use Rattle.layout.specs.Rules.{slotOf, inSlot, standsAt, shift, used}
 use Rattle.layout.specs.Owners.{slotOfCell}
-use Rattle.places.specs.Places.{symbolOf, carrierOf, placesOf}
+use Rattle.places.specs.Places.{symbolNumber, carrierOf, placesOf}
 use Rattle.subframe.specs.Elements.{pssElement, sssElement}
 
 -- the element stands on port q, in symbol s, where the port's reference signal does
 unfoldable pub crsSends : Cell → ℕ → ℕ → ℕ → Bool
 crsSends c s q e =
     let t = e % placesOf c in
-    eqb (e / placesOf c) q && eqb (symbolOf c t) s && standsAt (c .identity) (carrierOf c t) (shift q (inSlot (slotOfCell c) s) (slotOf (slotOfCell c) s))
+    eqb (e / placesOf c) q && eqb (symbolNumber c t) s && standsAt (c .identity) (carrierOf c t) (shift q (inSlot (slotOfCell c) s) (slotOf (slotOfCell c) s))
 
 -- value m of a symbol, two bits of what the pair gives
 unfoldable pub crsFrom : Registers → ℕ → Pair
@@ -35,7 +35,7 @@ crsSent c r e = elementOf 2 (crsFrom r (carrierOf c (e % placesOf c) / 6))
 unfoldable pub markSends : Cell → ℕ → ℕ → Bool
 markSends c y e =
     let t = e % placesOf c in
-    eqb (e / placesOf c) 0 && eqb (symbolOf c t + y) (slotOfCell c) && used (c .blocks) (carrierOf c t)
+    eqb (e / placesOf c) 0 && eqb (symbolNumber c t + y) (slotOfCell c) && used (c .blocks) (carrierOf c t)
 
 unfoldable pub pssSent : Cell → ℕ → Element
 pssSent c e = pssElement c 0 (carrierOf c (e % placesOf c))

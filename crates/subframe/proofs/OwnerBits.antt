@@ -28,7 +28,7 @@ use Rattle.layout.specs.declared.Owner.{Owner}
 use Rattle.layout.specs.declared.Owner.the-variants.{Pbch, User as UserOf}
 use Rattle.counts.specs.Users.{userElements}
 use Rattle.counts.proofs.UserElements.{user-elements}
-use Rattle.places.specs.Places.{countOf}
+use Rattle.places.specs.Places.{placeCount}
 use Rattle.places.proofs.Elements.{count-is}
 use Rattle.payload.specs.Sections.{startOf, span, sectionBits}
 use Rattle.payload.specs.Payload.{pbchBits, userBits, heads, sections}
@@ -96,7 +96,7 @@ module _ (w : List ℕ) (p : Plan) where
   pbch-span = refl
 
 module _ (w : List ℕ) (p : Plan) (ok : checkOf w ≡ accepted p) where
-  pub pbch-size : length (ownerBits w p Pbch) ≡ 2 * countOf w p Pbch
+  pub pbch-size : length (ownerBits w p Pbch) ≡ 2 * placeCount w p Pbch
   unfolding pbchBits
   pbch-size =
       ap length (pbch-span w p)
@@ -110,7 +110,7 @@ module _ (w : List ℕ) (p : Plan) (ok : checkOf w ≡ accepted p) where
     user-order = order-of (userNumber w p i .order) (every-at (UserIn (p .cell)) (record { rnti = 0; order = 0; first = 0; count = 0 }) (usersOf w p) i (valid w p ok .users) l .order)
 
     -- a user has as many places as its count says
-    pub user-places : countOf w p (UserOf i) ≡ userElements (p .cell) (p .frame) (userNumber w p i .first) (userNumber w p i .count)
+    pub user-places : placeCount w p (UserOf i) ≡ userElements (p .cell) (p .frame) (userNumber w p i .first) (userNumber w p i .count)
     unfolding userNumber
     user-places = count-is w p (UserOf i) ∙ user-elements w p ok (record { rnti = 0; order = 0; first = 0; count = 0 }) i l
 
@@ -118,7 +118,7 @@ module _ (w : List ℕ) (p : Plan) (ok : checkOf w ≡ accepted p) where
     unfolding userNumber
     user-span = user-bits-at w p (record { rnti = 0; order = 0; first = 0; count = 0 }) i l
 
-    pub user-size : length (ownerBits w p (UserOf i)) ≡ userNumber w p i .order * countOf w p (UserOf i)
+    pub user-size : length (ownerBits w p (UserOf i)) ≡ userNumber w p i .order * placeCount w p (UserOf i)
     unfolding userBits
     user-size =
         ap length user-span

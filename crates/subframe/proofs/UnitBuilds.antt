@@ -21,7 +21,7 @@ use Rattle.precoding.specs.Layers.{Occurs}
 use Rattle.precoding.specs.Phich.{phichPrecoded}
 use Rattle.precoding.proofs.Diversity.{phich-elements, phich-symbols}
 use Rattle.phich.specs.His.{hiNumber}
-use Rattle.phich.specs.Units.{unitOf, sumAt, unitSums, SameBits as SameHis}
+use Rattle.phich.specs.Units.{mappingUnit, sumAt, unitSums, SameHiBits as SameHis}
 use Rattle.phich.proofs.Units.{unit-normal, unit-extended, bit-le, exactly}
 use Rattle.plan.specs.Lists.{Every}
 use Rattle.plan.specs.Fields.{unitsOf}
@@ -34,7 +34,7 @@ use Rattle.plan.specs.declared.Checked.the-variants.{Plan as accepted}
 use Rattle.layout.specs.Choice.{if_then_else_}
 use Rattle.layout.specs.declared.Owner.the-variants.{Phich}
 use Rattle.counts.proofs.Logic.{by-test, on-if}
-use Rattle.places.specs.Places.{placeNumber, symbolOf, carrierOf, countOf, placeOf, indexOf}
+use Rattle.places.specs.Places.{placeNumber, symbolNumber, carrierOf, placeCount, placeOf, indexOf}
 use Rattle.places.proofs.Listing.{phich-count}
 use Rattle.payload.specs.Payload.{sections}
 use Rattle.payload.specs.Sections.{startOf}
@@ -57,18 +57,18 @@ pair-test g m = pick (ℕ-discrete (g / 2) m)
         (λ d. let f : g ≡ 2 * m + 1 = omega (arith, eqb-false g (2 * m) d) in rw (d, eq-eqb (g / 2) m e, eq-eqb g (2 * m + 1) f) refl)
     pick (no n) = rw (ne-eqb g (2 * m) (λ e. n (omega arith)), ne-eqb g (2 * m + 1) (λ e. n (omega arith)), ne-eqb (g / 2) m n) refl
 
-unit-test : (cell : Cell) (m : ℕ) (h : Hi) → hasGroup cell m (h .group) ≡ eqb (unitOf (spreadLength cell) h) m
+unit-test : (cell : Cell) (m : ℕ) (h : Hi) → hasGroup cell m (h .group) ≡ eqb (mappingUnit (spreadLength cell) h) m
 unfolding hasGroup spreadLength
 unit-test cell m h = pick (eqb (cell .prefix) 1)
   where
-    pick : (t : Bool) → (if t then eqb (h .group) (2 * m) || eqb (h .group) (2 * m + 1) else eqb (h .group) m) ≡ eqb (unitOf (if t then 2 else 4) h) m
+    pick : (t : Bool) → (if t then eqb (h .group) (2 * m) || eqb (h .group) (2 * m + 1) else eqb (h .group) m) ≡ eqb (mappingUnit (if t then 2 else 4) h) m
     pick true = pair-test (h .group) m ∙ ap (λ (u : ℕ). eqb u m) (sym (unit-extended h))
     pick false = ap (λ (u : ℕ). eqb u m) (sym (unit-normal h))
 
 -- what holds of each of a unit's bits holds of each of its HIs, by number, and back
 module _ (cell : Cell) (m : ℕ) (F : ℕ → Type 0) where
   abbrev OfHis : ℕ → List Hi → Type 0
-  OfHis at hs = (n : ℕ) → n < length hs → unitOf (spreadLength cell) (hiNumber hs n) ≡ m → F (at + n)
+  OfHis at hs = (n : ℕ) → n < length hs → mappingUnit (spreadLength cell) (hiNumber hs n) ≡ m → F (at + n)
 
   later : (h : Hi) (hs : List Hi) (at : ℕ) → Every F (unitBits cell m at (h ∷ hs)) → Every F (unitBits cell m (at + 1) hs)
   unfolding unitBits
@@ -78,10 +78,10 @@ module _ (cell : Cell) (m : ℕ) (F : ℕ → Type 0) where
       pick true e = e .1
       pick false e = e
 
-  first : (h : Hi) (hs : List Hi) (at : ℕ) → unitOf (spreadLength cell) h ≡ m → Every F (unitBits cell m at (h ∷ hs)) → F at
+  first : (h : Hi) (hs : List Hi) (at : ℕ) → mappingUnit (spreadLength cell) h ≡ m → Every F (unitBits cell m at (h ∷ hs)) → F at
   unfolding unitBits
   first h hs at u e =
-      let t : hasGroup cell m (h .group) ≡ true = unit-test cell m h ∙ eq-eqb (unitOf (spreadLength cell) h) m u in
+      let t : hasGroup cell m (h .group) ≡ true = unit-test cell m h ∙ eq-eqb (mappingUnit (spreadLength cell) h) m u in
       (subst (λ (b : Bool). Every F (if b then at ∷ unitBits cell m (at + 1) hs else unitBits cell m (at + 1) hs)) t e) .0
 
   to-his : (hs : List Hi) (at : ℕ) → Every F (unitBits cell m at hs) → OfHis at hs
@@ -98,7 +98,7 @@ module _ (cell : Cell) (m : ℕ) (F : ℕ → Type 0) where
       let next : OfHis (at + 1) hs = λ n l u. let z : at + suc n ≡ at + 1 + n = omega arith in subst F z (f (suc n) (suc-le-suc l) u) in
       let rest : Every F (unitBits cell m (at + 1) hs) = from-his hs (at + 1) next in
       on-if (Every F) (hasGroup cell m (h .group))
-      (λ t. let z : at + 0 ≡ at = omega arith in (subst F z (f 0 (suc-le-suc zero-le) (eqb-true (unitOf (spreadLength cell) h) m (sym (unit-test cell m h) ∙ t))), rest))
+      (λ t. let z : at + 0 ≡ at = omega arith in (subst F z (f 0 (suc-le-suc zero-le) (eqb-true (mappingUnit (spreadLength cell) h) m (sym (unit-test cell m h) ∙ t))), rest))
       (λ t. rest)
 
 -- ---- an accepted plan
@@ -127,12 +127,12 @@ module _ (w : List ℕ) (p : Plan) (ok : checkOf w ≡ accepted p) where
         → phichPrecoded (p .cell .ports) m 2 (phichSum w p A m) (i / 4) (i % 4) port ≡ phichPrecoded (p .cell .ports) m 2 (phichSum w p B m) (i / 4) (i % 4) port
     unfolding elementFor
     at-place in-m same i l port in-port =
-        let r : i < countOf w p (Phich m) = omega (arith, phich-count w p ok m in-m) in
+        let r : i < placeCount w p (Phich m) = omega (arith, phich-count w p ok m in-m) in
         let t : ℕ = placeOf w p (Phich m) i in
         subst
         (λ (j : ℕ). phichPrecoded (p .cell .ports) m 2 (phichSum w p A m) (j / 4) (j % 4) port ≡ phichPrecoded (p .cell .ports) m 2 (phichSum w p B m) (j / 4) (j % 4) port)
         (index-back w p ok (Phich m) i r)
-        (same port (symbolOf (p .cell) t) (carrierOf (p .cell) t) in-port (index-place w p ok (Phich m) i r) (index-owned w p ok (Phich m) i r))
+        (same port (symbolNumber (p .cell) t) (carrierOf (p .cell) t) in-port (index-place w p ok (Phich m) i r) (index-owned w p ok (Phich m) i r))
 
     to-sums : m < unitsOf (p .cell) → SameElements w p (Phich m) A B → SameSums
     to-sums in-m same i l =

@@ -31,7 +31,7 @@ use Rattle.layout.specs.Owners.{slotOfCell, ownerOf}
 use Rattle.layout.specs.declared.Mark.the-variants.{Primary, Secondary}
 use Rattle.layout.specs.declared.Owner.{Owner}
 use Rattle.layout.specs.declared.Owner.the-variants.{Crs, Sync, Pbch, Pcfich, Phich, User as UserOf, Held, Idle}
-use Rattle.places.specs.Places.{placeNumber, countOf, indexOf}
+use Rattle.places.specs.Places.{placeNumber, placeCount, indexOf}
 use Rattle.payload.specs.Sections.{startOf}
 use Rattle.payload.specs.Payload.{sections}
 use Rattle.payload.specs.Bits.{ownerBits}
@@ -104,20 +104,20 @@ userSymbol w p payload i j =
 -- ---- THE ELEMENT of an owner's place (s, k) on a port. The j-th of a channel's places, in its filling order (6.3.5, 6.6.4, 6.7.4, 6.9.3),
 -- takes its j-th symbol: "P = 1 sends on port 0. P = 2, 4 (CRS, PSS and SSS apart): layer mapping and precoding 6.3.3.3, 6.3.4.3, units
 -- doubled, ports without a term silent"; "Units 2, 10, 42; PHICH 2, kept where a sum is 0"; "An element given no value on a port is
--- silent there". A user's number of places, `countOf`, is the G of its section (places/proofs/Elements.antt, counts/proofs/UserElements.antt)
+-- silent there". A user's number of places, `placeCount`, is the G of its section (places/proofs/Elements.antt, counts/proofs/UserElements.antt)
 unfoldable pub elementFor : List ℕ → Plan → List ℕ → Owner → ℕ → ℕ → ℕ → Element
 elementFor w p payload (Crs q) port s k = crsElement (p .cell) (p .frame) q port s k
 elementFor w p payload (Sync Primary) port s k = pssElement (p .cell) port k
 elementFor w p payload (Sync Secondary) port s k = sssElement (p .cell) (p .frame) port k
 elementFor w p payload Pbch port s k =
-    precoded (p .cell .ports) (countOf w p Pbch) 2 (pbchSymbol w p payload) (indexOf w p Pbch (placeNumber (p .cell) s k)) port
+    precoded (p .cell .ports) (placeCount w p Pbch) 2 (pbchSymbol w p payload) (indexOf w p Pbch (placeNumber (p .cell) s k)) port
 elementFor w p payload Pcfich port s k =
     precoded (p .cell .ports) 16 2 (pcfichSymbol (p .cell) (p .frame)) (indexOf w p Pcfich (placeNumber (p .cell) s k)) port
 elementFor w p payload (Phich m) port s k =
     let j = indexOf w p (Phich m) (placeNumber (p .cell) s k) in
     phichPrecoded (p .cell .ports) m 2 (phichSum w p payload m) (j / 4) (j % 4) port
 elementFor w p payload (UserOf i) port s k =
-    precoded (p .cell .ports) (countOf w p (UserOf i)) (unitOf (userNumber w p i .order)) (userSymbol w p payload i)
+    precoded (p .cell .ports) (placeCount w p (UserOf i)) (unitOf (userNumber w p i .order)) (userSymbol w p payload i)
     (indexOf w p (UserOf i) (placeNumber (p .cell) s k)) port
 elementFor w p payload Held port s k = silent
 elementFor w p payload Idle port s k = silent

@@ -6,7 +6,7 @@ use mathlib.Core.Bool.{Bool, true, false, cond}
 use Prim.Native.Nat.{ℕ}
 use lib.Dec.{T, eqb}
 use Rattle.plan.specs.declared.Hi.{Hi}
-use Rattle.phich.specs.Units.{unitOf}
+use Rattle.phich.specs.Units.{mappingUnit}
 use Rattle.phich_vectors.proofs.Seen.{Seen, start, one-small, next, finish}
 use Rattle.phich_vectors.proofs.ready.Statement.{statement}
 use Rattle.phich_vectors.proofs.ready.Tie as tie
@@ -58,7 +58,7 @@ loop-again c =
     let a = c .before .before .before .before .before .before .before .before .before .args in
     let h = c .before .before .before .before .before .hi-at .ensures in
     rw (c .next-at .ensures) (next (c .before .before .before .before .before .before .before .loop .inv) (c .before .before .before .before .before .before .loop-test .taken) (c .before .one-of .result)
-    (c .before .one-of .ensures ∙ ap (λ (u : ℕ). cond {A = ℕ} (eqb u (a .m)) 1 0) (c .before .before .unit-of .ensures ∙ ap (unitOf (a .l)) h))
+    (c .before .one-of .ensures ∙ ap (λ (u : ℕ). cond {A = ℕ} (eqb u (a .m)) 1 0) (c .before .before .unit-of .ensures ∙ ap (mappingUnit (a .l)) h))
     (omega (arith, c .before .before .before .before .wide .ensures, ap (λ (g : Hi). g .sequence) h, c .before .before .before .if1 .left)))
 
 returns-2 : tie.Need-returns-2 Inv-loop μ-loop
