@@ -24,7 +24,8 @@ use Rattle.subframe.specs.Elements.{elementFor}
 use Rattle.subframe.specs.Grid.{gridOf}
 use Rattle.subframe.proofs.Bytes.{element-same, number-is}
 use Rattle.subframe.proofs.Owned.{owned-byte, index-place, index-owned}
-use Rattle.recovery.specs.Recovery.{elementIn, symbolIn}
+use Rattle.grid.specs.Elements.{elementIn}
+use Rattle.recovery.specs.Recovery.{symbolIn}
 
 -- ---- an element from its three bytes
 module _ (g : List ℕ) (e : ℕ) (x : Element) (h : (b : ℕ) → b < 3 → getD g (e * 3 + b) 0 ≡ byteIn x b) where

@@ -3,9 +3,7 @@
 use Prim.Native.Nat.{ℕ, suc, _+_, _-_, _*_, _/_, _%_}
 use mathlib.Core.List.{List, [], _∷_, _++_}
 use lib.Dec.{ltb}
-use lib.ListN.{getD}
 use Rattle.base.specs.declared.Pair.{Pair}
-use Rattle.base.specs.declared.Element.{Element}
 use Rattle.base.specs.Bytes.{pairOf}
 use Rattle.base.specs.Digits.{dig}
 use Rattle.base.specs.Tables.{table}
@@ -14,6 +12,7 @@ use Rattle.modulation.specs.declared.Demapped.{Demapped}
 use Rattle.modulation.specs.declared.Demapped.the-variants.{Word, NoLevel}
 use Rattle.modulation.specs.Demapping.{demapOf}
 use Rattle.precoding.specs.Places.{ownPort}
+use Rattle.grid.specs.Elements.{elementIn}
 use Rattle.phich.specs.His.{hiNumber}
 use Rattle.phich.specs.Units.{mappingUnit}
 use Rattle.phich.specs.Recovery.{bitIn}
@@ -27,10 +26,6 @@ use Rattle.places.specs.Places.{placesOf, placeOf}
 use Rattle.payload.specs.Sections.{sectionBytes}
 use Rattle.payload.specs.Payload.{pbchBits, userBits}
 use Rattle.subframe.specs.Elements.{pbchFirst, controlInit, spreadLength, userInit}
-
--- the element with the number e of a grid
-unfoldable pub elementIn : List ℕ → ℕ → Element
-elementIn g e = record { unit = getD g (3 * e) 0; i = getD g (3 * e + 1) 0; j = getD g (3 * e + 2) 0 }
 
 -- the symbol of an owner's j-th place, from the port that sends it itself (precoding/specs/Places.antt: ownPort by the place's turn)
 unfoldable pub symbolIn : List ℕ → Plan → List ℕ → Owner → ℕ → ℕ → Pair
