@@ -4,3 +4,4 @@ pub mod Pairs
 pub mod Bytes
 pub mod Tables
 pub mod Computed
+pub mod Rows

@@ -1,10 +1,11 @@
 -- The place number and its inverse. Assumes only that the grid is not empty.
-use Prim.Native.Nat.{ℕ, suc, _+_, _*_, _/_, _%_, _≤_, _<_}
-use mathlib.Core.Path.{_≡_, ap₂, _∙_}
+use Prim.Native.Nat.{ℕ, suc, _≤_, _<_}
+use mathlib.Core.Path.{_≡_, ap₂}
 use mathlib.Core.List.{List}
-use native.Mathlib.Nat.{add-zero, div-add-mod', mod-lt, mul-add-div-right, mul-add-mod-self-right, div-eq-of-lt, mod-eq-of-lt, suc-mul, div-lt-iff-lt-mul, mul-le-mul-right}
+use native.Mathlib.Nat.{div-add-mod', mod-lt, div-lt-iff-lt-mul, mul-le-mul-right}
 use native.Mathlib.Omega.{arith}
 use lib.Dec.{eqb}
+use Rattle.base.proofs.Rows.{at-div, at-mod, row-inside}
 use Rattle.plan.specs.declared.Cell.{Cell}
 use Rattle.plan.specs.declared.Plan.{Plan}
 use Rattle.layout.specs.Rules.{slotLength}
@@ -12,16 +13,6 @@ use Rattle.layout.specs.Owners.{symbols, carriers, owns}
 use Rattle.layout.specs.declared.Owner.{Owner}
 use Rattle.places.specs.Places.{placeNumber, symbolNumber, carrierOf, placesOf, ownsAt}
 use Rattle.places.proofs.Counts.{by-test}
-
--- ---- row s of rows of W, and t's row and position
-pub at-div : (s W k : ℕ) → k < W → (s * W + k) / W ≡ s
-at-div s W k h = mul-add-div-right (omega arith) s k ∙ (rw (div-eq-of-lt h) (add-zero s))
-
-pub at-mod : (s W k : ℕ) → k < W → (s * W + k) % W ≡ k
-at-mod s W k h = mul-add-mod-self-right s W k ∙ mod-eq-of-lt h
-
-pub row-inside : (s S W k : ℕ) → s < S → k ≤ W → s * W + k ≤ S * W
-row-inside s S W k h l = omega (arith, mul-le-mul-right W h, suc-mul s W)
 
 pub slot-length : (e : ℕ) → (6 ≤ slotLength e) × (slotLength e ≤ 7)
 unfolding slotLength

@@ -9,6 +9,7 @@ use lib.Dec.{leb, ltb, eqb}
 use lib.IntN.{ℤ, pos}
 use lib.ListN.{length}
 use borrow.Author.Tests.{leb-true, le-leb, ltb-true, lt-ltb, eqb-true, eq-eqb}
+use Rattle.base.proofs.Rows.{at-div, at-mod, row-inside}
 use Rattle.base.specs.Bytes.{elementOf}
 use Rattle.gold.specs.declared.Registers.{Registers}
 use Rattle.gold.specs.Steps.{after}
@@ -25,7 +26,7 @@ use Rattle.layout.specs.Owners.{slotOfCell, symbols, carriers}
 use Rattle.counts.proofs.Logic.{both, same-test}
 use Rattle.counts.proofs.Ranges.{big}
 use Rattle.places.specs.Places.{symbolNumber, carrierOf, placesOf}
-use Rattle.places.proofs.Numbers.{at-div, at-mod, row-inside, slot-length}
+use Rattle.places.proofs.Numbers.{slot-length}
 use Rattle.grid.specs.Writing.{Written}
 use Rattle.grid.proofs.Writing.{same}
 use Rattle.subframe.specs.Elements.{markNumber, pssElement, sssElement}

@@ -5,13 +5,14 @@ use mathlib.Core.List.{List}
 use native.Mathlib.Nat.{add-mul, mul-assoc, mul-comm}
 use native.Mathlib.Omega.{arith}
 use lib.ListN.{length, getD}
+use Rattle.base.proofs.Rows.{at-div, at-mod, row-inside}
 use Rattle.base.specs.declared.Element.{Element}
 use Rattle.base.specs.Bytes.{byteIn}
 use Rattle.base.proofs.Tables.{table-at, table-length}
 use Rattle.plan.specs.declared.Plan.{Plan}
 use Rattle.layout.specs.Owners.{symbols, carriers}
 use Rattle.places.specs.Places.{placeNumber, symbolNumber, carrierOf, placesOf}
-use Rattle.places.proofs.Numbers.{at-div, at-mod, row-inside, place-symbol, place-carrier, place-inside}
+use Rattle.places.proofs.Numbers.{place-symbol, place-carrier, place-inside}
 use Rattle.payload.specs.Payload.{gridLength}
 use Rattle.subframe.specs.Elements.{elementAt}
 use Rattle.subframe.specs.Grid.{elementNumbered, gridOf}
