@@ -5,3 +5,6 @@ pub mod PairPlaces
 pub mod Turns
 pub mod Sums
 pub mod ControlOwners
+pub mod Packing
+pub mod Reading
+pub mod ReadingOwners

@@ -1,4 +1,5 @@
 // PCFICH and the PHICH units in a grid (TS 36.211 6.7, 6.9): both fill the places of their quads in symbol 0, two places at a time.
+// And the HIs' bits back from a grid.
 use base::Pair;
 use gold::Registers;
 use plan::Cell;
@@ -9,13 +10,17 @@ ghost use lib.ListN.{drop};
 ghost use Rattle.gold.specs.Sequence.{binary};
 ghost use Rattle.gold.specs.Steps.{after};
 ghost use Rattle.codeword.specs.Codewords.{cfiBit};
+ghost use Rattle.plan.specs.Commands.{hiOf};
 ghost use Rattle.plan.specs.Rows.{hisFrom};
+ghost use Rattle.phich.specs.Spreading.{wordBit};
+ghost use Rattle.recovery.specs.Recovery.{sectionOf};
 ghost use Rattle.places.specs.Places.{placesOf};
 ghost use Rattle.places.specs.Quads.{quadPlace};
 ghost use Rattle.grid.specs.Writing.{Written};
 ghost use Rattle.subframe.specs.Elements.{spreadLength};
 ghost use Rattle.control.specs.Control.{pcfichSends, pcfichSent, phichSends, phichSent};
 ghost use Rattle.control.specs.Filling.{PcfichIn, PhichIn, UnitIn, PairIn, PairWritten, unitSent};
+ghost use Rattle.control.specs.Reading.{sumRead, sumsOf, ackRead, ackFrom, pushed, PushIn, UnitRead, HiRead, ReadIn};
 
 // TS 36.212 table 5.3.4-1: the codewords of CFI 1, 2 and 3 repeat these bits.
 const CODEWORDS: [[u32; 3]; 3] = [[0, 1, 1], [1, 0, 1], [1, 1, 0]];
@@ -122,5 +127,87 @@ pub fn fill_phich(
     let w = gold::word(r, 12);
     let sums = phich::unit_sums(spread_length(cell), w, m, plan, his.at, his.count, bits);
     put_unit(cell, m, sums, grid);
+    gold::advance(r, 12)
+}
+
+// The levels at place i of unit m, on the port that sends the sum itself.
+fn sum_at(cell: Cell, m: usize, i: usize, grid: &[u8]) -> Pair
+    requires { ⌜ UnitRead cell m (now grid) × (i < 12) ⌝ }
+    ensures { λ r. ⌜ r ≡ sumRead cell m (now (grid .entry)) i ⌝ }
+{
+    let g = places::unit_group(cell, m, i / 4);
+    let t = places::quad_place(cell, g, i % 4);
+    let port = precoding::own_port(cell.ports, ((i / 4 + m) % 2) as u8);
+    let places = places_of(cell);
+    let e = grid::get(grid, base::wide(port) * places + t);
+    Pair {
+        re: base::signed(e.i),
+        im: base::signed(e.j),
+    }
+}
+
+// The twelve sums of unit m.
+fn sums_in(cell: Cell, m: usize, grid: &[u8]) -> [Pair; 12]
+    requires { ⌜ UnitRead cell m (now grid) ⌝ }
+    ensures { λ r. ⌜ r ≡ sumsOf cell m (now (grid .entry)) ⌝ }
+{
+    let mut sums = [Pair { re: 0, im: 0 }; 12];
+    let mut i: usize = 0;
+    while i < 12 {
+        sums[i] = sum_at(cell, m, i, grid);
+        i += 1;
+    }
+    sums
+}
+
+// The bit of the HI at a position of the plan; the word w has the scrambling bits.
+fn bit_in(cell: Cell, w: u32, plan: &[u8], at: usize, grid: &[u8]) -> u8
+    requires { ⌜ HiRead cell (hiOf (drop at (now plan))) (now grid) ⌝ }
+    ensures { λ r. ⌜ r ≡ ackRead cell (wordBit w) (hiOf (drop at (now (plan .entry)))) (now (grid .entry)) ⌝ }
+{
+    let l = spread_length(cell);
+    let h = plan::hi_at(plan, at);
+    let m = phich::unit_of(l, h);
+    let sums = sums_in(cell, m, grid);
+    phich::bit_of(sums, l, w, h)
+}
+
+// Bit n of a section, after those before it: the first bit of a byte clears the others.
+fn push(part: &mut [u8], n: usize, bit: u8)
+    requires { ⌜ PushIn (now part) n bit ⌝ }
+    ensures { λ _. ⌜ now (part .exit) ≡ pushed (now (part .entry)) n bit ⌝ }
+{
+    let m = n / 8;
+    let k = n % 8;
+    let weight: u8 = 128 >> k;
+    if k == 0 {
+        part[m] = bit * weight;
+        return;
+    }
+    part[m] = part[m] + bit * weight;
+}
+
+// The section of the HIs' bits, each from the sums of its unit, scrambled by the pair r. Callers pass the cell, the HIs and a grid of
+// an accepted plan, and the section's bytes.
+pub fn read_his(
+    r: Registers,
+    cell: Cell,
+    his: Row,
+    plan: &[u8],
+    grid: &[u8],
+    part: &mut [u8],
+) -> Registers
+    requires { ⌜ ReadIn cell his (now plan) (now grid) (now part) ⌝ }
+    ensures { λ s. ⌜ (now (part .exit) ≡ sectionOf (ackFrom cell r (hisFrom (drop (his .at) (now (plan .entry))) (his .count)) (now (grid .entry))) (his .count)) × ((n : ℕ) × (s ≡ after r n)) ⌝ }
+{
+    let w = gold::word(r, 12);
+    let mut at = his.at;
+    let mut n: usize = 0;
+    while n < his.count {
+        let bit = bit_in(cell, w, plan, at, grid);
+        push(part, n, bit);
+        at = plan::next_at(plan, at);
+        n += 1;
+    }
     gold::advance(r, 12)
 }

@@ -46,7 +46,7 @@ use Rattle.recovery.specs.Recovery.{symbolIn, sumsIn, ackBit}
 use Rattle.recovery.proofs.Symbols.{own-read, symbol-in}
 
 -- ---- the unit of an HI is one of the cell's
-hi-unit : (cell : Cell) (h : Hi) → HiIn cell h → mappingUnit (spreadLength cell) h < unitsOf cell
+pub hi-unit : (cell : Cell) (h : Hi) → HiIn cell h → mappingUnit (spreadLength cell) h < unitsOf cell
 unfolding spreadLength groupsOf
 hi-unit cell h i = pick (eqb (cell .prefix) 1) (i .group)
   where
