@@ -35,7 +35,7 @@ use Rattle.data.proofs.Walking.{stay, skip, skip-one, one, placing, onw
 use Rattle.data.proofs.Masks.{taken-centre}
 
 -- ---- a half block
-left-out : (a : Area) (s b : ℕ) (out : Bool) → out ≡ leavesRow a s → leftOut a s b ≡ centreOut (a .cell .blocks) out b
+pub left-out : (a : Area) (s b : ℕ) (out : Bool) → out ≡ leavesRow a s → leftOut a s b ≡ centreOut (a .cell .blocks) out b
 unfolding centreOut
 left-out a s b out e =
     ap (λ (x : Bool). a .leaves && x) (taken-centre (a .cell) (a .frame) s b)
@@ -149,7 +149,7 @@ module _ {a : Area} {row : Row} (s b : ℕ) (h : a .from ≤ b) (l : b < a .to) 
       (subst (λ (x : ℕ). Goes a q unit bits (row .base + 6 * b) x w′ g′ w″ g″) e m)
 
 -- ---- the rows. The loop counts s from `first`; `last` - (`last` - s) is s, but `last` once it is past that
-some : (a : Area) → CellIn (a .cell) → 0 < carriers (a .cell)
+pub some : (a : Area) → CellIn (a .cell) → 0 < carriers (a .cell)
 some a i = omega (arith, blocks-least (a .cell) i)
 
 pub area-begins :

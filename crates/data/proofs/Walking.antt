@@ -83,11 +83,11 @@ module _ (a : Area) where
         ap (λ (y : ℕ). placed (a .cell .ports) (y / 2 % 2) unit (symbolsOf q bits r) y (e / T)) k
 
 -- ---- the laws of the walk
-index-more : (a : Area) (t : ℕ) → areaAt a t ≡ true → areaIndex a (t + 1) ≡ areaIndex a t + 1
+pub index-more : (a : Area) (t : ℕ) → areaAt a t ≡ true → areaIndex a (t + 1) ≡ areaIndex a t + 1
 unfolding areaIndex
 index-more a t h = ap (cnt (areaAt a)) (add-one t) ∙ cnt-own (areaAt a) t h ∙ sym (add-one (cnt (areaAt a) t))
 
-index-same : (a : Area) (t u : ℕ) → t ≤ u → ((x : ℕ) → t ≤ x → x < u → areaAt a x ≡ false) → areaIndex a u ≡ areaIndex a t
+pub index-same : (a : Area) (t u : ℕ) → t ≤ u → ((x : ℕ) → t ≤ x → x < u → areaAt a x ≡ false) → areaIndex a u ≡ areaIndex a t
 unfolding areaIndex
 index-same a t u h free =
     let e : t + (u - t) ≡ u = omega arith in
@@ -97,7 +97,7 @@ pub index-most : (a : Area) (t : ℕ) → areaIndex a t ≤ t
 unfolding areaIndex
 index-most a t = cnt-most (areaAt a) t
 
-index-none : (a : Area) → areaIndex a 0 ≡ 0
+pub index-none : (a : Area) → areaIndex a 0 ≡ 0
 unfolding areaIndex
 index-none a = cnt-none (areaAt a)
 

@@ -39,11 +39,11 @@ struct Walk {
 
 // A row: the number of its first place and of all places, a bit for each of six subcarriers that has no reference signal, and
 // whether the centre's half blocks are left out.
-struct Row {
-    base: usize,
-    places: usize,
-    mask: u8,
-    out: bool,
+pub struct Row {
+    pub base: usize,
+    pub places: usize,
+    pub mask: u8,
+    pub out: bool,
 }
 
 // PBCH's places. Every accepted plan has 15 blocks or more.
@@ -122,7 +122,7 @@ fn row_mask(slot: usize, identity: usize, signals: u8, s: usize) -> u8
 }
 
 // Whether half block b is one of the centre's twelve, where those are left out.
-fn centre_out(blocks: usize, out: bool, b: usize) -> bool
+pub fn centre_out(blocks: usize, out: bool, b: usize) -> bool
     requires { ⌜ (blocks < 256) × (b < 512) ⌝ }
     ensures { λ r. ⌜ r ≡ centreOut blocks out b ⌝ }
 {
@@ -254,7 +254,7 @@ fn leaves_row(a: Area, s: usize) -> bool
 }
 
 // What is the same for each half block of symbol s.
-fn row_of(a: Area, s: usize) -> Row
+pub fn row_of(a: Area, s: usize) -> Row
     requires { ⌜ (a .first ≤ s) × (s < a .last) × (a .last ≤ symbols (a .cell)) ⌝ }
     ensures { λ r. ⌜ RowIn a s r ⌝ }
 {

@@ -1,0 +1,77 @@
+-- THE BITS OF AN AREA are recovery's: PBCH's and the users'. Assumes nothing beyond the plan check's answer.
+use Prim.Native.Nat.{ℕ, _+_, _-_, _*_, _/_, _%_, _<_}
+use mathlib.Core.Path.{_≡_, sym, ap, ap₂, _∙_}
+use mathlib.Core.List.{List}
+use native.Mathlib.Nat.{add-comm}
+use lib.ListN.{length, getD}
+use Rattle.base.specs.Bytes.{pairOf}
+use Rattle.base.specs.Digits.{dig}
+use Rattle.gold.specs.Sequence.{c, pairAt}
+use Rattle.modulation.specs.Demapping.{demapOf}
+use Rattle.codeword.proofs.Laws.{output-of, outputs-start}
+use Rattle.precoding.specs.Places.{ownPort}
+use Rattle.plan.specs.Check.{checkOf}
+use Rattle.plan.specs.Rows.{usersOf}
+use Rattle.plan.specs.declared.User.{User}
+use Rattle.plan.specs.declared.Plan.{Plan}
+use Rattle.plan.specs.declared.Checked.the-variants.{Plan as accepted}
+use Rattle.layout.specs.declared.Owner.the-variants.{Pbch, User as UserOf}
+use Rattle.places.specs.Places.{placesOf, ownsAt, placeCount, placeOf, placeBy, orderOf}
+use Rattle.places.proofs.Counts.{cnt-same, nth-same}
+use Rattle.grid.specs.Elements.{elementIn}
+use Rattle.payload.specs.Payload.{pbchBits, userBits}
+use Rattle.subframe.specs.Elements.{pbchFirst, userInit, userNumber}
+use Rattle.subframe.proofs.OwnerBits.{pbch-size, user-places}
+use Rattle.recovery.specs.Recovery.{wordOf, symbolIn, dataBit, pbchBit, userBit, sectionOf}
+use Rattle.recovery.proofs.Channels.{pbch-length}
+use Rattle.data.specs.Areas.{areaAt, pbchArea, userArea}
+use Rattle.data.proofs.AreaOwners.{pbch-place, user-place}
+use Rattle.data_read.specs.Reading.{areaPlace, areaCount, areaSymbol, areaBit}
+
+module _ (w : List ℕ) (p : Plan) (ok : checkOf w ≡ accepted p) where
+  pub pbch-bits :
+      p .frame .subframe ≡ 0 → (g : List ℕ) (i : ℕ)
+      → areaBit (pbchArea (p .cell) (p .frame)) 2 g (pairAt (p .cell .identity) (pbchFirst (p .cell) (p .frame))) i ≡ pbchBit w p g i
+  unfolding areaBit areaSymbol areaPlace pbchBit dataBit symbolIn placeOf placeBy orderOf
+  pbch-bits z g i =
+      ap₂ (λ (t x : ℕ). (dig (wordOf (demapOf 2 (pairOf (elementIn g (ownPort (p .cell .ports) (i / 2 / 2) * placesOf (p .cell) + t))))) (2 - 1 - i % 2) + x) % 2)
+      (nth-same (areaAt (pbchArea (p .cell) (p .frame))) (ownsAt w p Pbch) (placesOf (p .cell)) (λ t l. pbch-place w p ok z t) (i / 2))
+      (output-of (p .cell .identity) (pbchFirst (p .cell) (p .frame)) i ∙ ap (c (p .cell .identity)) (add-comm (pbchFirst (p .cell) (p .frame)) i))
+
+  pub pbch-count : p .frame .subframe ≡ 0 → areaCount (pbchArea (p .cell) (p .frame)) ≡ placeCount w p Pbch
+  unfolding areaCount placeCount
+  pbch-count z = cnt-same (areaAt (pbchArea (p .cell) (p .frame))) (ownsAt w p Pbch) (placesOf (p .cell)) (λ t l. pbch-place w p ok z t)
+
+  module _ (i : ℕ) (in-i : i < length (usersOf w p)) (d : User) where
+    abbrev u : User
+    u = getD (usersOf w p) i d
+
+    pub user-bits :
+        (g : List ℕ) (n : ℕ)
+        → areaBit (userArea (p .cell) (p .frame) u) (u .order) g (pairAt (userInit (p .cell) (p .frame) u) 0) n ≡ userBit w p g i u n
+    unfolding areaBit areaSymbol areaPlace userBit dataBit symbolIn placeOf placeBy orderOf
+    user-bits g n =
+        ap₂ (λ (t x : ℕ). (dig (wordOf (demapOf (u .order) (pairOf (elementIn g (ownPort (p .cell .ports) (n / u .order / 2) * placesOf (p .cell) + t))))) (u .order - 1 - n % u .order) + x) % 2)
+        (nth-same (areaAt (userArea (p .cell) (p .frame) u)) (ownsAt w p (UserOf i)) (placesOf (p .cell)) (λ t l. user-place w p ok i in-i d t l) (n / u .order))
+        (ap (λ (x : ℕ → ℕ). x n) (outputs-start (userInit (p .cell) (p .frame) u)))
+
+    pub user-count : areaCount (userArea (p .cell) (p .frame) u) ≡ placeCount w p (UserOf i)
+    unfolding areaCount placeCount
+    user-count = cnt-same (areaAt (userArea (p .cell) (p .frame) u)) (ownsAt w p (UserOf i)) (placesOf (p .cell)) (λ t l. user-place w p ok i in-i d t l)
+
+  -- ---- the sections
+  pub pbch-section :
+      p .frame .subframe ≡ 0 → (g : List ℕ)
+      → sectionOf (areaBit (pbchArea (p .cell) (p .frame)) 2 g (pairAt (p .cell .identity) (pbchFirst (p .cell) (p .frame)))) (2 * areaCount (pbchArea (p .cell) (p .frame)))
+      ≡ sectionOf (pbchBit w p g) (pbchBits (p .cell) (p .frame))
+  pbch-section z g =
+      ap₂ sectionOf (λ t i. pbch-bits z g i t) (ap (λ (n : ℕ). 2 * n) (pbch-count z) ∙ sym (pbch-size w p ok) ∙ pbch-length w p ok)
+
+  pub user-section :
+      (i : ℕ) → i < length (usersOf w p) → (g : List ℕ)
+      → sectionOf (areaBit (userArea (p .cell) (p .frame) (userNumber w p i)) (userNumber w p i .order) g (pairAt (userInit (p .cell) (p .frame) (userNumber w p i)) 0)) (userNumber w p i .order * areaCount (userArea (p .cell) (p .frame) (userNumber w p i)))
+      ≡ sectionOf (userBit w p g i (userNumber w p i)) (userBits (p .cell) (p .frame) (userNumber w p i))
+  unfolding userNumber userBits
+  user-section i in-i g =
+      ap₂ sectionOf (λ t n. user-bits i in-i (record { rnti = 0; order = 0; first = 0; count = 0 }) g n t)
+      (ap (λ (n : ℕ). userNumber w p i .order * n) (user-count i in-i (record { rnti = 0; order = 0; first = 0; count = 0 }) ∙ user-places w p ok i in-i))
