@@ -14,6 +14,7 @@ use Rattle.plan.specs.declared.User.{User}
 use Rattle.plan.specs.declared.Plan.{Plan}
 use Rattle.plan.specs.declared.Checked.the-variants.{Plan as accepted}
 use Rattle.plan.proofs.RowLaws.{row-next}
+use Rattle.plan.proofs.Listed.{every-at}
 use Rattle.plan.proofs.Valid.{valid}
 use Rattle.layout.specs.declared.Owner.the-variants.{Pbch, User as UserOf}
 use Rattle.counts.specs.Users.{userElements}
@@ -26,7 +27,6 @@ use Rattle.payload.specs.Loops.{UserReady}
 use Rattle.payload.proofs.Sections.{length-is, userStart, user-start, user-start-next, user-bits-at}
 use Rattle.subframe.specs.Elements.{ownerBit, hiBit, userNumber}
 use Rattle.subframe.proofs.OwnerBits.{span-length, span-at, pbch-size, user-size, user-places}
-use Rattle.data.proofs.AreaOwners.{each-at}
 
 -- bit n of a part that starts at byte a
 pub bit-slice : (s : List ℕ) (a m n : ℕ) → n / 8 < m → bitAt (take m (drop a s)) n ≡ bitAt s (8 * a + n)
@@ -90,7 +90,7 @@ module _ (w : List ℕ) (p : Plan) (ok : checkOf w ≡ accepted p) (payload : Li
 
     pub user-valid : UserIn (p .cell) (userNumber w p i)
     unfolding userNumber
-    user-valid = each-at (UserIn (p .cell)) (usersOf w p) (valid w p ok .users) i in-i _
+    user-valid = every-at (UserIn (p .cell)) _ (usersOf w p) i (valid w p ok .users) in-i
 
     user-least : userElements (p .cell) (p .frame) (u .first) (u .count) ≤ placesOf (p .cell)
     unfolding placeCount

@@ -6,6 +6,7 @@ use native.Mathlib.Decide.{ℕ-discrete}
 use native.Mathlib.Nat.{not-suc-le-zero}
 use native.Mathlib.Numerals.{add-one}
 use native.Mathlib.Omega.{arith}
+use Rattle.plan.proofs.Listed.{and-left, and-right}
 use Rattle.places.proofs.Counts.{clash}
 use Rattle.build.specs.Senders.{someBelow}
 
@@ -14,8 +15,7 @@ or-false true b h = clash refl h
 or-false false b h = (refl, h)
 
 pub and-true : (a b : Bool) → a && b ≡ true → (a ≡ true) × (b ≡ true)
-and-true true b h = (refl, h)
-and-true false b h = clash h refl
+and-true a b h = (and-left a b h, and-right a b h)
 
 pub or-cases : {X : Type 0} (a b : Bool) → a || b ≡ true → (a ≡ true → X) → (b ≡ true → X) → X
 or-cases true b h f g = f refl

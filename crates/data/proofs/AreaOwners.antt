@@ -10,7 +10,6 @@ use lib.Dec.{leb, ltb}
 use lib.ListN.{length, getD}
 use borrow.Author.Tests.{lt-ltb, eq-eqb}
 use Rattle.modulation.specs.Symbols.{Order}
-use Rattle.plan.specs.Lists.{Every}
 use Rattle.plan.specs.Check.{checkOf}
 use Rattle.plan.specs.Rows.{usersOf}
 use Rattle.plan.specs.Valid.{UserIn}
@@ -18,6 +17,7 @@ use Rattle.plan.specs.declared.User.{User}
 use Rattle.plan.specs.declared.Plan.{Plan}
 use Rattle.plan.specs.declared.Checked.the-variants.{Plan as accepted}
 use Rattle.plan.proofs.Counts.{blocks-least}
+use Rattle.plan.proofs.Listed.{every-at}
 use Rattle.plan.proofs.Valid.{valid}
 use Rattle.layout.specs.Rules.{slotOf, middle, pbchArea as areaTest}
 use Rattle.layout.specs.Owners.{slotOfCell, symbols, carriers, controlSymbols, blocksHave, userHas, owns}
@@ -57,12 +57,6 @@ unfolding userHas
 user-blocks [] i n k h d = absurd (not-suc-le-zero h)
 user-blocks (u ∷ us) zero n k h d = refl
 user-blocks (u ∷ us) (suc i) n k h d = user-blocks us i n k (omega arith) d
-
--- what holds of each
-pub each-at : {A : Type 0} (P : A → Type 0) (xs : List A) → Every P xs → (i : ℕ) → i < length xs → (d : A) → P (getD xs i d)
-each-at P [] all i h d = absurd (not-suc-le-zero h)
-each-at P (a ∷ xs) all zero h d = all .0
-each-at P (a ∷ xs) all (suc i) h d = each-at P xs (all .1) i (omega arith) d
 
 module _ (w : List ℕ) (p : Plan) (ok : checkOf w ≡ accepted p) where
   abbrev L : ℕ
@@ -158,7 +152,7 @@ module _ (w : List ℕ) (p : Plan) (ok : checkOf w ≡ accepted p) where
           cell = valid w p ok .cell;
           frame = valid w p ok .frame;
           rows = omega arith;
-          halves = let h = each-at (UserIn (p .cell)) (usersOf w p) (valid w p ok .users) i in-i d .last in omega arith;
+          halves = let h = every-at (UserIn (p .cell)) d (usersOf w p) i (valid w p ok .users) in-i .last in omega arith;
           order = order;
           level = level;
           room = room;
