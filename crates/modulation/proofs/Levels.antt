@@ -82,9 +82,15 @@ bits-bits zero z = tt
 bits-bits (suc n) (pos k) = (omega arith, bits-bits n _)
 bits-bits (suc n) (negsuc k) = (omega arith, bits-bits n _)
 
--- and false from 2 ^ n on
-pub large : (n : ℕ) (z : ℤ) → 2 ^ n ≤ natAbs z → T (isLevel n z) → ⊥
-large n z h t =
-    let e : natAbs (level (levelBits n z)) ≡ natAbs z = ap natAbs (level-back n z t) in
-    let k : 2 ^ length (levelBits n z) ≡ 2 ^ n = ap (λ (i : ℕ). 2 ^ i) (bits-length n z) in
-    omega (arith, level-small (levelBits n z))
+-- ---- a level of some bits is not 0
+turn-above : (b : ℕ) {n : ℕ} {z : ℤ} → Above n z → 0 < natAbs (turn b z)
+turn-above zero (above h) = omega arith
+turn-above (suc b) (above h) = omega arith
+
+pub level-nonzero : (n : ℕ) (z : ℤ) → 0 < n → T (isLevel n z) → 0 < natAbs z
+unfolding levelBits level
+level-nonzero zero z h t = absurd (omega arith)
+level-nonzero (suc n) z h t =
+    let bs = levelBits n (pos (2 ^ n) -ℤ turn (below z) z) in
+    let e : natAbs (turn (below z) (pos (2 ^ length bs) -ℤ level bs)) ≡ natAbs z = ap natAbs (level-back (suc n) z t) in
+    omega (arith, turn-above (below z) (room (2 ^ length bs) (level bs) (level-small bs)))

@@ -2,6 +2,8 @@ pub mod Levels
 pub mod Words
 pub mod Places
 pub mod Symbols
+pub mod Constellation
 pub mod Marks
+pub mod Bytes
 pub mod Lookup
 pub mod Formulas

@@ -1,30 +1,25 @@
--- The tables of the code. A level table lists levels by words without one bit; a table of marks lists those of the levels from -h
--- to h - 1. Assumes nothing.
-use Prim.Native.Nat.{ℕ, zero, suc, _+_, _-_, _*_, _/_, _%_, _^_, _≤_, _<_}
+-- The level tables of the code: each lists levels by words without one bit. Assumes nothing.
+use Prim.Native.Nat.{ℕ, zero, suc, _+_, _/_, _%_, _^_, _≤_}
 use mathlib.Core.Path.{_≡_, sym, ap, ap₂, _∙_}
 use mathlib.Core.List.{List, [], _∷_}
 use native.Mathlib.Nat.{mod-lt}
 use native.Mathlib.Omega.{arith}
-use borrow.Author.Tests.{lt-ltb, le-ltb}
 use lib.ListN.{length, getD}
 use lib.Pow.{pow-pos, pow-mono}
-use lib.IntN.{ℤ, pos, negsuc, natAbs, subℕ}
+use lib.IntN.{ℤ, pos}
 use mir.Syntax.{w8}
 use mir.Val.{SFits, toZ, ofZ}
 use mir.Facts.{toZ-ofZ}
 use Rattle.base.specs.declared.Pair.{Pair}
-use Rattle.base.specs.Bytes.{byteOf}
 use Rattle.base.specs.Digits.{dig, dig-shr}
 use Rattle.base.specs.Tables.{table}
 use Rattle.base.proofs.Fits.{fits-abs}
 use Rattle.base.proofs.Pairs.{pair-of}
 use Rattle.base.proofs.Tables.{table-at}
 use Rattle.modulation.specs.Symbols.{bitsOf, evens, odds, level, symbolOf}
-use Rattle.modulation.specs.Marks.{markOf}
-use Rattle.modulation.proofs.Levels.{level-small, large}
+use Rattle.modulation.proofs.Levels.{level-small}
 use Rattle.modulation.proofs.Words.{word-length, word-low}
 use Rattle.modulation.proofs.Places.{evens-length}
-use Rattle.modulation.proofs.Marks.{mark-none}
 
 -- ---- levels
 -- the table of an order of r + 1 bits: the level of the even ones of r digits
@@ -57,39 +52,3 @@ pub both : (r q w : ℕ) → q ≡ suc r → r % 2 ≡ 1 → r ≤ 13 →
 unfolding symbolOf bitsOf odds
 both r q w e odd h =
     pair-of (level-at r (w / 2) h ∙ ap level (sym (last-out r w odd))) (level-at r w h) ∙ ap (λ (n : ℕ). symbolOf n w) (sym e)
-
--- ---- marks
--- the marks of n bits for the levels from -h to h - 1
-abbrev pub markTable : ℕ → ℕ → List ℕ
-markTable h n = table (2 * h) (λ (i : ℕ). markOf n (subℕ i h))
-
--- where a level stands in it
-near : (h : ℕ) (z : ℤ) → h ≤ 64 → SFits w8 z → (byteOf z + h) % 256 < 2 * h → subℕ ((byteOf z + h) % 256) h ≡ z
-near h (pos n) k f l =
-    let m : n < 128 = f .sfits in
-    let e : (n + h) % 256 ≡ n + h = omega arith in
-    let d : n + h - h ≡ n = omega arith in
-    rw (e, le-ltb (n + h) h (omega arith)) (ap pos d)
-near h (negsuc n) k f l =
-    let m : n < 128 = f .sfits in
-    let e : (256 - suc n + h) % 256 ≡ h - suc n = omega arith in
-    let s : suc n ≤ h = omega arith in
-    let d : h - suc (h - suc n) ≡ n = omega arith in
-    rw (e, lt-ltb (h - suc n) h (omega arith)) (ap negsuc d)
-
-far : (h : ℕ) (z : ℤ) → h ≤ 64 → SFits w8 z → 2 * h ≤ (byteOf z + h) % 256 → h ≤ natAbs z
-far h (pos n) k f l = let m : n < 128 = f .sfits in omega arith
-far h (negsuc n) k f l = let m : n < 128 = f .sfits in omega arith
-
--- x is the byte of the level z, and h the size of the first level of a table
-module _ (h n : ℕ) (z : ℤ) (x : ℕ) (small : h ≤ 64) (f : SFits w8 z) (byte : x ≡ byteOf (toZ w8 (ofZ w8 z))) where
-  place : (x + h) % 256 ≡ (byteOf z + h) % 256
-  place = ap (λ (b : ℕ). (b + h) % 256) (byte ∙ ap byteOf (toZ-ofZ f))
-
-  pub mark-near : (m : ℕ) → m ≡ n → (x + h) % 256 < 2 * h → getD (markTable h n) ((x + h) % 256) 0 ≡ markOf m z
-  mark-near m e l =
-      table-at (2 * h) (λ (i : ℕ). markOf n (subℕ i h)) 0 ((x + h) % 256) l
-      ∙ ap₂ markOf (sym e) (ap (λ (i : ℕ). subℕ i h) place ∙ near h z small f (rw place at l))
-
-  pub mark-far : 2 ^ n ≤ h → 2 * h ≤ (x + h) % 256 → 255 ≡ markOf n z
-  mark-far m l = sym (mark-none n z (large n z (omega (arith, far h z small f (rw place at l)))))

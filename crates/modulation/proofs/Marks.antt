@@ -1,11 +1,10 @@
--- A word is the mark of I twice and the mark of J; a mark of 255 is no level's. Assumes nothing.
+-- A word is the mark of I twice and the mark of J. Assumes nothing.
 use Prim.Native.Nat.{ℕ, zero, suc, _+_, _*_, _/_, _%_, _^_, _≤_, _<_}
 use mathlib.Core.Path.{_≡_, refl, sym, ap, ap₂, _∙_}
-use mathlib.Core.Bool.{Bool, true, false, cond, _&&_}
+use mathlib.Core.Bool.{Bool, true, false, _&&_}
 use mathlib.Core.List.{List, [], _∷_}
 use native.Mathlib.Nat.{pow-succ', mul-left-comm}
 use native.Mathlib.Omega.{arith}
-use lib.Dec.{T}
 use lib.ListN.{length}
 use lib.Pow.{pow-mono}
 use lib.IntN.{ℤ}
@@ -13,20 +12,15 @@ use mir.Syntax.{w8}
 use mir.Val.{SFits, toZ, ofZ}
 use mir.Facts.{toZ-ofZ}
 use Rattle.base.specs.declared.Pair.{Pair}
+use Rattle.base.specs.Bytes.{byteOf, signedOf}
+use Rattle.base.proofs.Bytes.{byte-back}
+use Rattle.base.proofs.Pairs.{pair-of}
 use Rattle.modulation.specs.declared.Demapped.the-variants.{Word, NoLevel}
 use Rattle.modulation.specs.Demapping.{levelBits, isLevel, woven, number, answerOf, demapOf}
 use Rattle.modulation.specs.Marks.{markOf}
-use Rattle.modulation.proofs.Levels.{bits-length, bits-bits}
-use Rattle.modulation.proofs.Words.{number-small}
-use Rattle.modulation.proofs.Places.{apart, woven-bits}
-
-pub mark-none : (n : ℕ) (z : ℤ) → (T (isLevel n z) → ⊥) → markOf n z ≡ 255
-unfolding markOf
-mark-none n z h = pick (isLevel n z) h
-  where
-    pick : (t : Bool) → (T t → ⊥) → cond t (number 4 (levelBits n z)) 255 ≡ 255
-    pick true k = absurd (k tt)
-    pick false k = refl
+use Rattle.modulation.proofs.Levels.{bits-length}
+use Rattle.modulation.proofs.Places.{apart}
+use Rattle.modulation.proofs.Symbols.{demap-only}
 
 -- ---- digits of base 2 by turns from two lists are digits of base 4
 four : (n : ℕ) → 2 ^ (n + n) ≡ 4 ^ n
@@ -54,59 +48,64 @@ number-woven (suc n) (a ∷ x) (b ∷ y) e f =
     let j : b * 2 ^ length (woven x y) ≡ b * 4 ^ length y = ap (λ (k : ℕ). b * k) py in
     omega (arith, number-woven n x y ex ey)
 
--- ---- what two marks answer, by whether each is a level's
-none-first : (t u : Bool) (x v : ℕ) → x < 255 → cond t x 255 ≡ 255 → NoLevel ≡ answerOf (t && u) v
-none-first true u x v h e = absurd (omega arith)
-none-first false u x v h e = refl
+-- ---- what two tests answer
+both-known : (t u : Bool) (w : ℕ) → t ≡ true → u ≡ true → answerOf (t && u) w ≡ Word w
+both-known t u w e f = rw (e, f) refl
 
-none-second : (t u : Bool) (y v : ℕ) → y < 255 → cond u y 255 ≡ 255 → NoLevel ≡ answerOf (t && u) v
-none-second true true y v h e = absurd (omega arith)
-none-second true false y v h e = refl
-none-second false u y v h e = refl
+first-unknown : (t u : Bool) (w : ℕ) → t ≡ false → answerOf (t && u) w ≡ NoLevel
+first-unknown t u w e = rw e refl
 
-two : (t u : Bool) (x y : ℕ) → (cond t x 255 ≡ 255 → ⊥) → (cond u y 255 ≡ 255 → ⊥) → Word (2 * cond t x 255 + cond u y 255) ≡ answerOf (t && u) (2 * x + y)
-two true true x y f g = refl
-two true false x y f g = absurd (g refl)
-two false u x y f g = absurd (f refl)
+second-unknown : (t u : Bool) (w : ℕ) → u ≡ false → answerOf (t && u) w ≡ NoLevel
+second-unknown true u w e = rw e refl
+second-unknown false u w e = refl
 
--- ---- words of q bits, q at most 8
-module _ (q : ℕ) (even : q % 2 ≡ 0) (few : q ≤ 8) where
-  part : ℤ → ℕ
-  part z = number 4 (levelBits (q / 2) z)
-
+-- ---- words of q bits
+module _ (q : ℕ) (even : q % 2 ≡ 0) where
   abbrev is : ℤ → Bool
   is z = isLevel (q / 2) z
 
-  number-of : (y z : ℤ) → number 2 (woven (levelBits (q / 2) y) (levelBits (q / 2) z)) ≡ 2 * part y + part z
-  unfolding part
-  number-of y z = number-woven (q / 2) _ _ (bits-length (q / 2) y) (bits-length (q / 2) z)
+  part : ℤ → ℕ
+  part z = number 4 (levelBits (q / 2) z)
 
-  part-small : (z : ℤ) → part z < 255
-  part-small z =
-      let n = bits-length (q / 2) z in
-      let bs = levelBits (q / 2) z in
-      let k : 2 ^ length (woven bs bs) ≤ 256 = pow-mono {j = 8} (omega (arith, apart bs bs (omega arith) (omega arith) .count)) in
-      omega (arith, number-of z z, number-small (woven bs bs) (woven-bits bs bs (bits-bits (q / 2) z) (bits-bits (q / 2) z)))
-
-  told : (p : Pair) → demapOf q p ≡ answerOf (is (p .re) && is (p .im)) (2 * part (p .re) + part (p .im))
-  unfolding demapOf
-  told p =
+  told : (y z : ℤ) → demapOf q (record { re = y; im = z }) ≡ answerOf (is y && is z) (2 * part y + part z)
+  unfolding demapOf part
+  told y z =
       let e : (q + 1) / 2 ≡ q / 2 = omega arith in
-      rw e (ap (answerOf (is (p .re) && is (p .im))) (number-of (p .re) (p .im)))
+      rw e (ap (answerOf (is y && is z)) (number-woven (q / 2) _ _ (bits-length (q / 2) y) (bits-length (q / 2) z)))
 
-  -- of a pair of i8
-  module _ (p : Pair) (fi : SFits w8 (p .re)) (fj : SFits w8 (p .im)) where
-    mark-of : {z : ℤ} {i : ℕ} → SFits w8 z → i ≡ markOf (q / 2) (toZ w8 (ofZ w8 z)) → i ≡ cond (is z) (part z) 255
-    unfolding markOf part
-    mark-of f e = e ∙ ap (markOf (q / 2)) (toZ-ofZ f)
+  known-mark : (z : ℤ) → is z ≡ true → markOf (q / 2) z ≡ part z
+  unfolding markOf part
+  known-mark z e = rw e refl
 
-    pub first-none : {i : ℕ} → i ≡ markOf (q / 2) (toZ w8 (ofZ w8 (p .re))) → i ≡ 255 → NoLevel ≡ demapOf q p
-    first-none e none = none-first (is (p .re)) (is (p .im)) (part (p .re)) (2 * part (p .re) + part (p .im)) (part-small (p .re)) (sym (mark-of fi e) ∙ none) ∙ sym (told p)
+  pub bits-told : (y z : ℤ) → is y ≡ true → is z ≡ true → (i j : ℕ) → i ≡ markOf (q / 2) y → j ≡ markOf (q / 2) z →
+      (demapOf q (record { re = y; im = z }) ≡ Word (2 * i + j)) × (2 * i + j < 2 ^ q)
+  bits-told y z ky kz i j ei ej =
+      let e : demapOf q (record { re = y; im = z }) ≡ Word (2 * i + j) =
+      told y z ∙ both-known (is y) (is z) (2 * part y + part z) ky kz
+      ∙ ap Word (ap₂ (λ (m n : ℕ). 2 * m + n) (sym (ei ∙ known-mark y ky)) (sym (ej ∙ known-mark z kz))) in
+      (e, demap-only q (record { re = y; im = z }) (2 * i + j) e .1)
 
-    pub second-none : {j : ℕ} → j ≡ markOf (q / 2) (toZ w8 (ofZ w8 (p .im))) → j ≡ 255 → NoLevel ≡ demapOf q p
-    second-none e none = none-second (is (p .re)) (is (p .im)) (part (p .im)) (2 * part (p .re) + part (p .im)) (part-small (p .im)) (sym (mark-of fj e) ∙ none) ∙ sym (told p)
+  -- of an order of at most 6 bits
+  pub bits-small : q ≤ 6 → (y z : ℤ) → is y ≡ true → is z ≡ true → (i j : ℕ) → i ≡ markOf (q / 2) y → j ≡ markOf (q / 2) z → 2 * i + j < 64
+  bits-small few y z ky kz i j ei ej = let l : 2 ^ q ≤ 64 = pow-mono {j = 6} few in omega (arith, bits-told y z ky kz i j ei ej .1)
 
-    pub word-told : {i j : ℕ} → i ≡ markOf (q / 2) (toZ w8 (ofZ w8 (p .re))) → j ≡ markOf (q / 2) (toZ w8 (ofZ w8 (p .im))) → (i ≡ 255 → ⊥) → (j ≡ 255 → ⊥) → Word (2 * i + j) ≡ demapOf q p
-    word-told ei ej hi hj =
-        ap Word (ap₂ (λ (x y : ℕ). 2 * x + y) (mark-of fi ei) (mark-of fj ej))
-        ∙ two (is (p .re)) (is (p .im)) (part (p .re)) (part (p .im)) (λ e. hi (mark-of fi ei ∙ e)) (λ e. hj (mark-of fj ej ∙ e)) ∙ sym (told p)
+  pub mark-small : q ≤ 6 → (z : ℤ) → is z ≡ true → (i : ℕ) → i ≡ markOf (q / 2) z → i < 64
+  mark-small few z k i e = omega (arith, bits-small few z z k k i i e e)
+
+  -- of a pair of i8, by its bytes
+  module _ (p : Pair) (fi : SFits w8 (p .re)) (fj : SFits w8 (p .im)) (i j : ℕ)
+      (ei : i ≡ byteOf (toZ w8 (ofZ w8 (p .re)))) (ej : j ≡ byteOf (toZ w8 (ofZ w8 (p .im)))) where
+    byte-level : {z : ℤ} {b : ℕ} → SFits w8 z → b ≡ byteOf (toZ w8 (ofZ w8 z)) → signedOf b ≡ z
+    byte-level {z = z} f e = ap signedOf (e ∙ ap byteOf (toZ-ofZ f)) ∙ byte-back z (f .sfits)
+
+    same : demapOf q (record { re = signedOf i; im = signedOf j }) ≡ demapOf q p
+    same = ap (demapOf q) (pair-of (byte-level fi ei) (byte-level fj ej))
+
+    pub word-told : (r : ℕ) → demapOf q (record { re = signedOf i; im = signedOf j }) ≡ Word r → Word r ≡ demapOf q p
+    word-told r e = sym e ∙ same
+
+    pub first-none : is (signedOf i) ≡ false → NoLevel ≡ demapOf q p
+    first-none e = sym (told (signedOf i) (signedOf j) ∙ first-unknown (is (signedOf i)) (is (signedOf j)) _ e) ∙ same
+
+    pub second-none : is (signedOf j) ≡ false → NoLevel ≡ demapOf q p
+    second-none e = sym (told (signedOf i) (signedOf j) ∙ second-unknown (is (signedOf i)) (is (signedOf j)) _ e) ∙ same

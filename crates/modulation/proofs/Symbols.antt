@@ -27,7 +27,7 @@ answer-yes true true w p r = refl
 answer-yes true false w p r = absurd r
 answer-yes false u w p r = absurd p
 
-answer-word : (t : Bool) (v w : ℕ) → answerOf t v ≡ Word w → T t × (v ≡ w)
+pub answer-word : (t : Bool) (v w : ℕ) → answerOf t v ≡ Word w → T t × (v ≡ w)
 answer-word true v w e = (tt, cc)
 answer-word false v w e = let z : _≡_ {A = ℕ} 0 1 = cc in absurd (omega arith)
 

@@ -1,10 +1,20 @@
--- For the inner contracts only: what the code's tables hold of a level for the way back.
-use Prim.Native.Nat.{ℕ}
-use mathlib.Core.Bool.{cond}
-use lib.IntN.{ℤ}
+-- For inner contracts only: levels and symbols that some bits have, and what the code holds of a level for the way back.
+use Prim.Native.Nat.{ℕ, _*_, _/_}
+use mathlib.Core.Bool.{Bool, cond, _&&_}
+use lib.IntN.{ℤ, subℕ}
+use Rattle.base.specs.Tables.{table}
+use Rattle.base.specs.declared.Pair.{Pair}
 use Rattle.modulation.specs.Demapping.{levelBits, isLevel, number}
 
 -- the n bits of a level at every second place of a word, so that the word of a pair is twice the mark of I and the mark of J;
 -- 255 where no bits have the level
 unfoldable pub markOf : ℕ → ℤ → ℕ
 markOf n z = cond (isLevel n z) (number 4 (levelBits n z)) 255
+
+-- the marks of 7, 5, .., -7 as the bytes of a number, most significant first
+unfoldable pub marksOf : ℕ → ℕ
+marksOf n = number 256 (table 8 (λ (i : ℕ). markOf n (subℕ 7 (2 * i))))
+
+-- some q bits have this symbol
+unfoldable pub isSymbol : ℕ → Pair → Bool
+isSymbol q d = isLevel (q / 2) (d .re) && isLevel (q / 2) (d .im)

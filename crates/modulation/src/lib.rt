@@ -1,10 +1,13 @@
 // TS 36.211 7.1: bits to modulation symbols and back, by tables.
 use base::Pair;
 ghost use mathlib.Core.Path.{_≡_};
-ghost use Prim.Native.Nat.{_/_};
+ghost use mathlib.Core.Bool.{true};
+ghost use Prim.Native.Nat.{_-_, _/_, _<_, _^_};
+ghost use Rattle.base.specs.Bytes.{signedOf};
 ghost use Rattle.modulation.specs.Symbols.{Order, symbolOf, unitOf, bpskOf};
-ghost use Rattle.modulation.specs.Demapping.{demapOf};
-ghost use Rattle.modulation.specs.Marks.{markOf};
+ghost use Rattle.modulation.specs.Demapping.{isLevel, demapOf};
+ghost use Rattle.modulation.specs.Marks.{markOf, marksOf};
+ghost use Rattle.modulation.specs.declared.Demapped.the-variants.{Word};
 
 // What a level pair stands for: its bits as a number, most significant first, or nothing.
 pub enum Demapped {
@@ -52,16 +55,13 @@ const QAM64: [i8; 32] = [
     -7,
 ];
 
-// The mark of a level that no bits have.
-const X: u8 = 255;
+// The marks of the levels -7, -5, .., 7 as the bytes of a number, lowest first: a level's bits at every second place of a word, so
+// that the word of a pair is twice the mark of I and the mark of J. 255 for a level that no bits have.
+const QPSK_MARKS: u64 = 18446742974231478271;
 
-// The marks of the levels from -8 to 7: a level's bits at every second place of a word, so that the word of a pair is
-// twice the mark of I and the mark of J.
-const QPSK_MARKS: [u8; 16] = [X, X, X, X, X, X, X, 1, X, 0, X, X, X, X, X, X];
+const QAM16_MARKS: u64 = 18446463698311970815;
 
-const QAM16_MARKS: [u8; 16] = [X, X, X, X, X, 5, X, 4, X, 0, X, 1, X, X, X, X];
-
-const QAM64_MARKS: [u8; 16] = [X, 21, X, 20, X, 16, X, 17, X, 1, X, 0, X, 4, X, 5];
+const QAM64_MARKS: u64 = 361413874677715989;
 
 // The symbol of the q lowest bits of w, most significant first. The order q of a plan that was checked is 2, 4 or 6, and
 // that of a control channel is 2. A table is named once for both levels, since a constant is copied where it is named.
@@ -87,22 +87,59 @@ pub fn symbol(q: u32, w: u32) -> Pair
     Pair { re: t[i], im: t[j] }
 }
 
-// The mark of any level.
-fn mark(q: u32, z: i8) -> u8
+fn marks_for(q: u32) -> u64
     requires { ⌜ Order q ⌝ }
-    ensures { λ r. ⌜ r ≡ markOf (q / 2) z ⌝ }
+    ensures { λ r. ⌜ r ≡ marksOf (q / 2) ⌝ }
 {
-    let at = (base::wide(base::byte_of(z)) + 8) % 256;
-    if 16 <= at {
-        return X;
-    }
     if q == 2 {
-        return QPSK_MARKS[at];
+        return QPSK_MARKS;
     }
     if q == 4 {
-        return QAM16_MARKS[at];
+        return QAM16_MARKS;
     }
-    QAM64_MARKS[at]
+    QAM64_MARKS
+}
+
+// The greatest level of an order.
+fn greatest(q: u32) -> u8
+    requires { ⌜ Order q ⌝ }
+    ensures { λ r. ⌜ r ≡ 2 ^ (q / 2) - 1 ⌝ }
+{
+    if q == 2 {
+        return 1;
+    }
+    if q == 4 {
+        return 3;
+    }
+    7
+}
+
+// Whether some bits have the level with the byte b: an odd one, no greater than m, so that b + m is even and at most 2m, which is
+// 2, 6 or 14.
+pub fn known(q: u32, b: u8) -> bool
+    requires { ⌜ Order q ⌝ }
+    ensures { λ r. ⌜ r ≡ isLevel (q / 2) (signedOf b) ⌝ }
+{
+    let m = greatest(q);
+    let x = ((base::wide(b) + base::wide(m)) % 256) as u8;
+    x & (255 - 2 * m) == 0
+}
+
+// The mark of a level that some bits have.
+fn mark(q: u32, b: u8) -> u32
+    requires { ⌜ Order q × (isLevel (q / 2) (signedOf b) ≡ true) ⌝ }
+    ensures { λ r. ⌜ r ≡ markOf (q / 2) (signedOf b) ⌝ }
+{
+    let at = (4 * base::wide(b) + 28) % 64;
+    ((marks_for(q) >> at) % 256) as u32
+}
+
+// The bits of the symbol with the bytes i and j, levels that some bits have.
+pub fn bits(q: u32, i: u8, j: u8) -> u32
+    requires { ⌜ Order q × (isLevel (q / 2) (signedOf i) ≡ true) × (isLevel (q / 2) (signedOf j) ≡ true) ⌝ }
+    ensures { λ r. ⌜ (demapOf q (record { re = signedOf i; im = signedOf j }) ≡ Word r) × (r < 2 ^ q) ⌝ }
+{
+    2 * mark(q, i) + mark(q, j)
 }
 
 // The bits of a symbol, of which any pair may be asked. The order is that of `symbol`.
@@ -110,15 +147,12 @@ pub fn word(q: u32, d: Pair) -> Demapped
     requires { ⌜ Order q ⌝ }
     ensures { λ r. ⌜ r ≡ demapOf q d ⌝ }
 {
-    let i = mark(q, d.re);
-    if i == X {
-        return Demapped::NoLevel;
+    let i = base::byte_of(d.re);
+    let j = base::byte_of(d.im);
+    if known(q, i) && known(q, j) {
+        return Demapped::Word(bits(q, i, j));
     }
-    let j = mark(q, d.im);
-    if j == X {
-        return Demapped::NoLevel;
-    }
-    Demapped::Word(2 * (i as u32) + (j as u32))
+    Demapped::NoLevel
 }
 
 // The unit of an order, and 0 of no order.
