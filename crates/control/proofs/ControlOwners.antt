@@ -118,20 +118,30 @@ module _ (w : List ℕ) (p : Plan) (ok : checkOf w ≡ accepted p) where
       (exactly l (length-ok (p .cell)) x (hisOf w p) (within w p ok) (distinct w p ok) m (bitAt bits) (hiBit w p payload) (λ n. bit-le bits n) (λ n. bit-le payload _)
       .1 (λ n r u. same n (omega (arith, valid w p ok .his-count))))
 
-  pub phich-value :
-      (payload bits : List ℕ) (m : ℕ) → m < unitsOf (p .cell) → (e : ℕ) → phichSends (p .cell) m e ≡ true → e / placesOf (p .cell) < p .cell .ports
-      → ((n : ℕ) → n < p .his .count → bitAt bits n ≡ hiBit w p payload n)
-      → phichSent (p .cell) m (pairAt (controlInit (p .cell) (p .frame)) 0) (hisOf w p) bits e
+  -- the symbols of a unit's sums stand where its owner's do
+  pub phich-placed :
+      (payload : List ℕ) (m : ℕ) → m < unitsOf (p .cell) → (e : ℕ) → phichSends (p .cell) m e ≡ true → e / placesOf (p .cell) < p .cell .ports
+      → placed (p .cell .ports) ((phichIndex (p .cell) m (e % placesOf (p .cell)) / 4 + m) % 2) 2 (phichSum w p payload m) (phichIndex (p .cell) m (e % placesOf (p .cell))) (e / placesOf (p .cell))
       ≡ elementFor w p payload (Phich m) (e / placesOf (p .cell)) (symbolNumber (p .cell) (e % placesOf (p .cell))) (carrierOf (p .cell) (e % placesOf (p .cell)))
-  unfolding phichSent elementFor
-  phich-value payload bits m in-m e h q same =
+  unfolding elementFor
+  phich-placed payload m in-m e h q =
       let t = e % placesOf (p .cell) in
       let j = phichIndex (p .cell) m t in
       let P = p .cell .ports in
       let at : indexOf w p (Phich m) (placeNumber (p .cell) (symbolNumber (p .cell) t) (carrierOf (p .cell) t)) ≡ j = ap (indexOf w p (Phich m)) (place-both (p .cell) t) ∙ sym (phich-index m t) in
       let b : j < 12 = phich-below m in-m e h in
       let whole : 4 * (j / 4) + j % 4 ≡ j = omega arith in
-      ap (λ (d : ℕ → Pair). placed P ((j / 4 + m) % 2) 2 d j (e / placesOf (p .cell))) (λ i x. phich-sums payload bits m same x i)
-      ∙ ap (λ (y : ℕ). placed P ((j / 4 + m) % 2) 2 (phichSum w p payload m) y (e / placesOf (p .cell))) (sym whole)
+      ap (λ (y : ℕ). placed P ((j / 4 + m) % 2) 2 (phichSum w p payload m) y (e / placesOf (p .cell))) (sym whole)
       ∙ sym (phich-by-place (even-occurs w p ok 12 refl) m 2 (phichSum w p payload m) (j / 4) (j % 4) (e / placesOf (p .cell)) (omega arith) (omega arith) q)
       ∙ ap (λ (y : ℕ). phichPrecoded P m 2 (phichSum w p payload m) (y / 4) (y % 4) (e / placesOf (p .cell))) (sym at)
+
+  pub phich-value :
+      (payload bits : List ℕ) (m : ℕ) → m < unitsOf (p .cell) → (e : ℕ) → phichSends (p .cell) m e ≡ true → e / placesOf (p .cell) < p .cell .ports
+      → ((n : ℕ) → n < p .his .count → bitAt bits n ≡ hiBit w p payload n)
+      → phichSent (p .cell) m (pairAt (controlInit (p .cell) (p .frame)) 0) (hisOf w p) bits e
+      ≡ elementFor w p payload (Phich m) (e / placesOf (p .cell)) (symbolNumber (p .cell) (e % placesOf (p .cell))) (carrierOf (p .cell) (e % placesOf (p .cell)))
+  unfolding phichSent
+  phich-value payload bits m in-m e h q same =
+      let j = phichIndex (p .cell) m (e % placesOf (p .cell)) in
+      ap (λ (d : ℕ → Pair). placed (p .cell .ports) ((j / 4 + m) % 2) 2 d j (e / placesOf (p .cell))) (λ i x. phich-sums payload bits m same x i)
+      ∙ phich-placed payload m in-m e h q

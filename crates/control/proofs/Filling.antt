@@ -55,24 +55,26 @@ below-next x j n =
     (λ l. le-ltb x (j + 1) (omega (arith, ltb-false x j l, n)) ∙ sym l)
 
 module _ (P T : ℕ) {m : ℕ} {own : ℕ → Bool} {at index : ℕ → ℕ} (turn : ℕ → ℕ) (d : ℕ → Pair) (some : 0 < T) (L : Listed own T m at index) where
-  pub start : (g : List ℕ) → Written (upTo P T own index turn 0) (valueBy P T index turn d) g g
-  start g = same (λ e. sym (never e)) (λ e x. refl) (none (valueBy P T index turn d) g)
+  -- no element, and all
+  pub sent-none : (e : ℕ) → upTo P T own index turn 0 e ≡ false
+  sent-none e = rw (le-ltb (index (e % T)) 0 (omega arith)) (off (sentBy P T own index turn e))
+
+  pub sent-all : (e : ℕ) → upTo P T own index turn m e ≡ sentBy P T own index turn e
+  sent-all e = pick (own (e % T)) refl
     where
-      never : (e : ℕ) → upTo P T own index turn 0 e ≡ false
-      never e = rw (le-ltb (index (e % T)) 0 (omega arith)) (off (sentBy P T own index turn e))
+      pick : (a : Bool) → own (e % T) ≡ a → (a && sends P (turn (index (e % T))) (e / T)) && ltb (index (e % T)) m ≡ a && sends P (turn (index (e % T))) (e / T)
+      pick true q = rw (lt-ltb (index (e % T)) m (L .below (e % T) (mod-lt e some) q)) (on (sends P (turn (index (e % T))) (e / T)))
+      pick false q = refl
+
+  pub start : (g : List ℕ) → Written (upTo P T own index turn 0) (valueBy P T index turn d) g g
+  start g = same (λ e. sym (sent-none e)) (λ e x. refl) (none (valueBy P T index turn d) g)
 
   pub finish : {g h : List ℕ} → Written (upTo P T own index turn m) (valueBy P T index turn d) g h → Written (sentBy P T own index turn) (valueBy P T index turn d) g h
-  finish w = same all (λ e x. refl) w
-    where
-      pick : (e : ℕ) (a : Bool) → own (e % T) ≡ a → (a && sends P (turn (index (e % T))) (e / T)) && ltb (index (e % T)) m ≡ a && sends P (turn (index (e % T))) (e / T)
-      pick e true q = rw (lt-ltb (index (e % T)) m (L .below (e % T) (mod-lt e some) q)) (on (sends P (turn (index (e % T))) (e / T)))
-      pick e false q = refl
-
-      all : (e : ℕ) → upTo P T own index turn m e ≡ sentBy P T own index turn e
-      all e = pick e (own (e % T)) refl
+  finish w = same sent-all (λ e x. refl) w
 
   module _ (j : ℕ) (in-j : j < m) where
-    grows : (e : ℕ) → upTo P T own index turn (j + 1) e ≡ sentAt P T (turn j) (at j) e || upTo P T own index turn j e
+    -- place j's elements are one more
+    pub grows : (e : ℕ) → upTo P T own index turn (j + 1) e ≡ sentAt P T (turn j) (at j) e || upTo P T own index turn j e
     unfolding sentAt
     grows e = by-test (eqb (e % T) (at j)) here there
       where
@@ -92,7 +94,7 @@ module _ (P T : ℕ) {m : ℕ} {own : ℕ → Bool} {at index : ℕ → ℕ} (tu
         there h = rw h (kept (own (e % T)) (sends P (turn (index (e % T))) (e / T)) (ltb (index (e % T)) (j + 1)) (ltb (index (e % T)) j) (other h))
 
     -- the value of place j's element
-    value-at : (odd : ℕ) (x y : Pair) → odd ≡ j % 2 → x ≡ d j → y ≡ d (beside j) → (e : ℕ) → sentAt P T (turn j) (at j) e ≡ true
+    pub value-at : (odd : ℕ) (x y : Pair) → odd ≡ j % 2 → x ≡ d j → y ≡ d (beside j) → (e : ℕ) → sentAt P T (turn j) (at j) e ≡ true
         → onPort P (turn j) 2 odd x y (e / T) ≡ valueBy P T index turn d e
     unfolding sentAt
     value-at odd x y o p q e h =

@@ -46,6 +46,20 @@ pub record FormatTurn (c : Cell) (cfi : ℕ) (r s : Registers) (n : ℕ) (g₀ g
       Written (upTo (c .ports) (placesOf c) (pcfichHas c) (pcfichIndex c) byTwo (2 * n))
       (valueBy (c .ports) (placesOf c) (pcfichIndex c) byTwo (dataSymbol 2 (cfiBit cfi) (outputs r))) g₀ g
 
+-- the two symbols of turn n and their group, in any grid of the cell
+pub format-in :
+    {c : Cell} {cfi : ℕ} {g : List ℕ} → PcfichIn c cfi g → {n k : ℕ} {d e : Pair} → n < 8
+    → (w : ℕ) → k ≡ formatGroup (c .identity) (c .blocks) (n / 2) → d ≡ symbolFor 2 (w / 4) → e ≡ symbolFor 2 (w % 4) → PairIn c k (n % 2) d e g
+format-in {c = c} ok {n = n} in-n w q f h =
+    record {
+      cell = ok .cell;
+      group = omega (arith, q, pcfich-groups c (ok .cell) .small (n / 2) (omega arith));
+      half = omega arith;
+      first = rw f (small-symbol (w / 4));
+      second = rw h (small-symbol (w % 4));
+      room = ok .room;
+    }
+
 module _ (c : Cell) (cfi : ℕ) (r : Registers) (g₀ : List ℕ) (ok : PcfichIn c cfi g₀) where
   pub format-start : FormatTurn c cfi r r 0 g₀ g₀
   format-start =
@@ -58,15 +72,7 @@ module _ (c : Cell) (cfi : ℕ) (r : Registers) (g₀ : List ℕ) (ok : PcfichIn
   module _ {s : Registers} {n : ℕ} {g : List ℕ} (t : FormatTurn c cfi r s n g₀ g) (in-n : n < 8) where
     -- what `put_pair` requires
     pub format-pair : {k : ℕ} {d e : Pair} (w : ℕ) → k ≡ formatGroup (c .identity) (c .blocks) (n / 2) → d ≡ symbolFor 2 (w / 4) → e ≡ symbolFor 2 (w % 4) → PairIn c k (n % 2) d e g
-    format-pair w q f h =
-        record {
-          cell = ok .cell;
-          group = omega (arith, q, pcfich-groups c (ok .cell) .small (n / 2) (omega arith));
-          half = omega arith;
-          first = rw f (small-symbol (w / 4));
-          second = rw h (small-symbol (w % 4));
-          room = room-kept (ok .room) (t .written);
-        }
+    format-pair w q f h = format-in (record { cell = ok .cell; some = ok .some; most = ok .most; room = room-kept (ok .room) (t .written) }) {n = n} in-n w q f h
 
     -- and what it has done, with the pair four steps on
     pub format-next :
@@ -108,6 +114,23 @@ pub record UnitTurn (c : Cell) (m : ℕ) (sums : List Pair) (n : ℕ) (g₀ g : 
       Written (upTo (c .ports) (placesOf c) (phichHas c m) (phichIndex c m) (byQuad m) (2 * n))
       (valueBy (c .ports) (placesOf c) (phichIndex c m) (byQuad m) (λ (i : ℕ). getD sums i nil)) g₀ g
 
+-- the two sums of turn n and their group, in any grid of the cell
+pub unit-in :
+    {c : Cell} {m : ℕ} {sums : List Pair} {g : List ℕ} → UnitIn c m sums g → {n k : ℕ} → n < 6
+    → k ≡ unitGroup (c .identity) (c .blocks) m (n / 2) → PairIn c k (n % 2) (getD sums (2 * n) nil) (getD sums (2 * n + 1) nil) g
+unit-in {c = c} {m = m} {sums = sums} ok {n = n} in-n q =
+    record {
+      cell = ok .cell;
+      group = omega (arith, q, phich-groups c (ok .cell) m (ok .unit) .small (n / 2) (omega arith));
+      half = omega arith;
+      first = small-sum (2 * n) (omega arith);
+      second = small-sum (2 * n + 1) (omega arith);
+      room = ok .room;
+    }
+  where
+    small-sum : (i : ℕ) → i < 12 → Small 127 (getD sums i nil)
+    small-sum i l = let s = ok .small i l in (omega (arith, s .0), omega (arith, s .1))
+
 module _ (c : Cell) (m : ℕ) (sums : List Pair) (g₀ : List ℕ) (ok : UnitIn c m sums g₀) where
   pub unit-start : UnitTurn c m sums 0 g₀ g₀
   unit-start =
@@ -116,20 +139,9 @@ module _ (c : Cell) (m : ℕ) (sums : List Pair) (g₀ : List ℕ) (ok : UnitIn 
         written = filling.start (c .ports) (placesOf c) (byQuad m) (λ (i : ℕ). getD sums i nil) (some-places c (ok .cell)) (phich-listed c (ok .cell) m (ok .unit)) g₀;
       }
 
-  small-sum : (i : ℕ) → i < 12 → Small 127 (getD sums i nil)
-  small-sum i l = let s = ok .small i l in (omega (arith, s .0), omega (arith, s .1))
-
   module _ {n : ℕ} {g : List ℕ} (t : UnitTurn c m sums n g₀ g) (in-n : n < 6) where
     pub unit-pair : {k : ℕ} → k ≡ unitGroup (c .identity) (c .blocks) m (n / 2) → PairIn c k (n % 2) (getD sums (2 * n) nil) (getD sums (2 * n + 1) nil) g
-    unit-pair q =
-        record {
-          cell = ok .cell;
-          group = omega (arith, q, phich-groups c (ok .cell) m (ok .unit) .small (n / 2) (omega arith));
-          half = omega arith;
-          first = small-sum (2 * n) (omega arith);
-          second = small-sum (2 * n + 1) (omega arith);
-          room = room-kept (ok .room) (t .written);
-        }
+    unit-pair q = unit-in {sums = sums} (record { cell = ok .cell; unit = ok .unit; room = room-kept (ok .room) (t .written); small = ok .small }) {n = n} in-n q
 
     pub unit-next :
         {k : ℕ} {g′ : List ℕ} → k ≡ unitGroup (c .identity) (c .blocks) m (n / 2)

@@ -36,7 +36,7 @@ fn cfi_bit(cfi: u8, i: usize) -> u32
 }
 
 // Its four bits from bit i on.
-fn cfi_word(cfi: u8, i: usize) -> u32
+pub fn cfi_word(cfi: u8, i: usize) -> u32
     requires { ⌜ (1 ≤ cfi) × (cfi ≤ 3) × (i < 32) ⌝ }
     ensures { λ r. ⌜ r ≡ binary (cfiBit cfi) i 4 ⌝ }
 {
@@ -48,7 +48,7 @@ fn cfi_word(cfi: u8, i: usize) -> u32
 }
 
 // The number of places on a port.
-fn places_of(cell: Cell) -> usize
+pub fn places_of(cell: Cell) -> usize
     ensures { λ r. ⌜ r ≡ placesOf cell ⌝ }
 {
     2 * layout::slot_length(cell.prefix) * (12 * base::wide(cell.blocks))
@@ -87,7 +87,7 @@ pub fn fill_pcfich(r: Registers, cell: Cell, cfi: u8, grid: &mut [u8]) -> Regist
 }
 
 // The length of the spreading sequences.
-fn spread_length(cell: Cell) -> usize
+pub fn spread_length(cell: Cell) -> usize
     ensures { λ r. ⌜ r ≡ spreadLength cell ⌝ }
 {
     if cell.prefix == 1 { 2 } else { 4 }
@@ -147,7 +147,7 @@ fn sum_at(cell: Cell, m: usize, i: usize, grid: &[u8]) -> Pair
 }
 
 // The twelve sums of unit m.
-fn sums_in(cell: Cell, m: usize, grid: &[u8]) -> [Pair; 12]
+pub fn sums_in(cell: Cell, m: usize, grid: &[u8]) -> [Pair; 12]
     requires { ⌜ UnitRead cell m (now grid) ⌝ }
     ensures { λ r. ⌜ r ≡ sumsOf cell m (now (grid .entry)) ⌝ }
 {

@@ -56,7 +56,7 @@ start {at = at} {count = count} c bit sums z r =
     }
 
 module _ {l : ℕ} {c : ℕ → ℕ} {m : ℕ} {plan : List ℕ} {at count : ℕ} {bit : ℕ → ℕ} {sums : List Pair} {from k : ℕ} (t : Turn l c m plan at count bit sums from k) (more : k < count) where
-  split : rest plan from count k ≡ here plan from ∷ rest plan (nextOf plan from) count (k + 1)
+  pub split : rest plan from count k ≡ here plan from ∷ rest plan (nextOf plan from) count (k + 1)
   split =
       let e : count - k - 1 ≡ count - (k + 1) = omega arith in
       first plan from (count - k) (omega arith) ∙ ap (λ (n : ℕ). here plan from ∷ hisFrom (drop (nextOf plan from) plan) n) e

@@ -96,6 +96,11 @@ agreed l c m bit bit′ i (g ∷ hs) k h =
         ap (λ (b : ℕ). cond (eqb (mappingUnit l g) m) (partAt l c g b i) nil) (subst (λ (x : ℕ). bit x ≡ bit′ x) z (h 0 (suc-le-suc zero-le) e))
     pick (no e) = simp (ne-eqb _ _ e)
 
+pub same-sums : (l : ℕ) (c : ℕ → ℕ) (m : ℕ) (bit bit′ : ℕ → ℕ) (hs : List Hi) → SameHiBits l m hs bit bit′ → unitSums l c m bit hs ≡ unitSums l c m bit′ hs
+unfolding SameHiBits unitSums
+same-sums l c m bit bit′ hs same =
+    table-same 12 _ _ (λ i. agreed l c m bit bit′ i hs 0 (λ n r u. let z : 0 + n ≡ n = omega arith in rw z (same n r u)))
+
 module _ (l : ℕ) (ok : Length l) (c : ℕ → ℕ) (hs : List Hi) (w : Within l hs) (d : Distinct hs) where
   at-place : (m : ℕ) (bit : ℕ → ℕ) (i : ℕ) → i < 12 → getD (unitSums l c m bit hs) i nil ≡ sumAt l c m bit i hs 0
   unfolding unitSums
@@ -114,8 +119,8 @@ module _ (l : ℕ) (ok : Length l) (c : ℕ → ℕ) (hs : List Hi) (w : Within 
 
   -- and so a unit's sums are the same exactly where its bits are
   pub exactly : (m : ℕ) (bit bit′ : ℕ → ℕ) → ((n : ℕ) → bit n ≤ 1) → ((n : ℕ) → bit′ n ≤ 1) → (unitSums l c m bit hs ≡ unitSums l c m bit′ hs) ↔ SameHiBits l m hs bit bit′
-  unfolding SameHiBits unitSums
+  unfolding SameHiBits
   exactly m bit bit′ b b′ = (
     (λ e n r u. sym (recovered bit n (b n) r) ∙ ap (bitIn l c (hiNumber hs n)) (rw u e) ∙ recovered bit′ n (b′ n) r),
-    (λ same. table-same 12 _ _ (λ i. agreed l c m bit bit′ i hs 0 (λ n r u. let z : 0 + n ≡ n = omega arith in rw z (same n r u)))),
+    (λ same. same-sums l c m bit bit′ hs same),
   )

@@ -123,7 +123,7 @@ fn plus(p: Pair, q: Pair) -> Pair
 }
 
 // The sums with the parts of one more HI of their unit.
-fn with_hi(sums: [Pair; 12], l: usize, w: u32, h: Hi, b: u8) -> [Pair; 12]
+pub fn with_hi(sums: [Pair; 12], l: usize, w: u32, h: Hi, b: u8) -> [Pair; 12]
     requires { ⌜ Length l × (h .sequence < 2 * l) × Room sums ⌝ }
     ensures { λ r. ⌜ r ≡ withHi l (wordBit w) h b sums ⌝ }
 {

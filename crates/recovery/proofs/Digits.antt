@@ -12,7 +12,7 @@ use Rattle.plan.specs.Lists.{Every}
 use Rattle.plan.proofs.Listed.{every-at}
 
 -- numbers of n binary digits
-digits-same : (n x y : ℕ) → x < 2 ^ n → y < 2 ^ n → ((i : ℕ) → i < n → dig x i ≡ dig y i) → x ≡ y
+pub digits-same : (n x y : ℕ) → x < 2 ^ n → y < 2 ^ n → ((i : ℕ) → i < n → dig x i ≡ dig y i) → x ≡ y
 unfolding dig
 digits-same zero x y hx hy same = omega arith
 digits-same (suc n) x y hx hy same =

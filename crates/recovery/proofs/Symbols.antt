@@ -36,11 +36,11 @@ module _ (g : List ℕ) (e : ℕ) (x : Element) (h : (b : ℕ) → b < 3 → get
   byte-in (suc (suc zero)) l = let z : 3 * e + 2 ≡ e * 3 + 2 = omega arith in ap (λ (n : ℕ). getD g n 0) z ∙ h 2 l
   byte-in (suc (suc (suc b))) l = absurd (omega arith)
 
-  element-in : elementIn g e ≡ x
+  pub element-in : elementIn g e ≡ x
   element-in = element-same byte-in
 
 -- ---- the own port goes by the turn's parity
-own-turn : (P turn : ℕ) → ownPort P (turn % 2) ≡ ownPort P turn
+pub own-turn : (P turn : ℕ) → ownPort P (turn % 2) ≡ ownPort P turn
 unfolding ownPort
 own-turn P turn = let e : turn % 2 % 2 ≡ turn % 2 = omega arith in ap (λ (t : ℕ). cond (eqb P 4) t 0) e
 

@@ -1,6 +1,8 @@
--- Laws that the proofs cite. For the crates above: SignalOwners, where and what each signal writes, by its owner's rule.
-mod Stretches
+-- Laws that the proofs cite. For the crates above: SignalOwners, where and what each signal writes, by its owner's rule; Stretches,
+-- Values and Numbers, its elements and their values by their numbers.
+pub mod Stretches
+pub mod Values
 mod Turns
-mod Numbers
+pub mod Numbers
 mod Shifts
 pub mod SignalOwners

@@ -133,10 +133,10 @@ module _ (c : Cell) (s q a first : ℕ) (ok : CellIn c) (in-s : s < symbols c)
       back : (N k a first e : ℕ) → k % 6 ≡ a → e ≡ first + (k - a) → k < 12 * N → everySixth first (2 * N) e ≡ true
       back N k a first e m y l = sixth-is first (2 * N) e (omega arith) (omega arith) (omega arith)
 
-  crs-elements : (e : ℕ) → everySixth first (2 * c .blocks) e ≡ crsSends c s q e
+  pub crs-elements : (e : ℕ) → everySixth first (2 * c .blocks) e ≡ crsSends c s q e
   crs-elements e = same-test (everySixth first (2 * c .blocks) e) (crsSends c s q e) (sends e) (sent e)
 
-  crs-values : (r : Registers) (e : ℕ) → everySixth first (2 * c .blocks) e ≡ true → pairSent r first e ≡ crsSent c r e
+  pub crs-values : (r : Registers) (e : ℕ) → everySixth first (2 * c .blocks) e ≡ true → pairSent r first e ≡ crsSent c r e
   unfolding pairSent crsSent
   crs-values r e h =
       let d = there e h in
@@ -217,21 +217,21 @@ module _ (c : Cell) (ok : CellIn c) (y first : ℕ) (in-y : (1 ≤ y) × (y ≤ 
       let at : e ≡ 0 * T + ((slotOfCell c - y) * carriers c + k) = number-of (carriers c) T e ∙ (λ i. eqb-true (e / T) 0 (and-left u v uv) i * T + (s′ i * carriers c + k)) in
       in-row first 62 e (omega arith) (omega (arith, mark-wide))
 
-  mark-elements : (e : ℕ) → inRow first 62 e ≡ markSends c y e
+  pub mark-elements : (e : ℕ) → inRow first 62 e ≡ markSends c y e
   mark-elements e = same-test (inRow first 62 e) (markSends c y e) (mark-sends e) (mark-sent e)
 
   mark-index : (e : ℕ) → inRow first 62 e ≡ true → e - first ≡ markNumber c (carrierOf c (e % placesOf c))
   unfolding markNumber
   mark-index e h = let d = mark-there e h in omega (arith, mark-wide, d .2)
 
-  phases : (e : ℕ) → inRow first 62 e ≡ true → phaseSent (c .identity) first e ≡ pssSent c e
+  pub phases : (e : ℕ) → inRow first 62 e ≡ true → phaseSent (c .identity) first e ≡ pssSent c e
   unfolding phaseSent pssSent pssElement
   phases e t = ap (λ (n : ℕ). record { unit = 63; i = pssPhase (c .identity) n; j = 0 }) (mark-index e t)
 
   pub pss-done : {g h : List ℕ} → Written (inRow first 62) (phaseSent (c .identity) first) g h → Written (markSends c y) (pssSent c) g h
   pss-done w = same mark-elements phases w
 
-  levels : (f : Frame) (d : Sss) → d ≡ sssOf (c .identity) (f .subframe) → (e : ℕ) → inRow first 62 e ≡ true → levelSent d first e ≡ sssSent c f e
+  pub levels : (f : Frame) (d : Sss) → d ≡ sssOf (c .identity) (f .subframe) → (e : ℕ) → inRow first 62 e ≡ true → levelSent d first e ≡ sssSent c f e
   unfolding levelSent sssSent sssElement
   levels f d ed e t =
       let r = row-of first 62 e t in

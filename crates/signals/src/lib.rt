@@ -19,7 +19,7 @@ ghost use Rattle.signals.specs.Signals.{crsSends, crsSent, markSends, ps
 ghost use Rattle.signals.specs.Rows.{MarkIn, SignalIn, everySixth, wordSent, pairSent, inRow, phaseSent, levelSent};
 
 // The number of the first element of symbol s on a port. Callers ask inside a grid: at most 14 symbols.
-fn row_at(cell: Cell, s: usize, port: u8) -> usize
+pub fn row_at(cell: Cell, s: usize, port: u8) -> usize
     requires { ⌜ s < 14 ⌝ }
     ensures { λ r. ⌜ r ≡ port * placesOf cell + s * carriers cell ⌝ }
 {
@@ -56,7 +56,7 @@ fn shift(port: usize, slot: usize, s: usize) -> usize
 }
 
 // The first subcarrier of a port's reference signal in symbol s.
-fn first_carrier(cell: Cell, s: usize, port: u8) -> usize
+pub fn first_carrier(cell: Cell, s: usize, port: u8) -> usize
     requires { ⌜ port < 4 ⌝ }
     ensures { λ r. ⌜ r ≡ (shiftOf port (inSlot (slotOfCell cell) s) (slotOf (slotOfCell cell) s) + cell .identity) % 6 ⌝ }
 {
@@ -79,7 +79,7 @@ fn fill_word(word: u32, n: usize, first: usize, grid: &mut [u8])
 }
 
 // How many of the values left go into one word of the sequence: two bits each, 28 bits at most.
-fn at_once(left: usize) -> usize
+pub fn at_once(left: usize) -> usize
     requires { ⌜ 0 < left ⌝ }
     ensures { λ r. ⌜ (0 < r) × (r ≤ 14) × (r ≤ left) ⌝ }
 {
@@ -114,7 +114,7 @@ pub fn fill_crs(r: Registers, cell: Cell, s: usize, port: u8, grid: &mut [u8]) -
 }
 
 // The number of the first of 62 elements in the middle of the symbol that stands y from the first slot's end, on port 0.
-fn mark_at(cell: Cell, y: usize) -> usize
+pub fn mark_at(cell: Cell, y: usize) -> usize
     requires { ⌜ CellIn cell × (y ≤ 2) ⌝ }
     ensures { λ r. ⌜ r ≡ (slotOfCell cell - y) * carriers cell + (6 * cell .blocks - 31) ⌝ }
 {

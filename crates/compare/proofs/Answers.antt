@@ -1,0 +1,39 @@
+-- Laws of the answers, in the code's own cases: one element beside its value, and both of two comparisons. Assumes nothing.
+use Prim.Native.Nat.{ℕ, _+_, _≤_}
+use mathlib.Core.Path.{_≡_, refl, sym, ap₂, subst}
+use native.Mathlib.Omega.{arith}
+use borrow.Author.Tests.{eq-eqb, ne-eqb}
+use Rattle.base.specs.declared.Element.{Element}
+use Rattle.compare.specs.declared.Seen.{Seen}
+use Rattle.compare.specs.declared.Seen.the-variants.{Weight, Differs}
+use Rattle.compare.specs.Comparing.{mark, weightOf, seenOf, bothOf, Few}
+use Rattle.compare.proofs.Comparing.{mark-le}
+
+pub mark-few : (b : ℕ) {n : ℕ} → n ≡ mark b → n ≤ 1
+mark-few b e = omega (arith, e, mark-le b)
+
+module _ (a b : Element) where
+  pub all-same :
+      {x y z : ℕ} → a .unit ≡ b .unit → a .i ≡ b .i → a .j ≡ b .j → x ≡ mark (a .unit) → y ≡ mark (a .i) → z ≡ mark (a .j)
+      → Weight (x + y + z) ≡ seenOf a b
+  unfolding seenOf weightOf
+  all-same u i j ex ey ez = rw (eq-eqb (a .unit) (b .unit) u, eq-eqb (a .i) (b .i) i, eq-eqb (a .j) (b .j) j, ex, ey, ez) refl
+
+  pub other-unit : (a .unit ≡ b .unit → ⊥) → Differs ≡ seenOf a b
+  unfolding seenOf
+  other-unit n = rw (ne-eqb (a .unit) (b .unit) n) refl
+
+  pub other-i : a .unit ≡ b .unit → (a .i ≡ b .i → ⊥) → Differs ≡ seenOf a b
+  unfolding seenOf
+  other-i u n = rw (eq-eqb (a .unit) (b .unit) u, ne-eqb (a .i) (b .i) n) refl
+
+  pub other-j : a .unit ≡ b .unit → a .i ≡ b .i → (a .j ≡ b .j → ⊥) → Differs ≡ seenOf a b
+  unfolding seenOf
+  other-j u i n = rw (eq-eqb (a .unit) (b .unit) u, eq-eqb (a .i) (b .i) i, ne-eqb (a .j) (b .j) n) refl
+
+module _ {a b : Seen} {m n : ℕ} (ea : a ≡ Weight m) (eb : b ≡ Weight n) where
+  pub both-few : Few a → Few b → m + n ≤ 8589934592
+  both-few fa fb = let x : m ≤ 4294967296 = subst Few ea fa in let y : n ≤ 4294967296 = subst Few eb fb in omega arith
+
+  pub both-weights : Weight (m + n) ≡ bothOf a b
+  both-weights = sym (ap₂ bothOf ea eb)

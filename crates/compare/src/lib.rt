@@ -1,0 +1,124 @@
+// A grid's elements compared with the values that are due there, in place: the number of their bytes that are not 0, or a
+// difference. When the numbers of all channels make up that of the grid, every other element is silent.
+use base::Element;
+use base::Pair;
+ghost use mathlib.Core.Path.{_≡_};
+ghost use Prim.Native.Nat.{ℕ, _+_, _*_, _/_, _≤_, _<_};
+ghost use lib.ListN.{length};
+ghost use Rattle.base.specs.Pairs.{Small};
+ghost use Rattle.precoding.specs.Places.{onPort};
+ghost use Rattle.grid.specs.Elements.{elementIn};
+ghost use Rattle.grid.specs.Writing.{sentAt, Room};
+ghost use Rattle.compare.specs.Comparing.{mark, marks, seenOf, bothOf, Few, Compared};
+
+// What a comparison of elements with their values found: how many of their bytes are not 0, or a difference.
+pub enum Seen {
+    Weight(usize),
+    Differs,
+}
+
+// How many of few bytes are not 0, counted in a byte so that many are compared at once.
+fn marks_in(part: &[u8]) -> u8
+    requires { ⌜ length (now part) ≤ 192 ⌝ }
+    ensures { λ r. ⌜ r ≡ marks (now (part .entry)) ⌝ }
+{
+    let mut n: u8 = 0;
+    let mut i: usize = 0;
+    while i < part.len() {
+        if part[i] != 0 {
+            n += 1;
+        }
+        i += 1;
+    }
+    n
+}
+
+// The end of the part that starts at i: 192 bytes, or what is left. Callers ask inside a grid.
+fn part_end(i: usize, length: usize) -> usize
+    requires { ⌜ i < length ⌝ }
+    ensures { λ r. ⌜ (i < r) × (r ≤ length) × (r ≤ i + 192) ⌝ }
+{
+    if 192 <= length - i { i + 192 } else { length }
+}
+
+// How many bytes of a grid are not 0.
+pub fn weight(grid: &[u8]) -> usize
+    ensures { λ r. ⌜ r ≡ marks (now (grid .entry)) ⌝ }
+{
+    let mut n: usize = 0;
+    let mut i: usize = 0;
+    while i < grid.len() {
+        let end = part_end(i, grid.len());
+        n += base::wide(marks_in(&grid[i..end]));
+        i = end;
+    }
+    n
+}
+
+// 1 for a byte that is not 0.
+fn mark_of(b: u8) -> usize
+    ensures { λ r. ⌜ r ≡ mark b ⌝ }
+{
+    if b == 0 { 0 } else { 1 }
+}
+
+// One element beside its value.
+pub fn beside(a: Element, b: Element) -> Seen
+    ensures { λ r. ⌜ r ≡ seenOf a b ⌝ }
+{
+    if a.unit == b.unit && a.i == b.i && a.j == b.j {
+        return Seen::Weight(mark_of(a.unit) + mark_of(a.i) + mark_of(a.j));
+    }
+    Seen::Differs
+}
+
+// The element with a number, beside its value. Callers number the elements of a grid whose length they have compared.
+pub fn look(grid: &[u8], e: usize, el: Element) -> Seen
+    requires { ⌜ 3 * e + 2 < length (now grid) ⌝ }
+    ensures { λ r. ⌜ r ≡ seenOf (elementIn (now (grid .entry)) e) el ⌝ }
+{
+    beside(grid::get(grid, e), el)
+}
+
+// Both of two comparisons. Callers compare elements of one grid, so that the numbers are small.
+pub fn both(a: Seen, b: Seen) -> Seen
+    requires { ⌜ Few a × Few b ⌝ }
+    ensures { λ r. ⌜ r ≡ bothOf a b ⌝ }
+{
+    match a {
+        Seen::Weight(m) => match b {
+            Seen::Weight(n) => Seen::Weight(m + n),
+            Seen::Differs => Seen::Differs,
+        },
+        Seen::Differs => Seen::Differs,
+    }
+}
+
+// What transmit diversity sends at place t, on the ports with a term, as `grid::put_place` writes it. Callers have compared the
+// grid's length, and take units and levels from the modulation tables or PHICH's sums.
+pub fn look_place(
+    grid: &[u8],
+    ports: u8,
+    places: usize,
+    t: usize,
+    turn: u8,
+    unit: u8,
+    odd: u8,
+    d: Pair,
+    e: Pair,
+) -> Seen
+    requires { ⌜ Room ports places (now grid) × (t < places) × Small 127 e × (unit ≤ 127) ⌝ }
+    ensures { λ r. ⌜ Compared (sentAt ports places turn t) (λ (x : ℕ). onPort ports turn unit odd d e (x / places)) (now (grid .entry)) r ⌝ }
+{
+    let u = precoding::unit_on(ports, unit);
+    let own = base::wide(precoding::own_port(ports, turn)) * places + t;
+    let seen = look(grid, own, base::element_of(u, d));
+    if ports == 1 {
+        return seen;
+    }
+    let other = base::wide(precoding::other_port(ports, turn)) * places + t;
+    both(
+        seen,
+        look(grid, other, base::element_of(u, precoding::partner(odd, e))),
+    )
+}

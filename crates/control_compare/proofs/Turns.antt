@@ -1,0 +1,170 @@
+-- The two places of `compare_pair`, and the loops of `compare_pcfich` and `compare_sums`: after n pairs of places those of the indices below
+-- 2n are compared. Assumes nothing.
+use Prim.Native.Nat.{ℕ, _+_, _*_, _/_, _%_, _≤_, _<_}
+use mathlib.Core.Path.{_≡_, refl, sym, ap, _∙_}
+use mathlib.Core.Bool.{Bool}
+use mathlib.Core.List.{List}
+use native.Mathlib.Omega.{arith}
+use lib.ListN.{getD}
+use Rattle.base.specs.declared.Pair.{Pair}
+use Rattle.base.specs.declared.Element.{Element}
+use Rattle.base.specs.Pairs.{nil, Small}
+use Rattle.gold.specs.declared.Registers.{Registers}
+use Rattle.gold.specs.Sequence.{binary}
+use Rattle.gold.specs.Steps.{after}
+use Rattle.gold.proofs.Laws.{after-none, after-after}
+use Rattle.modulation.specs.Symbols.{symbolOf as symbolFor}
+use Rattle.codeword.specs.Codewords.{scrambled, dataSymbol, cfiBit}
+use Rattle.codeword.specs.Streams.{outputs}
+use Rattle.precoding.specs.Places.{onPort}
+use Rattle.plan.specs.Fields.{unitsOf}
+use Rattle.plan.specs.declared.Cell.{Cell}
+use Rattle.layout.specs.Rules.{formatGroup, pcfich, phich}
+use Rattle.places.specs.Quads.{quadPlace, quadIndex, unitGroup}
+use Rattle.places.specs.Places.{symbolNumber, carrierOf, placesOf}
+use Rattle.places.proofs.Quads.{place-index}
+use Rattle.grid.specs.Writing.{sentAt, Room}
+use Rattle.compare.specs.declared.Seen.{Seen}
+use Rattle.compare.specs.declared.Seen.the-variants.{Weight}
+use Rattle.compare.specs.Comparing.{Compared, bothOf, Few}
+use Rattle.compare.proofs.Comparing.{few}
+use Rattle.control.specs.Control.{pcfichIndex, pcfichSends, pcfichSent, phichIndex, phichSends}
+use Rattle.control.specs.Filling.{PcfichIn, UnitIn, PairIn, unitSent}
+use Rattle.control.proofs.Filling.{upTo, valueBy}
+use Rattle.control.proofs.Listings.{place-at, place-inside, some-places, pcfich-listed, phich-listed}
+use Rattle.control.proofs.Words.{first-symbol, second-symbol}
+use Rattle.control_compare.specs.Pairs.{pairSends, pairSent}
+use Rattle.control_compare.proofs.Pairs as pairs
+use Rattle.control_compare.proofs.Pairs.{pair-compared}
+
+-- ---- `compare_pair`
+module _ {c : Cell} {g i : ℕ} {d e : Pair} {grid : List ℕ} (ok : PairIn c g i d e grid) where
+  -- the two places of the group are not one
+  apart : quadPlace (c .identity) g (2 * i) ≡ quadPlace (c .identity) g (2 * i + 1) → ⊥
+  apart q =
+      let C : ℕ = c .identity in
+      let z : 2 * i ≡ 2 * i + 1 = sym (place-index C g (2 * i) (omega (arith, ok .half))) ∙ ap (quadIndex C) q ∙ place-index C g (2 * i + 1) (omega (arith, ok .half)) in
+      omega arith
+
+  -- what `both` requires
+  pub both-few : {D D′ : ℕ → Bool} {W W′ : ℕ → Element} {r s : Seen} → Compared D W grid r → Compared D′ W′ grid s → Few r × Few s
+  both-few one two = (few {P = c .ports} {T = placesOf c} (ok .room) one, few {P = c .ports} {T = placesOf c} (ok .room) two)
+
+  module _ {T : ℕ} (t : T ≡ placesOf c) where
+    -- what `look_place` requires at the second place
+    pub second-ok : {b : ℕ} → b ≡ quadPlace (c .identity) g (2 * i + 1) → Room (c .ports) T grid × (b < T) × Small 127 d × (2 ≤ 127)
+    second-ok q = (rw t (ok .room), rw (t, q) (place-inside c g (2 * i + 1) (ok .group) (omega (arith, ok .half))), ok .first, omega arith)
+
+    module _ (turn : ℕ) {a b : ℕ} {r s : Seen} (p : a ≡ quadPlace (c .identity) g (2 * i)) (q : b ≡ quadPlace (c .identity) g (2 * i + 1))
+        (one : Compared (sentAt (c .ports) T turn a) (λ (x : ℕ). onPort (c .ports) turn 2 0 d e (x / T)) grid r)
+        (two : Compared (sentAt (c .ports) T turn b) (λ (x : ℕ). onPort (c .ports) turn 2 1 e d (x / T)) grid s) where
+      pub pair-seen :
+          {x : Seen} → x ≡ bothOf r s
+          → Compared (pairSends (c .ports) (placesOf c) turn (quadPlace (c .identity) g (2 * i)) (quadPlace (c .identity) g (2 * i + 1))) (pairSent (c .ports) (placesOf c) turn (quadPlace (c .identity) g (2 * i)) d e) grid x
+      pair-seen z = rw (z, ← t, ← p, ← q) (pair-compared (c .ports) T turn a b (rw (p, q) apart) d e one two)
+
+-- ---- PCFICH
+abbrev pcfichHas : Cell → ℕ → Bool
+pcfichHas c t = pcfich (c .identity) (c .blocks) (symbolNumber c t) (carrierOf c t)
+
+abbrev byTwo : ℕ → ℕ
+byTwo j = j / 2 % 2
+
+pub record FormatTurn (c : Cell) (cfi : ℕ) (r s : Registers) (n : ℕ) (g : List ℕ) (seen : Seen) : Type 0 where
+  pub most : n ≤ 8
+  pub pair : s ≡ after r (4 * n)
+  pub compared :
+      Compared (upTo (c .ports) (placesOf c) (pcfichHas c) (pcfichIndex c) byTwo (2 * n))
+      (valueBy (c .ports) (placesOf c) (pcfichIndex c) byTwo (dataSymbol 2 (cfiBit cfi) (outputs r))) g seen
+
+module _ (c : Cell) (cfi : ℕ) (r : Registers) (g : List ℕ) (ok : PcfichIn c cfi g) where
+  pub format-start : FormatTurn c cfi r r 0 g (Weight 0)
+  format-start =
+      record {
+        most = omega arith;
+        pair = sym (after-none r);
+        compared = pairs.start (c .ports) (placesOf c) byTwo (dataSymbol 2 (cfiBit cfi) (outputs r)) (some-places c (ok .cell)) (pcfich-listed c (ok .cell)) g;
+      }
+
+  -- what `both` requires
+  pub format-few : {s : Registers} {n : ℕ} {seen x : Seen} {D : ℕ → Bool} {W : ℕ → Element} → FormatTurn c cfi r s n g seen → Compared D W g x → Few seen × Few x
+  format-few t p = (few {P = c .ports} {T = placesOf c} (ok .room) (t .compared), few {P = c .ports} {T = placesOf c} (ok .room) p)
+
+  module _ {s : Registers} {n : ℕ} {seen : Seen} (t : FormatTurn c cfi r s n g seen) (in-n : n < 8) where
+    pub format-next :
+        {s′ : Registers} {k : ℕ} {d e : Pair} {x y : Seen} (w : ℕ) → w ≡ binary (scrambled (cfiBit cfi) (outputs r)) (4 * n) 4
+        → k ≡ formatGroup (c .identity) (c .blocks) (n / 2) → d ≡ symbolFor 2 (w / 4) → e ≡ symbolFor 2 (w % 4)
+        → Compared (pairSends (c .ports) (placesOf c) (n % 2) (quadPlace (c .identity) k (2 * (n % 2))) (quadPlace (c .identity) k (2 * (n % 2) + 1))) (pairSent (c .ports) (placesOf c) (n % 2) (quadPlace (c .identity) k (2 * (n % 2))) d e) g x
+        → y ≡ bothOf seen x → s′ ≡ after s 4 → FormatTurn c cfi r s′ (n + 1) g y
+    format-next {d = d} {e = e} w h q f k p b z =
+        let group : ℕ → ℕ = formatGroup (c .identity) (c .blocks) in
+        let C : ℕ = c .identity in
+        let i : ℕ = 2 * (n % 2) in
+        let one = place-at c group (2 * n) (n / 2) i (omega arith) (omega arith) ∙ ap (λ (y : ℕ). quadPlace C y i) (sym q) in
+        let two = place-at c group (2 * n + 1) (n / 2) (i + 1) (omega arith) (omega arith) ∙ ap (λ (y : ℕ). quadPlace C y (i + 1)) (sym q) in
+        let sum : 4 * n + 4 ≡ 4 * (n + 1) = omega arith in
+        record {
+          most = omega arith;
+          pair = z ∙ ap (λ (y : Registers). after y 4) (t .pair) ∙ after-after r (4 * n) 4 ∙ ap (after r) sum;
+          compared =
+              rw b
+              (pairs.pair-more (c .ports) (placesOf c) byTwo (dataSymbol 2 (cfiBit cfi) (outputs r)) (some-places c (ok .cell)) (pcfich-listed c (ok .cell)) n (omega arith) (n % 2) _ _ d e (omega arith) (omega arith) one two
+              (f ∙ first-symbol (cfiBit cfi) (outputs r) n w h) (k ∙ second-symbol (cfiBit cfi) (outputs r) n w h) (t .compared) p);
+        }
+
+  pub format-finish : {s : Registers} {n : ℕ} {seen : Seen} → FormatTurn c cfi r s n g seen → 8 ≤ n → Compared (pcfichSends c) (pcfichSent c cfi r) g seen
+  unfolding pcfichSends pcfichSent
+  format-finish {n = n} t last =
+      let e : 2 * n ≡ 16 = omega (arith, t .most, last) in
+      pairs.finish (c .ports) (placesOf c) byTwo (dataSymbol 2 (cfiBit cfi) (outputs r)) (some-places c (ok .cell)) (pcfich-listed c (ok .cell)) (rw e at (t .compared))
+
+-- ---- a PHICH unit
+abbrev phichHas : Cell → ℕ → ℕ → Bool
+phichHas c m t = phich (c .identity) (c .blocks) (unitsOf c) m (symbolNumber c t) (carrierOf c t)
+
+abbrev byQuad : ℕ → ℕ → ℕ
+byQuad m j = (j / 4 + m) % 2
+
+pub record UnitTurn (c : Cell) (m : ℕ) (sums : List Pair) (n : ℕ) (g : List ℕ) (seen : Seen) : Type 0 where
+  pub most : n ≤ 6
+  pub compared :
+      Compared (upTo (c .ports) (placesOf c) (phichHas c m) (phichIndex c m) (byQuad m) (2 * n))
+      (valueBy (c .ports) (placesOf c) (phichIndex c m) (byQuad m) (λ (i : ℕ). getD sums i nil)) g seen
+
+module _ (c : Cell) (m : ℕ) (sums : List Pair) (g : List ℕ) (ok : UnitIn c m sums g) where
+  pub unit-start : UnitTurn c m sums 0 g (Weight 0)
+  unit-start =
+      record {
+        most = omega arith;
+        compared = pairs.start (c .ports) (placesOf c) (byQuad m) (λ (i : ℕ). getD sums i nil) (some-places c (ok .cell)) (phich-listed c (ok .cell) m (ok .unit)) g;
+      }
+
+  pub unit-small : {n : ℕ} {seen x : Seen} {D : ℕ → Bool} {W : ℕ → Element} → UnitTurn c m sums n g seen → Compared D W g x → Few seen × Few x
+  unit-small t p = (few {P = c .ports} {T = placesOf c} (ok .room) (t .compared), few {P = c .ports} {T = placesOf c} (ok .room) p)
+
+  module _ {n : ℕ} {seen : Seen} (t : UnitTurn c m sums n g seen) (in-n : n < 6) where
+    pub unit-next :
+        {k : ℕ} {x y : Seen} → k ≡ unitGroup (c .identity) (c .blocks) m (n / 2)
+        → Compared (pairSends (c .ports) (placesOf c) ((n / 2 + m) % 2) (quadPlace (c .identity) k (2 * (n % 2))) (quadPlace (c .identity) k (2 * (n % 2) + 1))) (pairSent (c .ports) (placesOf c) ((n / 2 + m) % 2) (quadPlace (c .identity) k (2 * (n % 2))) (getD sums (2 * n) nil) (getD sums (2 * n + 1) nil)) g x
+        → y ≡ bothOf seen x → UnitTurn c m sums (n + 1) g y
+    unit-next q p b =
+        let group : ℕ → ℕ = unitGroup (c .identity) (c .blocks) m in
+        let C : ℕ = c .identity in
+        let i : ℕ = 2 * (n % 2) in
+        let one = place-at c group (2 * n) (n / 2) i (omega arith) (omega arith) ∙ ap (λ (y : ℕ). quadPlace C y i) (sym q) in
+        let two = place-at c group (2 * n + 1) (n / 2) (i + 1) (omega arith) (omega arith) ∙ ap (λ (y : ℕ). quadPlace C y (i + 1)) (sym q) in
+        let u : 2 * n / 4 ≡ n / 2 = omega arith in
+        let v : (2 * n + 1) / 4 ≡ n / 2 = omega arith in
+        record {
+          most = omega arith;
+          compared =
+              rw b
+              (pairs.pair-more (c .ports) (placesOf c) (byQuad m) (λ (i : ℕ). getD sums i nil) (some-places c (ok .cell)) (phich-listed c (ok .cell) m (ok .unit)) n (omega arith) ((n / 2 + m) % 2) _ _
+              (getD sums (2 * n) nil) (getD sums (2 * n + 1) nil) (ap (λ (y : ℕ). (y + m) % 2) u) (ap (λ (y : ℕ). (y + m) % 2) v) one two refl refl (t .compared) p);
+        }
+
+  pub unit-finish : {n : ℕ} {seen : Seen} → UnitTurn c m sums n g seen → 6 ≤ n → Compared (phichSends c m) (unitSent c m sums) g seen
+  unfolding phichSends unitSent
+  unit-finish {n = n} t last =
+      let e : 2 * n ≡ 12 = omega (arith, t .most, last) in
+      pairs.finish (c .ports) (placesOf c) (byQuad m) (λ (i : ℕ). getD sums i nil) (some-places c (ok .cell)) (phich-listed c (ok .cell) m (ok .unit)) (rw e at (t .compared))

@@ -1,0 +1,80 @@
+-- `signals_compare::compare_values` meets its contract. The loop: the first m values are compared, and the pair has given their bits.
+-- Assumes nothing.
+use Prim.Native.Nat.{_-_}
+use native.Mathlib.Omega.{arith}
+use Rattle.signals_compare.proofs.Turns.{ValuesSeen, values-first, values-turn, values-last, few-both}
+use Rattle.signals_compare.proofs.compare_values.Statement.{statement}
+use Rattle.signals_compare.proofs.compare_values.Tie as tie
+
+abbrev Inv-loop : tie.InvT-loop
+Inv-loop n first grid seen₀ pair₀ m₀ seen pair m = ValuesSeen pair₀ n first grid pair m seen
+
+abbrev μ-loop : tie.MeasureT-loop
+μ-loop n first grid seen₀ pair₀ m₀ seen pair m = n - m
+
+loop-holds : tie.Need-loop-holds Inv-loop μ-loop
+loop-holds c = values-first (c .before .args .r) (c .before .args .n) (c .before .args .first) (c .before .args .grid .now)
+
+sub-at-once : tie.Need-sub-at-once Inv-loop μ-loop
+sub-at-once c = omega arith
+
+at-once-requires : tie.Need-at-once-requires Inv-loop μ-loop
+at-once-requires c κs = omega arith
+
+mul-bits : tie.Need-mul-bits Inv-loop μ-loop
+mul-bits c = omega (arith, c .at-once .ensures)
+
+cast-bits : tie.Need-cast-bits Inv-loop μ-loop
+cast-bits c = omega (arith, c .at-once .ensures)
+
+word-requires : tie.Need-word-requires Inv-loop μ-loop
+word-requires c κs = (omega (arith, c .at-once .ensures), omega (arith, c .at-once .ensures))
+
+mul-compare-word : tie.Need-mul-compare-word Inv-loop μ-loop
+mul-compare-word c = omega arith
+
+add-compare-word : tie.Need-add-compare-word Inv-loop μ-loop
+add-compare-word c = omega arith
+
+compare-word-requires : tie.Need-compare-word-requires Inv-loop μ-loop
+compare-word-requires c κs = (c .before .at-once .ensures .1, omega (arith, c .before .at-once .ensures), c .before .before .before .before .before .pre .1)
+
+both-requires : tie.Need-both-requires Inv-loop μ-loop
+both-requires c κs = few-both (c .before .before .before .before .before .before .pre .1) (c .before .before .before .before .loop .inv .found) (c .compare-word .ensures)
+
+advance-requires : tie.Need-advance-requires Inv-loop μ-loop
+advance-requires c κs = (omega (arith, c .before .before .before .at-once .ensures), omega (arith, c .before .before .before .at-once .ensures))
+
+add-m : tie.Need-add-m Inv-loop μ-loop
+add-m c = omega (arith, c .before .before .before .before .at-once .ensures)
+
+loop-less : tie.Need-loop-less Inv-loop μ-loop
+loop-less c = omega (arith, c .before .before .before .before .at-once .ensures)
+
+loop-again : tie.Need-loop-again Inv-loop μ-loop
+loop-again c = values-turn (c .before .before .before .before .before .before .before .before .args .r) (c .before .before .before .before .before .before .before .before .args .n) (c .before .before .before .before .before .before .before .before .args .first) (c .before .before .before .before .before .before .loop .m) (c .before .before .before .before .at-once .result) (c .before .before .before .word .result) (omega (arith, c .before .before .before .before .at-once .ensures)) (c .before .before .before .before .before .before .loop .inv) (c .before .before .before .word .ensures) (c .before .before .compare-word .ensures) (c .before .both .ensures) (c .advance .ensures)
+
+returns : tie.Need-returns Inv-loop μ-loop
+returns c = values-last (c .before .before .before .args .r) (c .before .before .before .args .n) (c .before .before .before .args .first) (c .before .loop .m) (c .before .loop .inv) (omega arith)
+
+pub compare-values-spec : {M : Type 1} → statement M
+compare-values-spec =
+    tie.close
+    (tie.spec
+    Inv-loop
+    μ-loop
+    loop-holds
+    sub-at-once
+    at-once-requires
+    mul-bits
+    cast-bits
+    word-requires
+    mul-compare-word
+    add-compare-word
+    compare-word-requires
+    both-requires
+    advance-requires
+    add-m
+    loop-less
+    loop-again
+    returns)
