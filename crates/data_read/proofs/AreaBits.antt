@@ -26,7 +26,8 @@ use Rattle.recovery.specs.Recovery.{wordOf, symbolIn, dataBit, pbchBit, userBit
 use Rattle.recovery.proofs.Channels.{pbch-length}
 use Rattle.data.specs.Areas.{areaAt, pbchArea, userArea}
 use Rattle.data.proofs.AreaOwners.{pbch-place, user-place}
-use Rattle.data_read.specs.Reading.{areaPlace, areaCount, areaSymbol, areaBit}
+use Rattle.data_compare.specs.Symbols.{areaPlace, areaCount, areaSymbol}
+use Rattle.data_read.specs.Reading.{areaBit}
 
 module _ (w : List ℕ) (p : Plan) (ok : checkOf w ≡ accepted p) where
   pub pbch-bits :

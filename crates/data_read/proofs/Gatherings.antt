@@ -1,200 +1,248 @@
--- The walk that gathers an area's bits: one place, a stretch without places, the start and the end. Assumes what reading needs.
+-- The walk that gathers an area's bits: where it starts, one place of the area, and places that are not the area's. Assumes what reading needs.
 use Prim.Native.Nat.{ℕ, _+_, _-_, _*_, _/_, _%_, _^_, _≤_, _<_}
 use mathlib.Core.Path.{_≡_, refl, sym, ap, ap₂, _∙_}
 use mathlib.Core.Bool.{true, false, cond}
 use mathlib.Core.List.{List}
-use native.Mathlib.Nat.{mul-comm, mul-add, mul-one, mul-le-mul, mul-le-mul-left, zero-add}
-use native.Mathlib.Decide.{decLe}
+use native.Mathlib.Nat.{mul-le-mul, mul-le-mul-left, zero-mod}
+use native.Mathlib.Decide.{ℕ-discrete, decLe}
 use native.Mathlib.Omega.{arith}
-use lib.Bits.{bitXor}
 use lib.Dec.{eqb}
 use lib.ListN.{length, getD, set, length-set}
-use Rattle.base.proofs.Rows.{at-div, at-mod}
 use Rattle.base.specs.declared.Pair.{Pair}
 use Rattle.base.specs.Bytes.{pairOf}
-use Rattle.base.specs.Digits.{dig, dig-two}
-use Rattle.base.proofs.Tables.{set-more, filled}
+use Rattle.base.proofs.Tables.{set-more}
 use Rattle.gold.specs.declared.Registers.{Registers}
 use Rattle.gold.specs.Sequence.{binary}
-use Rattle.gold.specs.Steps.{after, outputOf, wordOf as sequenceWord}
-use Rattle.gold.proofs.Binary.{binary-none, binary-same}
+use Rattle.gold.specs.Steps.{after}
+use Rattle.gold.proofs.Binary.{binary-none, binary-split, binary-lt}
 use Rattle.gold.proofs.Laws.{after-none, after-after}
-use Rattle.modulation.specs.declared.Demapped.{Demapped}
-use Rattle.modulation.specs.declared.Demapped.the-variants.{Word, NoLevel}
+use Rattle.modulation.specs.Symbols.{Order}
 use Rattle.modulation.specs.Demapping.{demapOf}
-use Rattle.modulation.proofs.Symbols.{demap-only}
-use Rattle.codeword.specs.Codewords.{scrambled}
-use Rattle.codeword.specs.Streams.{outputs}
-use Rattle.codeword.proofs.Laws.{outputs-lt, word-scrambled}
+use Rattle.modulation.specs.Marks.{isSymbol}
 use Rattle.precoding.specs.Places.{ownPort}
 use Rattle.payload.specs.Sections.{sectionBytes}
 use Rattle.places.specs.Places.{placesOf}
-use Rattle.places.proofs.Counts.{cnt-lt, cnt-most, nth-of}
 use Rattle.grid.specs.Elements.{elementIn}
-use Rattle.recovery.specs.Recovery.{wordOf, sectionOf}
+use Rattle.recovery.specs.Recovery.{wordOf}
 use Rattle.data.specs.declared.Area.{Area}
-use Rattle.data.specs.Areas.{areaAt, areaIndex, AreaIn}
+use Rattle.data.specs.Areas.{areaAt, areaIndex}
 use Rattle.data.proofs.Walking.{index-more, index-same, index-none, index-most}
+use Rattle.data_compare.specs.Symbols.{areaPlace, areaCount, areaSymbol}
+use Rattle.data_compare.proofs.AreaSymbols.{place-back, index-below, count-most}
 use Rattle.data_read.specs.declared.Gather.{Gather}
-use Rattle.data_read.specs.Reading.{areaPlace, areaCount, areaSymbol, areaBit}
-use Rattle.data_read.specs.Gathering.{joined, PushIn, Pushed, FlushIn, Flushed, Gathered, Begun, Goes}
-use Rattle.data_read.proofs.Packing.{power-some, digits, joined-is, byte-high, byte-low, held-small, upTo, whole-byte, last-byte}
+use Rattle.data_read.specs.Reading.{areaBit, SectionIn}
+use Rattle.data_read.specs.Gathering.{sentBit, bitsAt, withThree, ownElement, PushIn, Pushed, PlaceIn, Placed, Gathered, Begun, Goes}
+use Rattle.data_read.proofs.Packing.{byte-first, byte-second, byte-third}
+use Rattle.data_read.proofs.Sent.{bit-two, sent-two, pair-at, more-bits, sent-pair, taken-off, pair-fits}
 
--- ---- a symbol's bits
-bit-two : (a : Area) (q : ℕ) (g : List ℕ) (r : Registers) (i : ℕ) → areaBit a q g r i < 2
-unfolding areaBit
-bit-two a q g r i = omega arith
-
-word-lt : (q : ℕ) (p : Pair) → wordOf (demapOf q p) < 2 ^ q
-word-lt q p = go (demapOf q p) refl
-  where
-    go : (d : Demapped) → demapOf q p ≡ d → wordOf d < 2 ^ q
-    go (Word v) e = demap-only q p v e .1
-    go NoLevel e = power-some q
-
-abbrev raw : Area → ℕ → List ℕ → ℕ → ℕ
-raw a q g i = dig (wordOf (demapOf q (areaSymbol a g (i / q)))) (q - 1 - i % q)
-
-raw-word : (a : Area) (q : ℕ) (g : List ℕ) (j : ℕ) → binary (raw a q g) (q * j) q ≡ wordOf (demapOf q (areaSymbol a g j))
-unfolding dig
-raw-word a q g j =
-    digits (raw a q g) (q * j) (wordOf (demapOf q (areaSymbol a g j))) q (word-lt q (areaSymbol a g j))
-    (λ i l.
-    ap₂ (λ (x y : ℕ). wordOf (demapOf q (areaSymbol a g x)) / 2 ^ (q - 1 - y) % 2)
-    (ap (λ (z : ℕ). (z + i) / q) (mul-comm q j) ∙ at-div j q i l)
-    (ap (λ (z : ℕ). (z + i) % q) (mul-comm q j) ∙ at-mod j q i l))
-
-sequence-word : (r : Registers) (n k : ℕ) → sequenceWord (after r n) k ≡ binary (outputs r) n k
-unfolding sequenceWord outputs
-sequence-word r n k =
-    binary-same (outputs (after r n)) (outputs r) 0 n k
-    (λ i less. ap (outputs (after r n)) (zero-add i) ∙ ap outputOf (after-after r n i))
-
-area-scrambled : (a : Area) (q : ℕ) (g : List ℕ) (r : Registers) (i : ℕ) → scrambled (raw a q g) (outputs r) i ≡ areaBit a q g r i
-unfolding areaBit scrambled
-area-scrambled a q g r i = refl
-
-symbol-word :
-    (a : Area) (q : ℕ) (g : List ℕ) (r : Registers) (j v : ℕ) (p : Registers) → v ≡ wordOf (demapOf q (areaSymbol a g j)) → p ≡ after r (q * j)
-    → bitXor v (sequenceWord p q) ≡ binary (areaBit a q g r) (q * j) q
-symbol-word a q g r j v p e d =
-    ap₂ bitXor (e ∙ sym (raw-word a q g j)) (ap (λ (x : Registers). sequenceWord x q) d ∙ sequence-word r (q * j) q)
-    ∙ sym (word-scrambled (raw a q g) (outputs r) (λ i. dig-two (wordOf (demapOf q (areaSymbol a g (i / q)))) (q - 1 - i % q)) (outputs-lt r) (q * j) q)
-    ∙ binary-same (scrambled (raw a q g) (outputs r)) (areaBit a q g r) (q * j) (q * j) q (λ i l. area-scrambled a q g r (q * j + i))
-
--- ---- the symbol of a place
-own-turn : (P x y : ℕ) → y ≡ x % 2 → ownPort P y ≡ ownPort P x
+-- ---- the symbols of a pair
+own-turn : (P x y : ℕ) → y ≡ x → ownPort P (y % 2) ≡ ownPort P x
 unfolding ownPort
-own-turn P x y e = let d : y % 2 ≡ x % 2 = omega arith in ap (λ (z : ℕ). cond (eqb P 4) z 0) d
+own-turn P x y e = let d : y % 2 % 2 ≡ x % 2 = omega arith in ap (λ (z : ℕ). cond (eqb P 4) z 0) d
 
-pub symbol-here :
-    {a : Area} {q t : ℕ} {g : List ℕ} {r : Registers} {w : Gather} {part : List ℕ} → Gathered a q g r t w part
-    → areaAt a t ≡ true → t < placesOf (a .cell) → (port turn : ℕ) → turn ≡ w .j / 2 % 2 → port ≡ ownPort (a .cell .ports) turn
-    → pairOf (elementIn g (port * placesOf (a .cell) + t)) ≡ areaSymbol a g (w .j)
-unfolding areaSymbol areaPlace areaIndex
-symbol-here {a} {q} {t} {g} {r} {w} k is l port turn e d =
-    ap₂ (λ (x y : ℕ). pairOf (elementIn g (x * placesOf (a .cell) + y)))
-    (d ∙ own-turn (a .cell .ports) (w .j / 2) turn e)
-    (sym (nth-of (areaAt a) (placesOf (a .cell)) t is l) ∙ ap (λ (x : ℕ). areaPlace a x) (sym (k .index)))
+symbol-at :
+    (a : Area) (g : List ℕ) (j i t : ℕ) → j / 2 ≡ i / 2 → t ≡ areaPlace a i
+    → pairOf (elementIn g (ownElement (a .cell .ports) (placesOf (a .cell)) j t)) ≡ areaSymbol a g i
+unfolding areaSymbol
+symbol-at a g j i t e d =
+    ap₂ (λ (x y : ℕ). pairOf (elementIn g (x * placesOf (a .cell) + y))) (own-turn (a .cell .ports) (i / 2) (j / 2) e) d
 
--- ---- one place
-more-bits : (q j n : ℕ) → n ≡ j + 1 → q * n ≡ q * j + q
-more-bits q j n e = ap (λ (x : ℕ). q * x) e ∙ mul-add q j 1 ∙ ap (λ (x : ℕ). q * j + x) (mul-one q)
+-- ---- three bytes in a list
+three-length : (v at : ℕ) (part : List ℕ) → length (withThree v at part) ≡ length part
+three-length v at part =
+    let x : List ℕ = set part at (v / 65536 % 256) in
+    let y : List ℕ = set x (at + 1) (v / 256 % 256) in
+    length-set y (at + 2) (v % 256) ∙ length-set x (at + 1) (v / 256 % 256) ∙ length-set part at (v / 65536 % 256)
 
-count-fits : (a : Area) → areaCount a ≤ placesOf (a .cell)
-unfolding areaCount
-count-fits a = cnt-most (areaAt a) (placesOf (a .cell))
+three-bytes :
+    (x : ℕ → ℕ) → ((i : ℕ) → x i < 2) → (part : List ℕ) (at v : ℕ) → v ≡ binary x (8 * at) 24 → at + 2 < length part
+    → ((m : ℕ) → m < at → getD part m 0 ≡ binary x (8 * m) 8) → (m : ℕ) → m < at + 3 → getD (withThree v at part) m 0 ≡ binary x (8 * m) 8
+three-bytes x two part at v e room old m l =
+    let f : ℕ → ℕ = λ (i : ℕ). binary x (8 * i) 8 in
+    let one : List ℕ = set part at (v / 65536 % 256) in
+    let more : List ℕ = set one (at + 1) (v / 256 % 256) in
+    let a : length one ≡ length part = length-set part at (v / 65536 % 256) in
+    let b : length more ≡ length one = length-set one (at + 1) (v / 256 % 256) in
+    let c : 8 * at + 8 ≡ 8 * (at + 1) = omega arith in
+    let d : 8 * at + 16 ≡ 8 * (at + 2) = omega arith in
+    set-more 0 f more (at + 2) (v % 256) (omega arith) (byte-third x two (8 * at) v e ∙ ap (λ (z : ℕ). binary x z 8) d)
+    (λ j h. set-more 0 f one (at + 1) (v / 256 % 256) (omega arith) (byte-second x two (8 * at) v e ∙ ap (λ (z : ℕ). binary x z 8) c)
+    (set-more 0 f part at (v / 65536 % 256) (omega arith) (byte-first x two (8 * at) v e) old) j (omega arith))
+    m (omega arith)
 
-index-below : (a : Area) (t : ℕ) → areaAt a t ≡ true → t < placesOf (a .cell) → areaIndex a t < areaCount a
-unfolding areaIndex areaCount
-index-below a t is l = cnt-lt (areaAt a) t (placesOf (a .cell)) is l
+module _ {a : Area} {q t : ℕ} {g : List ℕ} {r : Registers} {w : Gather} {part : List ℕ} (k : Gathered a q g r t w part) where
+  abbrev T : ℕ
+  T = placesOf (a .cell)
 
-module _ {a : Area} {q t : ℕ} {g : List ℕ} {r : Registers} {w : Gather} {part : List ℕ} (k : Gathered a q g r t w part) (is : areaAt a t ≡ true) (in-t : t < placesOf (a .cell)) where
+  abbrev P : ℕ
+  P = a .cell .ports
+
   abbrev X : ℕ → ℕ
   X = areaBit a q g r
 
-  two : (i : ℕ) → areaBit a q g r i < 2
-  two = bit-two a q g r
+  abbrev Y : ℕ → ℕ
+  Y = sentBit a q g
 
-  has-room : w .at < length part
-  has-room =
-      let l : w .j + 1 ≤ areaCount a = omega (arith, k .index, index-below a t is in-t) in
-      let m : q * (w .j + 1) ≤ q * areaCount a = mul-le-mul-left q l in
-      let o : 2 ≤ q = k .area .order .1 in
-      omega (arith, k .taken, k .size, more-bits q (w .j) (w .j + 1) refl)
+  pub order : Order q
+  order = k .section .area .order
 
-  pub push-in : (v : ℕ) → PushIn q v w part
-  push-in v =
-      record {
-        order = k .area .order;
-        few = k .few;
-        small = rw (k .held) (held-small X two (8 * w .at) (w .got) (k .few));
-        room = has-room;
-        early =
-            let f : areaCount a ≤ 16800 = omega (arith, count-fits a, k .area .room .fits) in
-            let m : q * areaCount a ≤ 6 * 16800 = mul-le-mul (k .area .order .2) f in
-            omega (arith, has-room, k .size);
-        index = omega (arith, k .index, index-most a t, k .area .room .fits);
-      }
+  pub first-symbol : w .j % 2 ≡ 1 → pairOf (elementIn g (ownElement P T (w .j) (w .before))) ≡ areaSymbol a g (w .j - 1)
+  first-symbol o = let e : w .j / 2 ≡ (w .j - 1) / 2 = omega arith in symbol-at a g (w .j) (w .j - 1) (w .before) e (k .before o .0)
 
-  module _ (v : ℕ) (is-v : v ≡ wordOf (demapOf q (areaSymbol a g (w .j)))) {w′ : Gather} {part′ : List ℕ} (p : Pushed q v w part w′ part′) where
-    joined-bits : joined q v w ≡ binary X (8 * w .at) (w .got + q)
-    unfolding joined
-    joined-bits =
-        joined-is X two (8 * w .at) (w .got) q (w .word) (bitXor v (sequenceWord (w .r) q)) (k .area .order .2) (k .held)
-        (symbol-word a q g r (w .j) v (w .r) is-v (k .pair) ∙ ap (λ (z : ℕ). binary X z q) (sym (k .taken)))
+  pub small : w .word < 2 ^ w .got
+  small = rw (k .held) (binary-lt Y (sent-two a q g) (8 * w .at) (w .got))
 
-    on : q * w′ .j ≡ q * w .j + q
-    on = more-bits q (w .j) (w′ .j) (p .index)
+  pub bits-few : q * areaCount a ≤ 100800
+  bits-few =
+      let c : areaCount a ≤ 16800 = omega (arith, count-most a, k .section .area .room .fits) in
+      let m : q * areaCount a ≤ 6 * 16800 = mul-le-mul (order .2) c in
+      m
 
-    pair-on : w′ .r ≡ after r (q * w′ .j)
-    pair-on = p .pair ∙ ap (λ (z : Registers). after z q) (k .pair) ∙ after-after r (q * w .j) q ∙ ap (after r) (sym on)
+  -- ---- one place
+  module _ (is : areaAt a t ≡ true) (in-t : t < placesOf (a .cell)) where
+    here : t ≡ areaPlace a (w .j)
+    here = sym (ap (areaPlace a) (k .index) ∙ place-back a t is in-t)
 
-    index-on : w′ .j ≡ areaIndex a (t + 1)
-    index-on = p .index ∙ ap (λ (x : ℕ). x + 1) (k .index) ∙ sym (index-more a t is)
+    second-symbol : pairOf (elementIn g (ownElement P T (w .j) t)) ≡ areaSymbol a g (w .j)
+    second-symbol = symbol-at a g (w .j) (w .j) t refl here
 
-    held-case : w .got + q < 8 → Gathered a q g r (t + 1) w′ part′
-    held-case l =
-        let h = p .held l in
+    below : w .j + 1 ≤ areaCount a
+    below = omega (arith, k .index, index-below a t is in-t)
+
+    -- the bits up to the pair's end are some of the section's
+    pair-end : w .j % 2 ≡ 1 → 8 * w .at + w .got + 2 * q ≤ q * areaCount a
+    pair-end o =
+        let i : ℕ = w .j / 2 in
+        let l : 2 * i + 1 + 1 ≤ areaCount a = omega (arith, below) in
+        let m : q * (2 * i + 1 + 1) ≤ q * areaCount a = mul-le-mul-left q l in
+        let x : 2 * q * i ≡ q * (2 * i) = pair-at q i in
+        let y : q * (2 * i + 1) ≡ q * (2 * i) + q = more-bits q (2 * i) in
+        let z : q * (2 * i + 1 + 1) ≡ q * (2 * i + 1) + q = more-bits q (2 * i + 1) in
+        omega (arith, k .taken)
+
+    push-in : w .j % 2 ≡ 1 → (v : ℕ) → v < 2 ^ (2 * q) → PushIn (2 * q) v w part
+    push-in o v l =
         record {
-          area = k .area;
-          size = ap length (h .3) ∙ k .size;
-          index = index-on;
-          few = omega (arith, h .1);
-          taken = omega (arith, h .0, h .1, k .taken, on);
-          pair = pair-on;
-          held = h .2 ∙ joined-bits ∙ ap₂ (λ (x y : ℕ). binary X (8 * x) y) (sym (h .0)) (sym (h .1));
-          bytes = λ m s. ap (λ (z : List ℕ). getD z m 0) (h .3) ∙ k .bytes m (omega (arith, h .0));
+          few = pair-fits q (w .got) order (k .few) (k .whole) .0;
+          small = small;
+          value = l;
+          room = λ f. omega (arith, pair-end o, k .size);
+          early = omega (arith, pair-end o, bits-few);
+          index = omega (arith, k .index, index-most a t, k .section .area .room .fits);
         }
 
-    put-case : 8 ≤ w .got + q → Gathered a q g r (t + 1) w′ part′
-    put-case l =
-        let h = p .put l in
-        let rest : ℕ = w .got + q - 8 in
-        let e : w .got + q ≡ 8 + rest = omega arith in
-        let f : 8 * w .at + 8 ≡ 8 * w′ .at = omega (arith, h .0) in
+    -- what the place needs
+    pub placing : PlaceIn (a .cell .ports) (placesOf (a .cell)) q g t w part
+    placing =
         record {
-          area = k .area;
-          size = ap length (h .3) ∙ length-set part (w .at) _ ∙ k .size;
-          index = index-on;
-          few = omega (arith, h .1, k .few, k .area .order .2);
-          taken = omega (arith, h .0, h .1, k .taken, on);
-          pair = pair-on;
-          held =
-              h .2 ∙ ap (λ (z : ℕ). z % 2 ^ rest) joined-bits ∙ byte-low X two (8 * w .at) (w .got + q) rest e
-              ∙ ap₂ (λ (x y : ℕ). binary X x y) f (sym (h .1));
-          bytes = λ m s.
-              ap (λ (z : List ℕ). getD z m 0) (h .3)
-              ∙ set-more 0 (λ (x : ℕ). binary X (8 * x) 8) part (w .at) (joined q v w / 2 ^ rest % 256) has-room
-              (ap (λ (z : ℕ). z / 2 ^ rest % 256) joined-bits ∙ byte-high X two (8 * w .at) (w .got + q) rest e) (k .bytes) m (omega (arith, h .0));
+          room = k .section .area .room;
+          inside = in-t;
+          order = order;
+          index = omega (arith, k .index, index-most a t, k .section .area .room .fits);
+          last = λ o. k .before o .1;
+          first = λ o. ap (isSymbol q) (first-symbol o) ∙ k .section .known (w .j - 1) (omega (arith, below));
+          second = λ o. ap (isSymbol q) second-symbol ∙ k .section .known (w .j) (omega (arith, below));
+          push = push-in;
         }
 
-    pub pushed : Gathered a q g r (t + 1) w′ part′
-    pushed = pick (decLe 8 (w .got + q))
+    index-on : (j : ℕ) → j ≡ w .j + 1 → j ≡ areaIndex a (t + 1)
+    index-on j e = e ∙ ap (λ (x : ℕ). x + 1) (k .index) ∙ sym (index-more a t is)
+
+    -- at an even index
+    remembered : (w .j % 2 ≡ 1 → ⊥) → Gathered a q g r (t + 1) (record { r = w .r; at = w .at; word = w .word; got = w .got; j = w .j + 1; before = t }) part
+    remembered o =
+        let h : (w .j + 1) / 2 ≡ w .j / 2 = omega arith in
+        let e : w .j + 1 - 1 ≡ w .j = omega arith in
+        record {
+          section = k .section;
+          size = k .size;
+          index = index-on (w .j + 1) refl;
+          before = λ x. (here ∙ ap (areaPlace a) (sym e), in-t);
+          few = k .few;
+          whole = k .whole;
+          taken = k .taken ∙ ap (λ (x : ℕ). 2 * q * x) (sym h);
+          pair = k .pair;
+          held = k .held;
+          bytes = k .bytes;
+        }
+
+    -- at an odd one
+    module _ (o : w .j % 2 ≡ 1) where
+      abbrev v : ℕ
+      v = bitsAt q g (ownElement (a .cell .ports) (placesOf (a .cell)) (w .j) (w .before)) * 2 ^ q + bitsAt q g (ownElement (a .cell .ports) (placesOf (a .cell)) (w .j) t)
+
+      pair-bits : v ≡ binary Y (8 * w .at + w .got) (2 * q)
+      unfolding bitsAt
+      pair-bits =
+          let e : w .j - 1 ≡ 2 * (w .j / 2) = omega arith in
+          let d : w .j ≡ 2 * (w .j / 2) + 1 = omega arith in
+          ap₂ (λ (x y : Pair). wordOf (demapOf q x) * 2 ^ q + wordOf (demapOf q y)) (first-symbol o ∙ ap (areaSymbol a g) e) (second-symbol ∙ ap (areaSymbol a g) d)
+          ∙ sym (sent-pair a q g (w .j / 2))
+          ∙ ap (λ (x : ℕ). binary Y x (2 * q)) (sym (k .taken))
+
+      joined-bits : w .word * 2 ^ (2 * q) + v ≡ binary Y (8 * w .at) (w .got + 2 * q)
+      joined-bits = ap₂ (λ (x y : ℕ). x * 2 ^ (2 * q) + y) (k .held) pair-bits ∙ sym (binary-split Y (8 * w .at) (w .got) (2 * q))
+
+      module _ {w′ : Gather} {part′ : List ℕ} (p : Pushed (2 * q) v w part w′ part′) where
+        odd-next : w′ .j % 2 ≡ 1 → ⊥
+        odd-next e = omega (arith, p .index)
+
+        next-pair : 8 * w .at + w .got + 2 * q ≡ 2 * q * (w′ .j / 2)
+        next-pair =
+            let h : w .j / 2 + 1 ≡ w′ .j / 2 = omega (arith, p .index) in
+            ap (λ (x : ℕ). x + 2 * q) (k .taken) ∙ sym (more-bits (2 * q) (w .j / 2)) ∙ ap (λ (x : ℕ). 2 * q * x) h
+
+        held-case : w .got + 2 * q < 24 → Gathered a q g r (t + 1) w′ part′
+        held-case l =
+            let h = p .held l in
+            record {
+              section = k .section;
+              size = ap length (h .4) ∙ k .size;
+              index = index-on (w′ .j) (p .index);
+              before = λ e. absurd (odd-next e);
+              few = omega (arith, h .2);
+              whole = ap (λ (x : ℕ). x % (2 * q)) (h .2) ∙ pair-fits q (w .got) order (k .few) (k .whole) .1;
+              taken = omega (arith, h .1, h .2, next-pair);
+              pair = h .0 ∙ k .pair ∙ ap (λ (x : ℕ). after r (8 * x)) (sym (h .1));
+              held = h .3 ∙ joined-bits ∙ ap₂ (λ (x y : ℕ). binary Y (8 * x) y) (sym (h .1)) (sym (h .2));
+              bytes = λ m s. ap (λ (z : List ℕ). getD z m 0) (h .4) ∙ k .bytes m (omega (arith, h .1));
+            }
+
+        put-case : 24 ≤ w .got + 2 * q → Gathered a q g r (t + 1) w′ part′
+        put-case l =
+            let h = p .put l in
+            let f : 8 * w .at + 24 ≡ 8 * w′ .at = omega (arith, h .1) in
+            let e : w .got + 2 * q ≡ 24 = omega (arith, pair-fits q (w .got) order (k .few) (k .whole) .0) in
+            record {
+              section = k .section;
+              size = ap length (h .4) ∙ three-length _ (w .at) part ∙ k .size;
+              index = index-on (w′ .j) (p .index);
+              before = λ e. absurd (odd-next e);
+              few = omega (arith, h .2);
+              whole = ap (λ (x : ℕ). x % (2 * q)) (h .2) ∙ zero-mod (2 * q);
+              taken = omega (arith, h .1, h .2, next-pair);
+              pair = h .0 ∙ ap (λ (x : Registers). after x 24) (k .pair) ∙ after-after r (8 * w .at) 24 ∙ ap (after r) f;
+              held = h .3 ∙ sym (binary-none Y (8 * w′ .at)) ∙ ap (binary Y (8 * w′ .at)) (sym (h .2));
+              bytes = λ m s.
+                  ap (λ (z : List ℕ). getD z m 0) (h .4)
+                  ∙ three-bytes X (bit-two a q g r) part (w .at) _
+                  (taken-off a q g r (8 * w .at) 24 (w .word * 2 ^ (2 * q) + v) (w .r) (joined-bits ∙ ap (binary Y (8 * w .at)) e) (k .pair))
+                  (omega (arith, pair-end o, k .size)) (k .bytes) m (omega (arith, h .1));
+            }
+
+        pushed : Gathered a q g r (t + 1) w′ part′
+        pushed = pick (decLe 24 (w .got + 2 * q))
+          where
+            pick : Dec (24 ≤ w .got + 2 * q) → Gathered a q g r (t + 1) w′ part′
+            pick (yes l) = put-case l
+            pick (no l) = held-case (omega arith)
+
+    pub placed : {w′ : Gather} {part′ : List ℕ} → Placed (a .cell .ports) (placesOf (a .cell)) q g t w part w′ part′ → Gathered a q g r (t + 1) w′ part′
+    placed {w′} {part′} p = pick (ℕ-discrete (w .j % 2) 1)
       where
-        pick : Dec (8 ≤ w .got + q) → Gathered a q g r (t + 1) w′ part′
-        pick (yes l) = put-case l
-        pick (no l) = held-case (omega arith)
+        pick : Dec (w .j % 2 ≡ 1) → Gathered a q g r (t + 1) w′ part′
+        pick (yes o) = pushed o (p .odd o)
+        pick (no o) = rw (p .even o .0, p .even o .1) (remembered o)
 
 -- ---- the walk
 module _ {a : Area} {q : ℕ} {g : List ℕ} {w : Gather} {part : List ℕ} where
@@ -203,10 +251,12 @@ module _ {a : Area} {q : ℕ} {g : List ℕ} {w : Gather} {part : List ℕ} wher
       record {
         goes = λ r k.
             record {
-              area = k .area;
+              section = k .section;
               size = k .size;
               index = k .index ∙ sym (index-same a t u h free);
+              before = k .before;
               few = k .few;
+              whole = k .whole;
               taken = k .taken;
               pair = k .pair;
               held = k .held;
@@ -216,6 +266,12 @@ module _ {a : Area} {q : ℕ} {g : List ℕ} {w : Gather} {part : List ℕ} wher
 
   pub skip-one : (t : ℕ) → areaAt a t ≡ false → Goes a q g t (t + 1) w part w part
   skip-one t e = skip t (t + 1) (omega arith) (λ x l m. let i : x ≡ t = omega arith in ap (areaAt a) i ∙ e)
+
+  -- place t is the area's
+  pub one :
+      {w′ : Gather} {part′ : List ℕ} (t : ℕ) → areaAt a t ≡ true → t < placesOf (a .cell)
+      → Placed (a .cell .ports) (placesOf (a .cell)) q g t w part w′ part′ → Goes a q g t (t + 1) w part w′ part′
+  one t is l p = record { goes = λ r k. placed k is l p }
 
   pub stay : (t : ℕ) → Goes a q g t t w part w part
   stay t = record { goes = λ r k. k }
@@ -233,74 +289,24 @@ further m n = record { goes = λ r k. n .goes r (m .goes r k) }
 
 -- the start: nothing is read
 pub begin :
-    (a : Area) (q : ℕ) (g : List ℕ) (r : Registers) (part : List ℕ) → AreaIn a q 0 g → length part ≡ sectionBytes (q * areaCount a)
-    → Gathered a q g r 0 (record { r = r; at = 0; word = 0; got = 0; j = 0 }) part
+    (a : Area) (q : ℕ) (g : List ℕ) (r : Registers) (part : List ℕ) → SectionIn a q g → length part ≡ sectionBytes (q * areaCount a)
+    → Gathered a q g r 0 (record { r = r; at = 0; word = 0; got = 0; j = 0; before = 0 }) part
 begin a q g r part i e =
     record {
-      area = i;
+      section = i;
       size = e;
       index = sym (index-none a);
+      before = λ o. absurd (odd o);
       few = omega arith;
+      whole = zero-mod (2 * q);
       taken = omega arith;
-      pair = sym (after-none r) ∙ ap (after r) z;
-      held = sym (binary-none (areaBit a q g r) (8 * 0));
+      pair = sym (after-none r);
+      held = sym (binary-none (sentBit a q g) (8 * 0));
       bytes = λ m l. absurd (none m l);
     }
   where
-    z : 0 ≡ q * 0
-    z = omega arith
+    odd : 0 % 2 ≡ 1 → ⊥
+    odd o = omega arith
 
     none : (m : ℕ) → m < 0 → ⊥
     none m l = omega arith
-
--- ---- the end
-module _ {a : Area} {q t : ℕ} {g : List ℕ} {r : Registers} {w : Gather} {part : List ℕ} (k : Gathered a q g r t w part) (inside : t ≤ placesOf (a .cell)) (free : (x : ℕ) → t ≤ x → areaAt a x ≡ false) where
-  all-read : w .j ≡ areaCount a
-  unfolding areaIndex areaCount
-  all-read = k .index ∙ sym (index-same a t (placesOf (a .cell)) inside (λ x l m. free x l))
-
-  total : 8 * w .at + w .got ≡ q * areaCount a
-  total = k .taken ∙ ap (λ (x : ℕ). q * x) all-read
-
-  pub flush-in : FlushIn w part
-  flush-in =
-      record {
-        few = k .few;
-        small = rw (k .held) (held-small (areaBit a q g r) (bit-two a q g r) (8 * w .at) (w .got) (k .few));
-        room = λ l. omega (arith, total, k .size);
-      }
-
-  module _ {part′ : List ℕ} (f : Flushed w part part′) where
-    abbrev n : ℕ
-    n = q * areaCount a
-
-    abbrev byte : ℕ → ℕ
-    byte m = binary (upTo (areaBit a q g r) (q * areaCount a)) (8 * m) 8
-
-    whole : (m : ℕ) → m < w .at → getD part m 0 ≡ byte m
-    whole m l = k .bytes m l ∙ whole-byte (areaBit a q g r) (bit-two a q g r) n (8 * m) (omega (arith, total))
-
-    none-left : w .got ≡ 0 → part′ ≡ sectionOf (areaBit a q g r) n
-    unfolding sectionOf
-    none-left z =
-        let e = f .none z in
-        e ∙ filled 0 byte (sectionBytes n) part (k .size) (λ m l. whole m (omega (arith, total)))
-
-    some-left : 0 < w .got → part′ ≡ sectionOf (areaBit a q g r) n
-    unfolding sectionOf
-    some-left z =
-        let e = f .last z in
-        let v : ℕ = w .word * 2 ^ (8 - w .got) % 256 in
-        e
-        ∙ filled 0 byte (sectionBytes n) (set part (w .at) v) (length-set part (w .at) v ∙ k .size)
-        (λ m l.
-        set-more 0 byte part (w .at) v (flush-in .room z)
-        (ap (λ (x : ℕ). x * 2 ^ (8 - w .got) % 256) (k .held) ∙ last-byte (areaBit a q g r) (bit-two a q g r) n (8 * w .at) (w .got) (k .few) (sym total))
-        whole m (omega (arith, total, k .few)))
-
-    pub section-read : part′ ≡ sectionOf (areaBit a q g r) (q * areaCount a)
-    section-read = pick (decLe 1 (w .got))
-      where
-        pick : Dec (1 ≤ w .got) → part′ ≡ sectionOf (areaBit a q g r) (q * areaCount a)
-        pick (yes l) = some-left l
-        pick (no l) = none-left (omega arith)

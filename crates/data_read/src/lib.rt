@@ -1,142 +1,175 @@
-// The bits of PBCH and of the users, read from a grid (TS 36.211 6.6, 6.3): each channel's section of the payload.
-use base::Pair;
+// The bits of PBCH and of the users, read from a grid (TS 36.211 6.6, 6.3): each channel's section of the payload, symbols two by two
+// and 24 bits at a time.
 use data::Area;
 use data::Row;
 use gold::Registers;
-use modulation::Demapped;
 ghost use mathlib.Core.Path.{_≡_};
+ghost use mathlib.Core.Bool.{false};
 ghost use Prim.Native.Nat.{ℕ, _+_, _*_, _≤_, _<_, _^_};
 ghost use lib.ListN.{length};
-ghost use Rattle.base.specs.Bytes.{pairOf};
 ghost use Rattle.gold.specs.Steps.{after};
-ghost use Rattle.modulation.specs.Symbols.{Order};
-ghost use Rattle.modulation.specs.Demapping.{demapOf};
 ghost use Rattle.layout.specs.Owners.{carriers};
 ghost use Rattle.payload.specs.Sections.{sectionBytes};
-ghost use Rattle.grid.specs.Elements.{elementIn};
-ghost use Rattle.recovery.specs.Recovery.{wordOf, sectionOf};
-ghost use Rattle.data.specs.Areas.{areaAt, AreaIn};
-ghost use Rattle.data_read.specs.Reading.{areaBit, areaCount};
-ghost use Rattle.data_read.specs.Gathering.{PushIn, Pushed, FlushIn, Flushed, Begun, Goes, OwnIn};
+ghost use Rattle.recovery.specs.Recovery.{sectionOf};
+ghost use Rattle.data.specs.Rows.{centreOut};
+ghost use Rattle.data_compare.specs.Symbols.{areaCount};
+ghost use Rattle.data_read.specs.Reading.{areaBit, SectionIn};
+ghost use Rattle.data_read.specs.Gathering.{bitsAt, SymbolIn, withThree, PushIn, Pushed, PlaceIn, Placed, StepIn, Stepped, LastIn, Lasted, FlushIn, Flushed, Begun, Goes, HalfIn};
 
-// A walk that reads a channel's places: the register pair, the byte that is due, the bits that are read and not put, `got` of them,
-// and the index of the next place.
+// A walk that reads a channel's places: the register pair, the byte that is due, the scrambled bits that are read and not put, `got`
+// of them, the index of the next place, and the place before it.
 struct Gather {
     r: Registers,
     at: usize,
     word: u32,
     got: u32,
     j: usize,
+    before: usize,
 }
 
 // 2 to the power n.
 fn power(n: u32) -> u32
-    requires { ⌜ n ≤ 8 ⌝ }
+    requires { ⌜ n ≤ 24 ⌝ }
     ensures { λ p. ⌜ p ≡ 2 ^ n ⌝ }
 {
-    256 >> (8 - n)
+    16777216 >> (24 - n)
 }
 
-// The levels of an element.
-fn pair_at(grid: &[u8], e: usize) -> Pair
-    requires { ⌜ 3 * e + 2 < length (now grid) ⌝ }
-    ensures { λ d. ⌜ d ≡ pairOf (elementIn (now (grid .entry)) e) ⌝ }
+// The bits of the symbol at an element. Callers know that some bits have it.
+fn bits_at(grid: &[u8], e: usize, q: u32) -> u32
+    requires { ⌜ SymbolIn q (now grid) e ⌝ }
+    ensures { λ v. ⌜ (v ≡ bitsAt q (now (grid .entry)) e) × (v < 2 ^ q) ⌝ }
 {
     let el = grid::get(grid, e);
-    Pair {
-        re: base::signed(el.i),
-        im: base::signed(el.j),
-    }
+    modulation::bits(q, el.i, el.j)
 }
 
-// The bits of a symbol; levels that no bits have count as zeros.
-fn bits_of(q: u32, d: Pair) -> u32
-    requires { ⌜ Order q ⌝ }
-    ensures { λ v. ⌜ v ≡ wordOf (demapOf q d) ⌝ }
+// 24 bits as three bytes.
+fn put(v: u32, at: usize, part: &mut [u8])
+    requires { ⌜ (at ≤ 100000) × (at + 2 < length (now part)) ⌝ }
+    ensures { λ _. ⌜ now (part .exit) ≡ withThree v at (now (part .entry)) ⌝ }
 {
-    match modulation::word(q, d) {
-        Demapped::Word(v) => v,
-        Demapped::NoLevel => 0,
-    }
+    part[at] = (v / 65536 % 256) as u8;
+    part[at + 1] = (v / 256 % 256) as u8;
+    part[at + 2] = (v % 256) as u8;
 }
 
-// Whether subcarrier k of a row, inside the area's half blocks, is the area's.
-fn own_at(a: Area, row: Row, k: usize) -> bool
-    requires { ⌜ OwnIn a row k ⌝ }
-    ensures { λ r. ⌜ r ≡ areaAt a (row .base + k) ⌝ }
-{
-    let blocks = base::wide(a.cell.blocks);
-    if data::centre_out(blocks, row.out, k / 6) {
-        return false;
-    }
-    (row.mask >> (k % 6)) % 2 == 1
-}
-
-// A symbol's q bits after those that are held; eight make a byte.
-fn push(w: Gather, q: u32, v: u32, part: &mut [u8]) -> Gather
-    requires { ⌜ PushIn q v w (now part) ⌝ }
-    ensures { λ r. ⌜ Pushed q v w (now (part .entry)) r (now (part .exit)) ⌝ }
+// n bits of two symbols after those that are held, at the odd place t; 24 make three bytes.
+fn push(w: Gather, n: u32, v: u32, t: usize, part: &mut [u8]) -> Gather
+    requires { ⌜ PushIn n v w (now part) ⌝ }
+    ensures { λ r. ⌜ Pushed n v w (now (part .entry)) r (now (part .exit)) ⌝ }
 {
     let r = w.r;
     let at = w.at;
-    let bits = (v ^ gold::word(r, q)) % 64;
-    let word = w.word * power(q) + bits;
-    let got = w.got + q;
+    let word = w.word * power(n) + v;
+    let got = w.got + n;
     let j = w.j + 1;
-    let next = gold::advance(r, q);
-    if got < 8 {
+    if got < 24 {
         return Gather {
-            r: next,
+            r: r,
             at: at,
             word: word,
             got: got,
             j: j,
+            before: t,
         };
     }
-    let rest = got - 8;
-    part[at] = ((word >> rest) % 256) as u8;
+    put(word ^ gold::word(r, 24), at, part);
     Gather {
-        r: next,
-        at: at + 1,
-        word: word % power(rest),
-        got: rest,
+        r: gold::advance(r, 24),
+        at: at + 3,
+        word: 0,
+        got: 0,
         j: j,
+        before: t,
     }
 }
 
-// The bits that are still held, as the last byte.
-fn flush(w: Gather, part: &mut [u8])
-    requires { ⌜ FlushIn w (now part) ⌝ }
-    ensures { λ _. ⌜ Flushed w (now (part .entry)) (now (part .exit)) ⌝ }
-{
-    let got = w.got;
-    if 0 < got {
-        let at = w.at;
-        part[at] = (w.word * power(8 - got) % 256) as u8;
-    }
-}
-
-// Subcarrier k of a row, if it is the area's.
-fn read_place(
+// The next place of a channel, t: with the place before it when it ends a pair.
+fn place(
     w: Gather,
+    ports: u8,
+    places: usize,
+    q: u32,
+    grid: &[u8],
+    part: &mut [u8],
+    t: usize,
+) -> Gather
+    requires { ⌜ PlaceIn ports places q (now grid) t w (now part) ⌝ }
+    ensures { λ r. ⌜ Placed ports places q (now (grid .entry)) t w (now (part .entry)) r (now (part .exit)) ⌝ }
+{
+    let r = w.r;
+    if w.j % 2 == 0 {
+        return Gather {
+            r: r,
+            at: w.at,
+            word: w.word,
+            got: w.got,
+            j: w.j + 1,
+            before: t,
+        };
+    }
+    let turn = (w.j / 2 % 2) as u8;
+    let own = base::wide(precoding::own_port(ports, turn)) * places;
+    let first = bits_at(grid, own + w.before, q);
+    let second = bits_at(grid, own + t, q);
+    push(w, 2 * q, first * power(q) + second, t, part)
+}
+
+// Place t, if it is the channel's.
+fn place_if(
+    own: bool,
+    w: Gather,
+    ports: u8,
+    places: usize,
+    q: u32,
+    grid: &[u8],
+    part: &mut [u8],
+    t: usize,
+) -> Gather
+    requires { ⌜ StepIn own ports places q (now grid) t w (now part) ⌝ }
+    ensures { λ r. ⌜ Stepped own ports places q (now (grid .entry)) t w (now (part .entry)) r (now (part .exit)) ⌝ }
+{
+    if own {
+        return place(w, ports, places, q, grid, part, t);
+    }
+    w
+}
+
+// Half block b of a row, which is not left out.
+fn read_six(
+    start: Gather,
     a: Area,
     row: Row,
-    k: usize,
+    b: usize,
     q: u32,
     grid: &[u8],
     part: &mut [u8],
 ) -> Gather
-    requires { ⌜ OwnIn a row k × Begun a q (now grid) (row .base + k) w (now part) ⌝ }
-    ensures { λ r. ⌜ Goes a q (now (grid .entry)) (row .base + k) (row .base + k + 1) w (now (part .entry)) r (now (part .exit)) ⌝ }
+    requires { ⌜ HalfIn a row b q (now grid) start (now part) × (centreOut (a .cell .blocks) (row .out) b ≡ false) ⌝ }
+    ensures { λ r. ⌜ Goes a q (now (grid .entry)) (row .base + 6 * b) (row .base + 6 * b + 6) start (now (part .entry)) r (now (part .exit)) ⌝ }
 {
-    if own_at(a, row, k) {
-        let turn = (w.j / 2 % 2) as u8;
-        let port = base::wide(precoding::own_port(a.cell.ports, turn));
-        let d = pair_at(grid, port * row.places + (row.base + k));
-        let v = bits_of(q, d);
-        return push(w, q, v, part);
+    let t = row.base + 6 * b;
+    let mut w = start;
+    let mut r: usize = 0;
+    while r < 6 {
+        let own = (row.mask >> r) % 2 == 1;
+        w = place_if(own, w, a.cell.ports, row.places, q, grid, part, t + r);
+        r += 1;
     }
     w
+}
+
+// Half block b of a row.
+fn read_half(w: Gather, a: Area, row: Row, b: usize, q: u32, grid: &[u8], part: &mut [u8]) -> Gather
+    requires { ⌜ HalfIn a row b q (now grid) w (now part) ⌝ }
+    ensures { λ r. ⌜ Goes a q (now (grid .entry)) (row .base + 6 * b) (row .base + 6 * b + 6) w (now (part .entry)) r (now (part .exit)) ⌝ }
+{
+    let blocks = base::wide(a.cell.blocks);
+    if data::centre_out(blocks, row.out, b) {
+        return w;
+    }
+    read_six(w, a, row, b, q, grid, part)
 }
 
 // The area's places of symbol s.
@@ -144,23 +177,58 @@ fn read_row(start: Gather, a: Area, s: usize, q: u32, grid: &[u8], part: &mut [u
     requires { ⌜ (a .first ≤ s) × (s < a .last) × Begun a q (now grid) (s * carriers (a .cell)) start (now part) ⌝ }
     ensures { λ r. ⌜ Goes a q (now (grid .entry)) (s * carriers (a .cell)) (s * carriers (a .cell) + carriers (a .cell)) start (now (part .entry)) r (now (part .exit)) ⌝ }
 {
-    if a.to <= a.from {
-        return start;
-    }
     let row = data::row_of(a, s);
-    let to = 6 * a.to;
+    let to = a.to;
     let mut w = start;
-    let mut k = 6 * a.from;
-    while k < to {
-        w = read_place(w, a, row, k, q, grid, part);
-        k += 1;
+    let mut b = a.from;
+    while b < to {
+        w = read_half(w, a, row, b, q, grid, part);
+        b += 1;
     }
     w
 }
 
-// The section of an area's bits, with symbols of q bits scrambled by what the pair gives; the pair after them.
+// The last of an odd number of places. Only one port sends such a channel.
+fn read_last(w: Gather, q: u32, grid: &[u8]) -> Gather
+    requires { ⌜ LastIn q (now grid) w ⌝ }
+    ensures { λ r. ⌜ Lasted q (now (grid .entry)) w r ⌝ }
+{
+    let r = w.r;
+    if w.j % 2 == 1 {
+        return Gather {
+            r: r,
+            at: w.at,
+            word: w.word * power(q) + bits_at(grid, w.before, q),
+            got: w.got + q,
+            j: w.j,
+            before: w.before,
+        };
+    }
+    w
+}
+
+// The bits that are still held, as the last bytes, filled with zeros.
+fn flush(w: Gather, part: &mut [u8])
+    requires { ⌜ FlushIn w (now part) ⌝ }
+    ensures { λ _. ⌜ Flushed w (now (part .entry)) (now (part .exit)) ⌝ }
+{
+    let got = w.got;
+    if got == 0 {
+        return;
+    }
+    let mut v = (w.word ^ gold::word(w.r, got)) * power(24 - got);
+    let mut at = w.at;
+    while at < part.len() {
+        part[at] = (v / 65536 % 256) as u8;
+        v = v % 65536 * 256;
+        at += 1;
+    }
+}
+
+// The section of an area's bits, with symbols of q bits scrambled by what the pair gives; the pair after them. Callers have compared
+// the area: some bits have each symbol.
 pub fn read_area(r: Registers, a: Area, q: u32, grid: &[u8], part: &mut [u8]) -> Registers
-    requires { ⌜ AreaIn a q 0 (now grid) × (length (now part) ≡ sectionBytes (q * areaCount a)) ⌝ }
+    requires { ⌜ SectionIn a q (now grid) × (length (now part) ≡ sectionBytes (q * areaCount a)) ⌝ }
     ensures { λ x. ⌜ (now (part .exit) ≡ sectionOf (areaBit a q (now (grid .entry)) r) (q * areaCount a)) × ((n : ℕ) × (x ≡ after r n)) ⌝ }
 {
     let mut w = Gather {
@@ -169,6 +237,7 @@ pub fn read_area(r: Registers, a: Area, q: u32, grid: &[u8], part: &mut [u8]) ->
         word: 0,
         got: 0,
         j: 0,
+        before: 0,
     };
     let last = a.last;
     let mut s = a.first;
@@ -176,6 +245,7 @@ pub fn read_area(r: Registers, a: Area, q: u32, grid: &[u8], part: &mut [u8]) ->
         w = read_row(w, a, s, q, grid, part);
         s += 1;
     }
-    flush(w, part);
-    w.r
+    let end = read_last(w, q, grid);
+    flush(end, part);
+    end.r
 }

@@ -1,4 +1,4 @@
--- A power of two as a shift of 256.
+-- A power of two as a shift of 2 to the power 24.
 use Rattle.data_read.proofs.Packing.{power-is}
 use borrow.Author.Needs.{needs}
 use Rattle.data_read.proofs.power.Statement.{statement}
