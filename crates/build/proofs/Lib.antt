@@ -1,12 +1,12 @@
 -- Laws that the proofs cite. For the crates above: Answers (the ways to an answer, and its numbers), Apart (theorem C of two calls).
-mod Some
+pub mod Some
 mod Pilots
-mod Numbered
-mod DataValues
-mod SignalValues
-mod ControlValues
-mod Quiet
-mod Slices
+pub mod Numbered
+pub mod DataValues
+pub mod SignalValues
+pub mod ControlValues
+pub mod Quiet
+pub mod Slices
 mod Turns
 pub mod Answers
 pub mod Apart

@@ -27,7 +27,7 @@ pub enum Built {
 }
 
 // Whether the port's reference signal uses symbol s.
-fn uses(cell: Cell, port: u8, s: u8) -> bool
+pub fn uses(cell: Cell, port: u8, s: u8) -> bool
     ensures { λ r. ⌜ r ≡ crsSymbol (slotOfCell cell) port (inSlot (slotOfCell cell) s) ⌝ }
 {
     let slot = layout::slot_length(cell.prefix);

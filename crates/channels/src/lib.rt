@@ -101,7 +101,7 @@ fn first_bit(p: Plan, ch: Channel) -> usize
 }
 
 // The pair at the start of the channel's bits.
-fn started(p: Plan, ch: Channel) -> Registers
+pub fn started(p: Plan, ch: Channel) -> Registers
     requires { ⌜ CellIn (p .cell) × FrameIn (p .frame) × Among p ch ⌝ }
     ensures { λ r. ⌜ r ≡ pairAt (initOf p ch) (firstOf p ch) ⌝ }
 {

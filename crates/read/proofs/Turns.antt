@@ -1,0 +1,216 @@
+-- What the calls of the sections need, and how far each leaves the payload. Assumes nothing beyond what reading needs.
+use Prim.Native.Nat.{ℕ, _+_, _-_, _*_, _≤_, _<_}
+use mathlib.Core.Path.{_≡_, refl, sym, ap, ap₂, subst, _∙_}
+use mathlib.Core.List.{List, []}
+use native.Mathlib.Omega.{arith}
+use lib.ListN.{length, take, drop}
+use borrow.Rule.Slice.PartMut.{putMid, mid-len}
+use Rattle.gold.specs.declared.Registers.{Registers}
+use Rattle.gold.specs.Sequence.{pairAt}
+use Rattle.plan.specs.Check.{checkOf}
+use Rattle.plan.specs.Commands.{userOf}
+use Rattle.plan.specs.Rows.{nextOf, hisFrom, hisOf, usersOf}
+use Rattle.plan.specs.Valid.{CellIn, FrameIn, UserIn}
+use Rattle.plan.specs.declared.User.{User}
+use Rattle.plan.specs.declared.Plan.{Plan}
+use Rattle.plan.specs.declared.Checked.the-variants.{Plan as accepted}
+use Rattle.plan.proofs.Valid.{valid}
+use Rattle.plan.proofs.Counts.{blocks-least, units-least}
+use Rattle.payload.specs.Sections.{sectionBytes, bytesOf}
+use Rattle.payload.specs.Payload.{pbchBits, userBits, heads, payloadLength, usersStart}
+use Rattle.payload.specs.Loops.{UserReady}
+use Rattle.payload.proofs.Lengths.{pbch-none}
+use Rattle.payload.proofs.Sections.{userStart, user-start-first, user-start-end}
+use Rattle.subframe.specs.Elements.{userInit, userNumber}
+use Rattle.subframe.proofs.OwnerBits.{pbch-size, user-order, user-places}
+use Rattle.recovery.specs.Recovery.{sectionOf, payloadIn}
+use Rattle.recovery.proofs.Channels.{pbch-length}
+use Rattle.data.specs.declared.Area.{Area}
+use Rattle.data.specs.Areas.{pbchArea, userArea}
+use Rattle.data.proofs.AreaOwners.{pbch-in, user-in}
+use Rattle.data_compare.specs.Symbols.{areaCount}
+use Rattle.data_read.specs.Reading.{areaBit, SectionIn}
+use Rattle.data_read.proofs.AreaBits.{pbch-count, user-count, pbch-section, user-section}
+use Rattle.control.specs.Reading.{ackFrom, ReadIn}
+use Rattle.control.proofs.ReadingOwners.{acks-are, read-in}
+use Rattle.channels.specs.declared.Channel.the-variants.{Pbch as PbchChannel, Phich as PhichChannel, User as UserChannel}
+use Rattle.channels.specs.Channels.{initOf, firstOf, Among}
+use Rattle.build.proofs.Slices.{From, from-first, from-user, from-next, start-room, user-valid, user-ready, start-next, heads-room}
+use Rattle.verify.specs.Made.{Given}
+use Rattle.verify.proofs.Known.{pbch-known, pbch-even, user-known, user-even}
+use Rattle.read.specs.Reading.{Readable, ReadTo}
+use Rattle.read.proofs.Parts.{pbch-part, acks-part, user-part, read-none, read-more, read-whole}
+
+-- the users before number i are read: number i's command is at position `at`, and its section starts at byte `from`
+pub record Going (w : List ℕ) (p : Plan) (g : List ℕ) (at from i : ℕ) (payload : List ℕ) : Type 0 where
+  pub most : i ≤ p .users .count
+  pub users : From w p at i
+  pub section : from ≡ userStart w p i
+  pub read : ReadTo w p g from payload
+
+module _ (w : List ℕ) (p : Plan) (g : List ℕ) where
+  pub users-first : {payload : List ℕ} (from : ℕ) → from ≡ usersStart p → ReadTo w p g (usersStart p) payload → Going w p g (p .users .at) from 0 payload
+  users-first {payload} from e so =
+      record {
+        most = omega arith;
+        users = from-first w p;
+        section = e ∙ sym (user-start-first w p);
+        read = subst (λ (n : ℕ). ReadTo w p g n payload) (sym e) so;
+      }
+
+module _ (w : List ℕ) (p : Plan) (g : List ℕ) {before : List ℕ} (start : Readable w p g before) where
+  ok : checkOf w ≡ accepted p
+  ok = start .answer
+
+  given : Given w p g
+  given = record { answer = start .answer; room = start .room }
+
+  -- ---- PBCH
+  pub pbch-begins : CellIn (p .cell) × FrameIn (p .frame) × Among p PbchChannel
+  unfolding Among
+  pbch-begins = (valid w p ok .cell, valid w p ok .frame, tt)
+
+  pub pbch-wide : 6 ≤ p .cell .blocks
+  pbch-wide = omega (arith, blocks-least (p .cell) (valid w p ok .cell))
+
+  pub pbch-absent : (p .frame .subframe ≡ 0 → ⊥) → ReadTo w p g (sectionBytes (pbchBits (p .cell) (p .frame))) before
+  pbch-absent n =
+      let e : 0 ≡ sectionBytes (pbchBits (p .cell) (p .frame)) = omega (arith, pbch-none (p .cell) (p .frame) n) in
+      subst (λ (m : ℕ). ReadTo w p g m before) e (read-none w p g (start .size))
+
+  module _ (end : ℕ) (ee : end ≡ sectionBytes (pbchBits (p .cell) (p .frame))) where
+    pub pbch-room : end ≤ length before
+    pbch-room = let h = heads-room w p ok before end (usersStart p) ee refl in omega (arith, h .0, h .1, start .size)
+
+    module _ (z : p .frame .subframe ≡ 0) (a : Area) (ea : a ≡ pbchArea (p .cell) (p .frame)) where
+      pbch-bits : 2 * areaCount (pbchArea (p .cell) (p .frame)) ≡ pbchBits (p .cell) (p .frame)
+      pbch-bits = ap (λ (n : ℕ). 2 * n) (pbch-count w p ok z) ∙ sym (pbch-size w p ok) ∙ pbch-length w p ok
+
+      pub pbch-section-in : SectionIn a 2 g × (length (take (end - 0) (drop 0 before)) ≡ sectionBytes (2 * areaCount a))
+      pbch-section-in =
+          subst (λ (b : Area). SectionIn b 2 g × (length (take (end - 0) (drop 0 before)) ≡ sectionBytes (2 * areaCount b))) (sym ea) (
+            record { area = pbch-in w p ok 2 0 g (omega arith, omega arith, omega arith) (omega arith) (start .room); known = pbch-known w p g given (start .made) z; pairs = pbch-even w p g given z },
+            mid-len 0 end before pbch-room ∙ omega (arith, pbch-bits),
+          )
+
+      pub pbch-read :
+          (r : Registers) → r ≡ pairAt (initOf p PbchChannel) (firstOf p PbchChannel) → (ys : List ℕ) → ys ≡ sectionOf (areaBit a 2 g r) (2 * areaCount a)
+          → ReadTo w p g (sectionBytes (pbchBits (p .cell) (p .frame))) (putMid 0 (end - 0) before ys)
+      unfolding initOf firstOf
+      pbch-read r er ys ey =
+          let room = heads-room w p ok before end (usersStart p) ee refl in
+          subst (λ (n : ℕ). ReadTo w p g n (putMid 0 (end - 0) before ys)) ee
+          (read-more w p g (read-none w p g (start .size)) end ys (omega arith) (omega (arith, room .0, room .1))
+          (ey
+          ∙ ap₂ (λ (b : Area) (x : Registers). sectionOf (areaBit b 2 g x) (2 * areaCount b)) ea er
+          ∙ pbch-section w p ok z g
+          ∙ sym (pbch-part w p g end ee)))
+
+  -- ---- the HIs
+  pub acks-begins : CellIn (p .cell) × FrameIn (p .frame) × Among p (PhichChannel 0)
+  unfolding Among
+  acks-begins = (valid w p ok .cell, valid w p ok .frame, omega (arith, units-least (p .cell) (valid w p ok .cell)))
+
+  module _ (from end : ℕ) (ef : from ≡ sectionBytes (pbchBits (p .cell) (p .frame))) (ee : end ≡ usersStart p) where
+    pub acks-room : (from ≤ end) × (end ≤ length before)
+    acks-room = let h = heads-room w p ok before from end ef ee in (h .0, omega (arith, h .1, start .size))
+
+    pub acks-in : ReadIn (p .cell) (p .his) w g (take (end - from) (drop from before))
+    unfolding usersStart heads bytesOf
+    acks-in = read-in w p ok (start .room) (mid-len from end before (acks-room .1) ∙ omega arith)
+
+    pub acks-read :
+        ReadTo w p g (sectionBytes (pbchBits (p .cell) (p .frame))) before
+        → (r : Registers) → r ≡ pairAt (initOf p (PhichChannel 0)) (firstOf p (PhichChannel 0))
+        → (ys : List ℕ) → ys ≡ sectionOf (ackFrom (p .cell) r (hisFrom (drop (p .his .at) w) (p .his .count)) g) (p .his .count)
+        → ReadTo w p g (usersStart p) (putMid from (end - from) before ys)
+    unfolding initOf firstOf hisOf
+    acks-read so r er ys ey =
+        let room = heads-room w p ok before from end ef ee in
+        subst (λ (n : ℕ). ReadTo w p g n (putMid from (end - from) before ys)) ee
+        (read-more w p g (subst (λ (n : ℕ). ReadTo w p g n before) (sym ef) so) end ys (room .0) (room .1)
+        (ey
+        ∙ ap (λ (x : Registers). sectionOf (ackFrom (p .cell) x (hisOf w p) g) (p .his .count)) er
+        ∙ ap (λ (bit : ℕ → ℕ). sectionOf bit (p .his .count)) (λ t n. acks-are w p g n t)
+        ∙ sym (acks-part w p g from end ef ee)))
+
+  -- ---- users
+  module _ {at from i : ℕ} {payload : List ℕ} (so : Going w p g at from i payload) (more : i < p .users .count) (u : User) (eu : u ≡ userOf (drop at w)) where
+    in-i : i < length (usersOf w p)
+    in-i = omega (arith, valid w p ok .users-count)
+
+    user-is : u ≡ userNumber w p i
+    user-is = eu ∙ from-user w p at i (so .users) in-i more
+
+    pub going-ready : UserReady (p .cell) (p .frame) u
+    going-ready = subst (UserReady (p .cell) (p .frame)) (sym user-is) (user-ready w p ok [] i in-i (start .room .fits))
+
+    pub going-begins : CellIn (p .cell) × FrameIn (p .frame) × Among p (UserChannel u)
+    unfolding Among
+    going-begins = (valid w p ok .cell, valid w p ok .frame, subst (UserIn (p .cell)) (sym user-is) (user-valid w p ok [] i in-i))
+
+    module _ (end : ℕ) (ee : end ≡ from + sectionBytes (userBits (p .cell) (p .frame) u)) where
+      end-is : end ≡ userStart w p (i + 1)
+      end-is =
+          ee
+          ∙ ap₂ (λ (n : ℕ) (v : User). n + sectionBytes (userBits (p .cell) (p .frame) v)) (so .section) user-is
+          ∙ sym (start-next w p ok [] i in-i)
+
+      end-room : end ≤ payloadLength w p
+      end-room = omega (arith, end-is, start-room w p ok [] (i + 1))
+
+      pub going-room : (from ≤ end) × (end ≤ length payload)
+      going-room = (omega arith, omega (arith, end-room, so .read .size))
+
+      module _ (a : Area) (ea : a ≡ userArea (p .cell) (p .frame) u) where
+        user-bits : userNumber w p i .order * areaCount (userArea (p .cell) (p .frame) (userNumber w p i)) ≡ userBits (p .cell) (p .frame) (userNumber w p i)
+        unfolding userBits userNumber
+        user-bits =
+            ap (λ (n : ℕ). userNumber w p i .order * n) (user-count w p ok i in-i (record { rnti = 0; order = 0; first = 0; count = 0 }) ∙ user-places w p ok i in-i)
+
+        ends : end ≡ from + sectionBytes (userBits (p .cell) (p .frame) (userNumber w p i))
+        ends = ee ∙ ap (λ (v : User). from + sectionBytes (userBits (p .cell) (p .frame) v)) user-is
+
+        area-is : a ≡ userArea (p .cell) (p .frame) (userNumber w p i)
+        area-is = ea ∙ ap (userArea (p .cell) (p .frame)) user-is
+
+        pub going-in : SectionIn a (u .order) g × (length (take (end - from) (drop from payload)) ≡ sectionBytes (u .order * areaCount a))
+        unfolding userNumber
+        going-in =
+            let U : User = userNumber w p i in
+            subst (λ (b : Area). SectionIn b (u .order) g × (length (take (end - from) (drop from payload)) ≡ sectionBytes (u .order * areaCount b))) (sym area-is)
+            (subst (λ (v : User). SectionIn (userArea (p .cell) (p .frame) U) (v .order) g × (length (take (end - from) (drop from payload)) ≡ sectionBytes (v .order * areaCount (userArea (p .cell) (p .frame) U)))) (sym user-is) (
+              record {
+                area = user-in w p ok (U .order) 0 g (user-order w p ok i in-i) (omega arith) (start .room) i in-i (record { rnti = 0; order = 0; first = 0; count = 0 });
+                known = user-known w p g given (start .made) i in-i;
+                pairs = user-even w p g given i in-i;
+              },
+              mid-len from end payload (going-room .1) ∙ (omega (arith, ends) ∙ ap sectionBytes (sym user-bits)),
+            ))
+
+        pub going-next :
+            (r : Registers) → r ≡ pairAt (initOf p (UserChannel u)) (firstOf p (UserChannel u)) → (ys : List ℕ) → ys ≡ sectionOf (areaBit a (u .order) g r) (u .order * areaCount a)
+            → (to : ℕ) → to ≡ nextOf w at → Going w p g to end (i + 1) (putMid from (end - from) payload ys)
+        unfolding initOf firstOf
+        going-next r er ys ey to et =
+            record {
+              most = omega arith;
+              users = subst (λ (n : ℕ). From w p n (i + 1)) (sym et) (from-next w p at i (so .users) in-i more);
+              section = end-is;
+              read =
+                  read-more w p g (so .read) end ys (going-room .0) end-room
+                  (ey
+                  ∙ ap₂ (λ (b : Area) (x : Registers). sectionOf (areaBit b (u .order) g x) (u .order * areaCount b)) ea er
+                  ∙ ap (λ (v : User). sectionOf (areaBit (userArea (p .cell) (p .frame) v) (v .order) g (pairAt (userInit (p .cell) (p .frame) v) 0)) (v .order * areaCount (userArea (p .cell) (p .frame) v))) user-is
+                  ∙ user-section w p ok i in-i g
+                  ∙ sym (user-part w p g i in-i from end (so .section) ends));
+            }
+
+  pub users-end : {at from i : ℕ} {payload : List ℕ} → Going w p g at from i payload → p .users .count ≤ i → payload ≡ payloadIn w p g
+  users-end {i = i} so h =
+      let e : i ≡ length (usersOf w p) = omega (arith, so .most, valid w p ok .users-count) in
+      read-whole w p g (so .read) (so .section ∙ ap (userStart w p) e ∙ user-start-end w p)
+
+-- ---- the sections one after the other
+pub readable-kept : {w : List ℕ} {p : Plan} {g before : List ℕ} → Readable w p g before → {n : ℕ} {after : List ℕ} → ReadTo w p g n after → Readable w p g after
+readable-kept start so = record { answer = start .answer; room = start .room; made = start .made; size = so .size }

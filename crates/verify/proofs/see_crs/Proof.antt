@@ -1,0 +1,66 @@
+-- `verify::see_crs` meets its contract: symbol after symbol. Assumes nothing.
+use Prim.Native.Nat.{ℕ, _-_, _*_, _≤_}
+use mathlib.Core.Path.{ap}
+use native.Mathlib.Omega.{arith}
+use Rattle.layout.specs.Owners.{symbols}
+use Rattle.places.proofs.Numbers.{symbols-most}
+use Rattle.compare.specs.Comparing.{Compared}
+use Rattle.compare.proofs.Comparing.{few}
+use Rattle.build.specs.Senders.{crsRows}
+use Rattle.verify.specs.Made.{due}
+use Rattle.verify.proofs.Turns.{rows-none, rows-more, rows-end}
+use Rattle.verify.proofs.see_crs.Statement.{statement}
+use Rattle.verify.proofs.see_crs.Tie as tie
+
+abbrev Inv-loop : tie.InvT-loop
+Inv-loop plan p grid rows seen₀ s₀ seen s = (s ≤ symbols (p .cell)) × Compared (crsRows p s) (due plan p grid) grid seen
+
+abbrev μ-loop : tie.MeasureT-loop
+μ-loop plan p grid rows seen₀ s₀ seen s = symbols (p .cell) - s
+
+slot-length-requires : tie.Need-slot-length-requires Inv-loop μ-loop
+slot-length-requires c κs = tt
+
+mul-rows : tie.Need-mul-rows Inv-loop μ-loop
+mul-rows c = omega (arith, c .slot-length .ensures, symbols-most (c .before .before .before .args .p .cell))
+
+loop-holds : tie.Need-loop-holds Inv-loop μ-loop
+loop-holds c = (omega arith, rows-none (c .before .before .before .args .plan .now) (c .before .before .before .args .p) (c .before .before .before .pre))
+
+cast-see-crs-row : tie.Need-cast-see-crs-row Inv-loop μ-loop
+cast-see-crs-row c = omega (arith, c .before .loop .inv .0, symbols-most (c .before .before .before .before .before .args .p .cell))
+
+see-crs-row-requires : tie.Need-see-crs-row-requires Inv-loop μ-loop
+see-crs-row-requires c κs = (c .before .before .before .before .before .pre, omega (arith, c .loop-test .taken, c .before .before .slot-length .ensures))
+
+both-requires : tie.Need-both-requires Inv-loop μ-loop
+both-requires c κs = (few (c .before .before .before .before .before .before .pre .room) (c .before .before .loop .inv .1), few (c .before .before .before .before .before .before .pre .room) (c .see-crs-row .ensures))
+
+add-s : tie.Need-add-s Inv-loop μ-loop
+add-s c = omega (arith, c .before .before .before .loop .inv .0, symbols-most (c .before .before .before .before .before .before .before .args .p .cell))
+
+loop-less : tie.Need-loop-less Inv-loop μ-loop
+loop-less c = omega (arith, c .before .before .loop-test .taken, c .before .before .before .before .slot-length .ensures)
+
+loop-again : tie.Need-loop-again Inv-loop μ-loop
+loop-again c = (omega (arith, c .before .before .loop-test .taken, c .before .before .before .before .slot-length .ensures), rows-more (c .before .before .before .before .before .before .before .args .plan .now) (c .before .before .before .before .before .before .before .args .p) (c .before .before .before .before .before .before .before .pre) (c .before .before .before .loop .s) (c .both .ensures) (c .before .before .before .loop .inv .1) (c .before .see-crs-row .ensures))
+
+returns : tie.Need-returns Inv-loop μ-loop
+returns c = rows-end (c .before .before .before .before .before .args .plan .now) (c .before .before .before .before .before .args .p) (c .before .before .before .before .before .pre) (c .before .loop .s) _ (c .before .loop .inv .0) (c .loop-test .left) (ap (λ (x : ℕ). 2 * x) (c .before .before .slot-length .ensures)) (c .before .loop .inv .1)
+
+pub see-crs-spec : {M : Type 1} → statement M
+see-crs-spec =
+    tie.close
+    (tie.spec
+    Inv-loop
+    μ-loop
+    slot-length-requires
+    mul-rows
+    loop-holds
+    cast-see-crs-row
+    see-crs-row-requires
+    both-requires
+    add-s
+    loop-less
+    loop-again
+    returns)

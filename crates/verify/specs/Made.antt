@@ -1,0 +1,46 @@
+-- For the inner contracts and loops only: whether a grid is the one that the payload read from it makes. w is a plan's bytes, p the plan
+-- that the plan check answers with, g a grid.
+use Prim.Native.Nat.{ℕ, _<_}
+use mathlib.Core.Path.{_≡_}
+use mathlib.Core.Bool.{Bool, true, false}
+use mathlib.Core.List.{List}
+use lib.ListN.{length}
+use Rattle.base.specs.declared.Element.{Element}
+use Rattle.plan.specs.Check.{checkOf}
+use Rattle.plan.specs.Rows.{usersOf}
+use Rattle.plan.specs.declared.Plan.{Plan}
+use Rattle.plan.specs.declared.User.{User}
+use Rattle.plan.specs.declared.Checked.the-variants.{Plan as accepted}
+use Rattle.layout.specs.declared.Owner.the-variants.{User as UserOf}
+use Rattle.places.specs.Places.{placesOf}
+use Rattle.grid.specs.Writing.{Room}
+use Rattle.compare.specs.declared.Seen.{Seen}
+use Rattle.compare.specs.Comparing.{Compared}
+use Rattle.subframe.specs.Elements.{userNumber}
+use Rattle.subframe.specs.Grid.{elementNumbered, gridOf}
+use Rattle.recovery.specs.Recovery.{payloadIn}
+use Rattle.build.specs.Senders.{ownerSends}
+
+-- the elements that are due: those of the payload that the grid itself gives
+abbrev pub due : List ℕ → Plan → List ℕ → ℕ → Element
+due w p g = elementNumbered w p (payloadIn w p g)
+
+-- an accepted plan and a grid of its length
+pub record Given (w : List ℕ) (p : Plan) (g : List ℕ) : Type 0 where
+  pub answer : checkOf w ≡ accepted p
+  pub room : Room (p .cell .ports) (placesOf (p .cell)) g
+
+-- u is one of the plan's users
+pub record Planned (w : List ℕ) (p : Plan) (u : User) : Type 0 where
+  pub number : ℕ
+  pub inside : number < length (usersOf w p)
+  pub is : u ≡ userNumber w p number
+
+-- its elements are compared
+pub record UserSeen (w : List ℕ) (p : Plan) (u : User) (g : List ℕ) (r : Seen) : Type 0 where
+  pub seen : (i : ℕ) → i < length (usersOf w p) → u ≡ userNumber w p i → Compared (ownerSends w p (UserOf i)) (due w p g) g r
+
+-- the answer
+pub record Made (w : List ℕ) (p : Plan) (g : List ℕ) (r : Bool) : Type 0 where
+  pub made : r ≡ true → gridOf w p (payloadIn w p g) ≡ g
+  pub not-made : r ≡ false → gridOf w p (payloadIn w p g) ≡ g → ⊥
