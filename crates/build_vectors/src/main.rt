@@ -1,36 +1,7 @@
 // Calls of build: reads them from standard input and prints of each its number, from 1, the count or "refused" and the number, and
 // a digest of the grid after the call. Every byte of the grid is 165 before it, so that a refusal shows that no byte changed.
-ghost use Prim.Native.Nat.{_<_};
-use base::wide;
 use build::Built;
-use plan::Checked;
-
-// The bytes that a plan's grid needs; 36 for a plan that is refused.
-fn wanted(plan: &[u8]) -> usize {
-    match plan::check(plan) {
-        Checked::Plan(p) => payload::grid_length(p),
-        Checked::Refused(_) => 36,
-    }
-}
-
-// The bytes to lend: what is wanted, one less for 1, one more for 2. The longest grid, of 100 blocks, 14 symbols and four ports,
-// has 201,600 bytes.
-fn lent(plan: &[u8], difference: u8) -> usize {
-    let n = wanted(plan);
-    if n < 1 {
-        return n;
-    }
-    if 201600 < n {
-        return n;
-    }
-    if difference == 1 {
-        return n - 1;
-    }
-    if difference == 2 {
-        return n + 1;
-    }
-    n
-}
+use records::value;
 
 fn answer(b: Built) {
     match b {
@@ -42,38 +13,14 @@ fn answer(b: Built) {
     }
 }
 
-// Two numbers that hang on every byte and its position.
-fn digest(bytes: &[u8]) {
-    let mut a: u64 = 1;
-    let mut b: u64 = 7;
-    let mut i = 0;
-    while i < bytes.len() {
-        let x = wide(bytes[i]) as u64;
-        a = (a * 31 + x + 1) % 4294967291;
-        b = (b * 131 + x + 7) % 4294967279;
-        i += 1;
-    }
-    print::number(a);
-    print::space();
-    print::number(b);
-}
-
-fn fill(grid: &mut [u8]) {
-    let mut i = 0;
-    while i < grid.len() {
-        grid[i] = 165;
-        i += 1;
-    }
-}
-
 fn call(number: usize, plan: &[u8], payload: &[u8], grid: &mut [u8]) {
-    fill(grid);
+    records::fill(grid);
     let b = build::build(plan, payload, grid);
     print::number(number as u64);
     print::space();
     answer(b);
     print::space();
-    digest(grid);
+    records::show(records::added(records::begun(), grid));
     print::line();
 }
 
@@ -82,19 +29,6 @@ fn lend(number: usize, plan: &[u8], payload: &[u8], n: usize, buffer: &mut [u8])
     if n <= buffer.len() {
         call(number, plan, payload, &mut buffer[..n]);
     }
-}
-
-// A big-endian number of up to four bytes.
-fn value(bytes: &[u8]) -> usize
-    ensures { λ r. ⌜ r < 4294967296 ⌝ }
-{
-    let mut v: usize = 0;
-    let mut i = 0;
-    while i < bytes.len() {
-        v = v % 16777216 * 256 + wide(bytes[i]);
-        i += 1;
-    }
-    v
 }
 
 // The record that the bytes start with: a byte for the length to lend, the plan's length in two bytes, the plan, the payload's
@@ -113,7 +47,7 @@ fn record(number: usize, bytes: &[u8]) -> usize {
         return 0;
     }
     let mut buffer = [0u8; 201601];
-    let n = lent(&bytes[3..end], bytes[0]);
+    let n = records::lent(records::wanted(&bytes[3..end]), bytes[0]);
     lend(number, &bytes[3..end], &bytes[start..last], n, &mut buffer);
     last
 }

@@ -11,10 +11,10 @@ use crate::payload::Sections;
 use crate::plan::{check, grid_length, Refusal, END, USER};
 
 /// The bytes of a refused plan's grid; no plan wants so few.
-const REFUSED_PLAN_GRID: usize = 36;
+pub const REFUSED_PLAN_GRID: usize = 36;
 
 /// What every byte of the grid is before the call.
-const BEFORE: u8 = 165;
+pub const BEFORE: u8 = 165;
 
 /// How long the lent grid is.
 #[derive(Clone, Copy, Debug, PartialEq, Eq)]
@@ -32,14 +32,19 @@ pub struct Call {
     pub payload: Vec<u8>,
 }
 
-impl Call {
-    pub fn grid_length(&self) -> usize {
-        let wanted = grid_length(&self.plan).unwrap_or(REFUSED_PLAN_GRID);
-        match self.lent {
+impl Lent {
+    pub fn of(self, wanted: usize) -> usize {
+        match self {
             Lent::AsWanted => wanted,
             Lent::OneLess => wanted - 1,
             Lent::OneMore => wanted + 1,
         }
+    }
+}
+
+impl Call {
+    pub fn grid_length(&self) -> usize {
+        self.lent.of(grid_length(&self.plan).unwrap_or(REFUSED_PLAN_GRID))
     }
 
     /// What build returns, and the grid after it: "a refusal returns its number [..] and buffers stay".
@@ -67,7 +72,12 @@ impl Call {
 
 /// Two numbers that hang on every byte and its position.
 pub fn digest(bytes: &[u8]) -> (u64, u64) {
-    bytes.iter().fold((1, 7), |(a, b), byte| {
+    digest_more((1, 7), bytes)
+}
+
+/// The digest of more bytes after those of a digest.
+pub fn digest_more(digest: (u64, u64), bytes: &[u8]) -> (u64, u64) {
+    bytes.iter().fold(digest, |(a, b), byte| {
         let x = u64::from(*byte);
         ((a * 31 + x + 1) % 4_294_967_291, (b * 131 + x + 7) % 4_294_967_279)
     })

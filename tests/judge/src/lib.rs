@@ -17,6 +17,7 @@ pub mod phich;
 pub mod plan;
 pub mod precoding;
 pub mod read;
+pub mod reads;
 pub mod sample;
 pub mod sequence;
 pub mod sync;

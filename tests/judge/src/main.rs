@@ -1,6 +1,6 @@
 //! The judge's commands.
 
-use judge::builds;
+use judge::{builds, reads};
 use judge::generate::{
     any_plan, damaged_plan, gridcount_case, input, right_payload, spare_set, wrong_length, Random,
 };
@@ -19,6 +19,7 @@ judge input K SEED                       gridcount's input number K of a seed, i
 judge show HEX                           what the reference says of a plan
 judge expect DIRECTORY [CASES] [SEED]    write inputs, and the digests of all answers to them (200 cases, seed 1)
 judge builds DIRECTORY                   write what build_vectors reads and must print: stdin, stdout
+judge reads DIRECTORY                    write what read_vectors reads and must print: stdin, stdout
 judge samples                            the digest of all samples";
 
 fn number(text: Option<&String>, otherwise: u64) -> Result<u64, String> {
@@ -124,12 +125,11 @@ fn expect(directory: &str, cases: u64, seed: u64) -> Result<(), String> {
 }
 
 /// Writes DIRECTORY/stdin and DIRECTORY/stdout.
-fn write_builds(directory: &str) -> Result<(), String> {
+fn write_vectors(directory: &str, input: &[u8], output: &str) -> Result<(), String> {
     let told = |error: std::io::Error| error.to_string();
     std::fs::create_dir_all(directory).map_err(told)?;
-    let calls = builds::calls();
-    std::fs::write(format!("{directory}/stdin"), builds::input(&calls)).map_err(told)?;
-    std::fs::write(format!("{directory}/stdout"), builds::output(&calls)).map_err(told)
+    std::fs::write(format!("{directory}/stdin"), input).map_err(told)?;
+    std::fs::write(format!("{directory}/stdout"), output).map_err(told)
 }
 
 /// All 2^24 elements in order, each as kind, I and J: 64-bit numbers, low byte first.
@@ -181,7 +181,14 @@ fn command(arguments: &[String]) -> Result<bool, String> {
         ["expect", directory, rest @ ..] if rest.len() <= 2 => {
             expect(directory, number(arguments.get(2), 200)?, number(arguments.get(3), 1)?).map(|()| true)
         }
-        ["builds", directory] => write_builds(directory).map(|()| true),
+        ["builds", directory] => {
+            let calls = builds::calls();
+            write_vectors(directory, &builds::input(&calls), &builds::output(&calls)).map(|()| true)
+        }
+        ["reads", directory] => {
+            let tests = reads::tests();
+            write_vectors(directory, &reads::input(&tests), &reads::output(&tests)).map(|()| true)
+        }
         ["samples"] => {
             samples();
             Ok(true)

@@ -92,6 +92,13 @@ impl Layout {
         self.map[self.index(place)].unwrap_or(Owner::Idle)
     }
 
+    /// An owner's places, s by s.
+    pub fn places_of(&self, owner: Owner) -> Vec<Place> {
+        let places = 0..self.map.len();
+        let place = |i: usize| Place { s: i / self.subcarriers, k: i % self.subcarriers };
+        places.map(place).filter(|place| self.owner(*place) == owner).collect()
+    }
+
     /// The user elements, ports not multiplied.
     pub fn user_elements(&self) -> usize {
         self.users.iter().map(Vec::len).sum()

@@ -54,22 +54,40 @@ fn candidate(plan: &Plan, layout: &Layout, sections: &Sections, grid: &[u8]) -> 
     Some(payload)
 }
 
+/// A plan with all that reading its grids needs.
+pub struct Reader {
+    plan: Plan,
+    layout: Layout,
+    sections: Sections,
+}
+
+impl Reader {
+    pub fn new(plan: &[u8]) -> Result<Reader, Refusal> {
+        let plan = check(plan)?;
+        let layout = layout(&plan);
+        let sections = Sections::new(&plan, &layout);
+        Ok(Reader { plan, layout, sections })
+    }
+
+    /// The payload and the count of user elements, or the refusal: 10, 11, 13.
+    pub fn read(&self, grid: &[u8], payload_length: usize) -> Result<(Vec<u8>, usize), Refusal> {
+        if grid.len() != self.plan.cell.grid_length() {
+            return Err(GRID_LENGTH);
+        }
+        if payload_length != self.sections.length {
+            return Err(PAYLOAD_LENGTH);
+        }
+        // Only one payload can have made the grid; whether it did, building tells.
+        match candidate(&self.plan, &self.layout, &self.sections, grid) {
+            Some(payload) if fill(&self.plan, &self.layout, &self.sections, &payload) == grid => {
+                Ok((payload, self.layout.user_elements()))
+            }
+            _ => Err(NO_PAYLOAD),
+        }
+    }
+}
+
 /// Read: the payload and the count of user elements, or the refusal: the plan's, 10, 11, 13.
 pub fn read(plan: &[u8], grid: &[u8], payload_length: usize) -> Result<(Vec<u8>, usize), Refusal> {
-    let plan = check(plan)?;
-    let layout = layout(&plan);
-    let sections = Sections::new(&plan, &layout);
-    if grid.len() != plan.cell.grid_length() {
-        return Err(GRID_LENGTH);
-    }
-    if payload_length != sections.length {
-        return Err(PAYLOAD_LENGTH);
-    }
-    // Only one payload can have made the grid; whether it did, building tells.
-    match candidate(&plan, &layout, &sections, grid) {
-        Some(payload) if fill(&plan, &layout, &sections, &payload) == grid => {
-            Ok((payload, layout.user_elements()))
-        }
-        _ => Err(NO_PAYLOAD),
-    }
+    Reader::new(plan)?.read(grid, payload_length)
 }

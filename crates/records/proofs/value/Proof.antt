@@ -1,10 +1,10 @@
--- `build_vectors::value` is below 2^32, whatever the bytes are, and ends. The measure is what is left of them. Assumes nothing.
+-- `records::value` is below 2^32, whatever the bytes are, and ends. The measure is what is left of them. Assumes nothing.
 use Prim.Native.Nat.{_-_, _≤_, _<_}
 use borrow.Author.Needs.{needs}
 use native.Mathlib.Omega.{arith}
 use lib.ListN.{length}
-use Rattle.build_vectors.proofs.value.Statement.{statement}
-use Rattle.build_vectors.proofs.value.Tie as tie
+use Rattle.records.proofs.value.Statement.{statement}
+use Rattle.records.proofs.value.Tie as tie
 
 abbrev Inv-loop : tie.InvT-loop
 Inv-loop bytes v₀ i₀ v i = (v < 4294967296) × (i ≤ length bytes)

@@ -1,23 +1,23 @@
--- `build_vectors::fill` is safe and ends: the position stays within the grid, whose length stays. The measure is what is left of it. Assumes nothing.
+-- `records::fill` is safe and ends: the position stays within the bytes, whose length stays. The measure is what is left of it. Assumes nothing.
 use mathlib.Core.Path.{_≡_, _∙_}
 use Prim.Native.Nat.{_-_, _≤_}
 use borrow.Author.Needs.{needs}
 use native.Mathlib.Omega.{arith}
 use lib.ListN.{length, length-set}
-use Rattle.build_vectors.proofs.fill.Statement.{statement}
-use Rattle.build_vectors.proofs.fill.Tie as tie
+use Rattle.records.proofs.fill.Statement.{statement}
+use Rattle.records.proofs.fill.Tie as tie
 
 abbrev Inv-loop : tie.InvT-loop
-Inv-loop grid₀ i₀ grid i = (i ≤ length grid₀) × (length grid ≡ length grid₀)
+Inv-loop bytes₀ i₀ bytes i = (i ≤ length bytes₀) × (length bytes ≡ length bytes₀)
 
 abbrev μ-loop : tie.MeasureT-loop
-μ-loop grid₀ i₀ grid i = length grid₀ - i
+μ-loop bytes₀ i₀ bytes i = length bytes₀ - i
 
 loop-holds : tie.Need-loop-holds Inv-loop μ-loop
 loop-holds c = search needs
 
-slice-write-grid : tie.Need-slice-write-grid Inv-loop μ-loop
-slice-write-grid c = search needs
+slice-write-bytes : tie.Need-slice-write-bytes Inv-loop μ-loop
+slice-write-bytes c = search needs
 
 add-i : tie.Need-add-i Inv-loop μ-loop
 add-i c = search needs
@@ -26,7 +26,7 @@ loop-less : tie.Need-loop-less Inv-loop μ-loop
 loop-less c = omega arith
 
 loop-again : tie.Need-loop-again Inv-loop μ-loop
-loop-again c = (omega arith, length-set (c .before .loop .grid) (c .before .loop .i) 165 ∙ c .before .loop .inv .1)
+loop-again c = (omega arith, length-set (c .before .loop .bytes) (c .before .loop .i) 165 ∙ c .before .loop .inv .1)
 
 same-length : tie.Need-same-length Inv-loop μ-loop
 same-length c = search needs
@@ -41,7 +41,7 @@ fill-spec =
     Inv-loop
     μ-loop
     loop-holds
-    slice-write-grid
+    slice-write-bytes
     add-i
     loop-less
     loop-again

@@ -1,13 +1,14 @@
--- `build_vectors::digest` is safe and ends: both numbers stay below their divisors, so no product wraps. The measure is what is left of the bytes. Assumes nothing.
-use Prim.Native.Nat.{_-_, _≤_, _<_}
+-- `records::added` is safe and ends: both numbers are taken by their divisors first, so no product wraps. The measure is what is left of
+-- the bytes. Assumes nothing.
+use Prim.Native.Nat.{_-_, _≤_}
 use borrow.Author.Needs.{needs}
 use native.Mathlib.Omega.{arith}
 use lib.ListN.{length}
-use Rattle.build_vectors.proofs.digest.Statement.{statement}
-use Rattle.build_vectors.proofs.digest.Tie as tie
+use Rattle.records.proofs.added.Statement.{statement}
+use Rattle.records.proofs.added.Tie as tie
 
 abbrev Inv-loop : tie.InvT-loop
-Inv-loop bytes a₀ b₀ i₀ a b i = (a < 4294967291) × ((b < 4294967279) × (i ≤ length bytes))
+Inv-loop bytes a₀ b₀ i₀ a b i = i ≤ length bytes
 
 abbrev μ-loop : tie.MeasureT-loop
 μ-loop bytes a₀ b₀ i₀ a b i = length bytes - i
@@ -48,20 +49,11 @@ loop-less c = search needs
 loop-again : tie.Need-loop-again Inv-loop μ-loop
 loop-again c = search needs
 
-number-requires : tie.Need-number-requires Inv-loop μ-loop
-number-requires c κs = search needs
-
-space-requires : tie.Need-space-requires Inv-loop μ-loop
-space-requires c κs = search needs
-
-number-requires-2 : tie.Need-number-requires-2 Inv-loop μ-loop
-number-requires-2 c κs = search needs
-
 returns : tie.Need-returns Inv-loop μ-loop
 returns c = search needs
 
-pub digest-spec : {M : Type 1} → statement M
-digest-spec =
+pub added-spec : {M : Type 1} → statement M
+added-spec =
     tie.close
     (tie.spec
     Inv-loop
@@ -78,7 +70,4 @@ digest-spec =
     add-i
     loop-less
     loop-again
-    number-requires
-    space-requires
-    number-requires-2
     returns)

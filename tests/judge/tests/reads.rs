@@ -1,0 +1,58 @@
+//! The calls of read_vectors: that every sort of grid is among them, and what the reference makes of them.
+
+use judge::builds;
+use judge::reads::{input, output, tests, Kind};
+use judge::{build, check, read};
+use std::sync::OnceLock;
+
+static OUTPUT: OnceLock<String> = OnceLock::new();
+
+/// The lines of the program's output, the numbers of the tests taken off.
+fn lines() -> Vec<String> {
+    let text = OUTPUT.get_or_init(|| output(&tests()));
+    text.lines().map(|line| line.split_once(' ').expect("a number first").1.to_string()).collect()
+}
+
+#[test]
+fn how_many() {
+    let all = tests();
+    let round_trips = builds::calls().len();
+    assert!(all.len() > round_trips);
+    assert!(input(&all).len() < 500_000);
+    assert!(all.iter().all(|test| test.payload.len() < 19_999));
+    assert_eq!(all.iter().filter(|test| test.kind == Kind::Sweep).count(), 2);
+}
+
+#[test]
+fn answers_of_every_sort() {
+    let lines = lines();
+    let count = |start: &str| lines.iter().filter(|line| line.starts_with(start)).count();
+    for refusal in 1..=7 {
+        assert!(count(&format!("refused {refusal} ")) > 0, "no refusal {refusal}");
+    }
+    for (refusal, least) in [(10, 6), (11, 6), (13, 300)] {
+        assert!(count(&format!("refused {refusal} ")) >= least, "too few refusals {refusal}");
+    }
+    // Read never looks at spare bits.
+    assert_eq!(count("refused 12 "), 0);
+}
+
+#[test]
+fn what_build_wrote_is_read_back() {
+    for call in builds::calls() {
+        let length = check(&call.plan).map_or(36, |plan| plan.cell.grid_length());
+        if let Ok((grid, count)) = build(&call.plan, &call.payload, length) {
+            assert_eq!(read(&call.plan, &grid, call.payload.len()), Ok((call.payload, count)));
+        }
+    }
+}
+
+#[test]
+fn sweeps_refuse_and_read() {
+    let sweeps: Vec<String> = lines().into_iter().filter(|line| line.contains(" built ")).collect();
+    let words: Vec<Vec<&str>> = sweeps.iter().map(|line| line.split(' ').collect()).collect();
+    // With one port a level turned round is another payload's; with two, the other port tells.
+    assert!(words[0][3].parse::<usize>().expect("a count") > 2000);
+    assert_eq!(words[1][3], "0");
+    assert!(words.iter().all(|line| line[3] == line[5]));
+}
