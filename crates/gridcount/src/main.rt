@@ -34,5 +34,5 @@ fn answer(a: Counted) {
 fn main() {
     let mut buffer = [0u8; 80000];
     let n = io::read_full(0, &mut buffer);
-    answer(counted::gridcount(&buffer[..n]));
+    answer(mapper::gridcount(&buffer[..n]));
 }

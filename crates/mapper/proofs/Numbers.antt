@@ -1,0 +1,74 @@
+-- The calls' answers by the cases of the code, and as numbers for C. Assumes nothing.
+use Prim.Native.Nat.{ℕ, _^_, _<_}
+use mathlib.Core.Path.{_≡_, refl, sym, ap, _∙_}
+use mathlib.Core.List.{List}
+use native.Mathlib.Omega.{arith}
+use lib.IntN.{ℤ, pos, negℤ, _-ℤ_}
+use lib.Signed.{mag}
+use mir.Syntax.{w64}
+use mir.Val.{SFits, toZ, ofZ}
+use mir.Facts.{toZ-ofZ, toZ-pos}
+use Rattle.base.proofs.Fits.{fits-abs, abs-neg, sub-zero}
+use Rattle.plan.specs.Check.{checkOf, numberOf}
+use Rattle.plan.specs.declared.Plan.{Plan}
+use Rattle.plan.specs.declared.Refusal.{Refusal}
+use Rattle.plan.specs.declared.Checked.{Checked}
+use Rattle.plan.specs.declared.Checked.the-variants.{Plan as accepted, Refused as refused}
+use Rattle.layout.specs.Query.{Answer}
+use Rattle.build.specs.Build.{refusedBy}
+use Rattle.mapper.specs.Calls.{numberFrom, given, valueOf, checkedOf, inC}
+use Rattle.mapper.specs.Sizes.{Small}
+use Rattle.mapper.specs.declared.Number.{Number}
+use Rattle.mapper.specs.declared.Number.the-variants.{Is, Refused}
+
+module _ (w : List ℕ) (a : Checked) (e : a ≡ checkOf w) where
+  module _ (p : Plan) (is : a ≡ accepted p) where
+    pub number-is : (f : Plan → ℕ) (n : ℕ) → n ≡ f p → Is n ≡ numberFrom f (checkOf w)
+    number-is f n q = ap Is q ∙ ap (numberFrom f) (sym is ∙ e)
+
+    pub check-is : checkedOf (checkOf w) ≡ given 0
+    check-is = ap checkedOf (sym e ∙ is)
+
+  module _ (r : Refusal) (is : a ≡ refused r) where
+    pub number-refused : (f : Plan → ℕ) → Refused r ≡ numberFrom f (checkOf w)
+    number-refused f = ap (numberFrom f) (sym is ∙ e)
+
+    pub check-refused : checkedOf (checkOf w) ≡ refusedBy (numberOf r)
+    check-refused = ap checkedOf (sym e ∙ is)
+
+-- ---- a number for C, as it is or back from the bits of a call's i64
+back : (z : ℤ) → mag z < 2 ^ 63 → toZ w64 (ofZ w64 z) ≡ z
+back z fits = toZ-ofZ {w = w64} {z = z} (record { sfits = fits })
+
+module _ (n : ℕ) (x : Answer) where
+  pub plus-is : x ≡ given n → pos n ≡ inC x
+  unfolding inC
+  plus-is e = rw e refl
+
+  pub minus-is : x ≡ refusedBy n → negℤ (pos n) ≡ inC x
+  unfolding inC
+  minus-is e = rw e refl
+
+  module _ (z : ℤ) (fits : mag z < 2 ^ 63) where
+    pub plus-back : z ≡ pos n → x ≡ given n → toZ w64 (ofZ w64 z) ≡ inC x
+    plus-back q e = back z fits ∙ q ∙ plus-is e
+
+    pub minus-back : z ≡ negℤ (pos n) → x ≡ refusedBy n → toZ w64 (ofZ w64 z) ≡ inC x
+    minus-back q e = back z fits ∙ q ∙ minus-is e
+
+pub number-back : (z : ℤ) → mag z < 2 ^ 63 → (n m : Number) → z ≡ inC (valueOf n) → n ≡ m → toZ w64 (ofZ w64 z) ≡ inC (valueOf m)
+number-back z fits n m q e = back z fits ∙ q ∙ ap (λ (x : Number). inC (valueOf x)) e
+
+-- ---- minus a number below 2^63
+module _ (n : ℕ) (small : n < 2 ^ 63) where
+  negated : pos 0 -ℤ toZ w64 n ≡ negℤ (pos n)
+  negated = rw (toZ-pos w64 {n = n} small) (sub-zero (pos n))
+
+  pub negated-fits : SFits w64 (pos 0 -ℤ toZ w64 n)
+  negated-fits = rw negated (fits-abs w64 (negℤ (pos n)) (omega (arith, abs-neg (pos n))))
+
+  pub negated-is : (m : ℕ) → n ≡ m → toZ w64 (ofZ w64 (pos 0 -ℤ toZ w64 n)) ≡ negℤ (pos m)
+  negated-is m e = toZ-ofZ negated-fits ∙ negated ∙ ap (λ (k : ℕ). negℤ (pos k)) e
+
+pub small-is : (n : Number) (v : ℕ) → n ≡ Is v → Small n → v < 2 ^ 63
+small-is n v e h = rw e at h

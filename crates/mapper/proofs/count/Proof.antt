@@ -1,0 +1,32 @@
+-- `mapper::count` meets its contract: by the plan check. Assumes nothing.
+use Rattle.mapper.proofs.Numbers.{number-is, number-refused}
+use Rattle.mapper.specs.Calls.{countOf, kindElements}
+use mathlib.Core.Path.{sym, _∙_}
+use borrow.Author.Needs.{needs}
+use Rattle.mapper.proofs.count.Statement.{statement}
+use Rattle.mapper.proofs.count.Tie as tie
+
+check-requires : tie.Need-check-requires
+check-requires c κs = search needs
+
+enum-known-p : tie.Need-enum-known-p
+enum-known-p c = search needs
+
+count-of-requires : tie.Need-count-of-requires
+count-of-requires c κs = sym (c .before .before .before .check .ensures) ∙ c .before .p .given .1
+
+enum-known-r : tie.Need-enum-known-r
+enum-known-r c = search needs
+
+returns : tie.Need-returns
+unfolding countOf
+returns c = number-is (c .before .before .before .before .before .before .args .plan .now) _ (c .before .before .before .before .check .ensures) _ (c .before .before .p .given .1) (kindElements (c .before .before .before .before .before .before .args .plan .now) (c .before .before .before .before .before .before .args .kind)) _ (c .count-of .ensures)
+
+returns-2 : tie.Need-returns-2
+unfolding countOf
+returns-2 c = number-refused (c .before .before .before .before .before .args .plan .now) _ (c .before .before .before .check .ensures) _ (c .before .r .given .1) (kindElements (c .before .before .before .before .before .args .plan .now) (c .before .before .before .before .before .args .kind))
+
+pub count-spec : {M : Type 1} → statement M
+count-spec =
+    tie.close
+    (tie.spec check-requires enum-known-p count-of-requires enum-known-r returns returns-2)

@@ -1,0 +1,15 @@
+-- `mapper::plus` meets its contract: below 2^63 the bits are the number. Assumes nothing.
+use mir.Syntax.{w64}
+use mir.Facts.{toZ-pos}
+use borrow.Author.Needs.{needs}
+use Rattle.mapper.proofs.plus.Statement.{statement}
+use Rattle.mapper.proofs.plus.Tie as tie
+
+cast-result : tie.Need-cast-result
+cast-result c = search needs
+
+returns : tie.Need-returns
+returns c = toZ-pos w64 (c .pre)
+
+pub plus-spec : {M : Type 1} → statement M
+plus-spec = tie.close (tie.spec cast-result returns)

@@ -1,0 +1,165 @@
+/*
+ * mapper.h - the LTE downlink mapper's functions for C (link libmapper.a).
+ *
+ * A plan describes one subframe of one cell: CELL, FRAME, any HIs, any USERs, END. From a plan and a payload the mapper builds the
+ * grid of resource elements of every antenna port; from a plan and a grid it reads the payload back.
+ *
+ * Answers
+ *   Every function answers an int64_t. An answer of 0 or more is a count, a length, a kind or a value, as said at each function. An
+ *   answer below 0 is a refusal: minus its number. No refusal has the number 0.
+ *
+ *     -1   the plan has an unknown command, or ends before a command's operands or before END
+ *     -2   a command is out of order, or any byte stands after END
+ *     -3   a field of CELL is out of range
+ *     -4   a field of FRAME is out of range
+ *     -5   an HI's group or sequence is beyond the count, or its pair was used before
+ *     -6   a field of USER is out of range
+ *     -7   a USER's RNTI or one of its blocks was used before
+ *     -8   mapper_owner: s, k or port lies outside the grid
+ *     -9   mapper_sample_*: the three bytes are no element
+ *    -10   the grid has not the plan's length
+ *    -11   the payload has not the plan's length
+ *    -12   mapper_build: a spare bit of the payload is set
+ *    -13   mapper_read: no payload makes this grid
+ *
+ *   1 to 7 are the plan's refusals: the first fault from left to right, in one command the least number. Every function that takes a
+ *   plan checks the whole plan first and can answer with them. Then come the buffers, 10 before 11 before 12 or 13.
+ *
+ * Buffers
+ *   A buffer is a pointer and its length in bytes. Any length and any contents are taken: wrong ones are refused. Pointers are not
+ *   NULL, also where the length is 0, and point to that many bytes. A buffer that is written (mapper_build's grid, mapper_read's
+ *   payload) overlaps no other argument. On a refusal nothing is written. mapper_grid_len and mapper_payload_len give the
+ *   lengths that a plan asks for; a plan's payload may be 0 bytes long.
+ *
+ * Threads
+ *   The functions keep no state, allocate nothing and always return. Calls may run at the same time, as long as no buffer that
+ *   one of them writes is used by another.
+ *
+ * Example
+ *
+ *     static uint8_t grid[36 * 100 * 14 * 4];        // the longest grid of any plan
+ *     static uint8_t payload[16384];
+ *     // C = 0, 15 blocks, normal prefix, one port, N_g = 1/6; frame 0, subframe 1, CFI 1; one HI; one user, QPSK, on all blocks
+ *     static const uint8_t plan[] = {
+ *         0x10, 0, 0, 15, 0, 1, 1,   0x11, 0, 0, 1, 1,   0x20, 0, 0,   0x30, 0, 1, 2, 0, 15,   0x00
+ *     };
+ *     int64_t grid_len = mapper_grid_len(plan, sizeof plan);            // 36 * 15 * 14 * 1 = 7560
+ *     int64_t payload_len = mapper_payload_len(plan, sizeof plan);      // 564: one byte for the HI, 563 for the user
+ *     if (grid_len < 0 || payload_len < 0)
+ *         return -1;                                                    // the plan is refused
+ *     int64_t n = mapper_build(plan, sizeof plan, payload, payload_len, grid, grid_len);   // 2250, the user's elements
+ *     if (n < 0)
+ *         fprintf(stderr, "refused: %d\n", (int)-n);
+ */
+#ifndef MAPPER_H
+#define MAPPER_H
+
+#include <stddef.h>
+#include <stdint.h>
+
+#ifdef __cplusplus
+extern "C" {
+#endif
+
+/*
+ * Checks a plan.
+ *
+ *   plan, plan_len   the plan's bytes
+ *
+ * Answers 0 for an accepted plan, or -1 to -7.
+ */
+int64_t mapper_check(const uint8_t *plan, size_t plan_len);
+
+/*
+ * The length of a plan's grid in bytes: 36 * N * S * P, with N blocks, S symbols (14, with the extended prefix 12) and P ports. An element
+ * on port p, symbol s, subcarrier k is the three bytes at ((p * S + s) * 12 * N + k) * 3: unit u, then I and J as signed bytes, for
+ * (I + jJ) / sqrt(u). mapper_sample_* take such three bytes.
+ *
+ * Answers the length, or -1 to -7.
+ */
+int64_t mapper_grid_len(const uint8_t *plan, size_t plan_len);
+
+/*
+ * The length of a plan's payload in bytes: the sections of PBCH (in subframe 0), of the HIs, and of each user, one after the other, each from
+ * a byte on and filled from the most significant bit. The spare bits at a section's end are 0.
+ *
+ * Answers the length, or -1 to -7.
+ */
+int64_t mapper_payload_len(const uint8_t *plan, size_t plan_len);
+
+/*
+ * Builds the grid of a plan and a payload. Every byte of the grid is written: an element without a value is silent, 0 0 0.
+ *
+ *   plan, plan_len         the plan's bytes
+ *   payload, payload_len   the payload: mapper_payload_len bytes, spare bits 0
+ *   grid, grid_len         written: mapper_grid_len bytes
+ *
+ * Answers the number of the users' elements (ports not multiplied), or -1 to -7, -10, -11, -12; the grid then stays as it was.
+ */
+int64_t mapper_build(const uint8_t *plan, size_t plan_len, const uint8_t *payload, size_t payload_len, uint8_t *grid, size_t grid_len);
+
+/*
+ * Reads the payload of a grid back: the one from which mapper_build makes this very grid.
+ *
+ *   plan, plan_len         the plan's bytes
+ *   grid, grid_len         the grid: mapper_grid_len bytes
+ *   payload, payload_len   written: mapper_payload_len bytes, spare bits 0
+ *
+ * Answers the number of the users' elements (ports not multiplied), or -1 to -7, -10, -11, and -13 exactly where no payload makes the grid; the
+ * payload then stays as it was.
+ */
+int64_t mapper_read(const uint8_t *plan, size_t plan_len, const uint8_t *grid, size_t grid_len, uint8_t *payload, size_t payload_len);
+
+/*
+ * The owner of an element. A place (s, k) has the same owner on every port.
+ *
+ *   plan, plan_len   the plan's bytes
+ *   s                the symbol in the subframe, from 0
+ *   k                the subcarrier, from 0
+ *   port             the antenna port, from 0
+ *
+ * Answers the owner's number, or -1 to -7, or -8 where s, k or port lies outside the grid:
+ *
+ *     0 to 3    CRS of that port        64 + m    PHICH unit m
+ *     16        PSS                     256 + i   user i, in the plan's order from 0
+ *     17        SSS                     512       held: left silent beside the synchronisation marks and in PBCH
+ *     32        PBCH                    513       idle
+ *     33        PCFICH
+ */
+int64_t mapper_owner(const uint8_t *plan, size_t plan_len, size_t s, size_t k, size_t port);
+
+/*
+ * The number of elements (ports not multiplied) of a kind of owners. Over the kinds 0 to 8 the counts add up to 12 * N * S.
+ *
+ *   plan, plan_len   the plan's bytes
+ *   kind             0 CRS, 1 PSS, 2 SSS, 3 PBCH, 4 PCFICH, 5 PHICH, 6 PDSCH (all users), 7 held, 8 idle
+ *
+ * Answers the count (0 for a kind above 8), or -1 to -7.
+ */
+int64_t mapper_count(const uint8_t *plan, size_t plan_len, size_t kind);
+
+/*
+ * What an element's three bytes mean as a modem sample: silence, a phase, or a pair of f32. The three functions take the same bytes:
+ *
+ *   unit, i, j   the element's bytes as they stand in a grid; I and J are i and j as signed bytes
+ *
+ * mapper_sample_kind answers 0 for silence, 1 for a phase, 2 for a pair.
+ * mapper_sample_i answers n of the phase -2 * pi * n / 63; of a pair the bits of the f32 of I / sqrt(unit); 0 for silence.
+ * mapper_sample_j answers of a pair the bits of the f32 of J / sqrt(unit); 0 for a phase and for silence.
+ *
+ * Each answers -9 where the bytes are no element: another unit than 0, 1, 2, 4, 10, 20, 42, 63, 84; unit 0 with a value; unit 63 with I not 0
+ * to 62 or J not 0; a level beyond 8 either way. The bits are an unsigned 32-bit number, never a NaN's or an infinity's:
+ *
+ *     uint32_t bits = (uint32_t)mapper_sample_i(unit, i, j);
+ *     float x;
+ *     memcpy(&x, &bits, sizeof x);
+ */
+int64_t mapper_sample_kind(uint8_t unit, uint8_t i, uint8_t j);
+int64_t mapper_sample_i(uint8_t unit, uint8_t i, uint8_t j);
+int64_t mapper_sample_j(uint8_t unit, uint8_t i, uint8_t j);
+
+#ifdef __cplusplus
+}
+#endif
+
+#endif
