@@ -63,3 +63,12 @@ mark-at k q b x m o h l ex em t =
     rw (ex, em)
     (eqb→eq (read k (marksOf (q / 2)) b) (markOf (q / 2) (signedOf b))
     (if-so (isLevel (q / 2) (signedOf b)) _ l (at-order (markTest k) t q b o h)))
+
+-- ---- of one bit, the mark is the byte's sign
+abbrev pub signTest : ℕ → Bool
+signTest b = cond (isLevel 1 (signedOf b)) (eqb (b / 128) (markOf 1 (signedOf b))) true
+
+pub qpsk-at : (q b : ℕ) → q ≡ 2 → b < 256 → isLevel (q / 2) (signedOf b) ≡ true → T (allBelow signTest 256) → b / 128 ≡ markOf (q / 2) (signedOf b)
+qpsk-at q b e h l t =
+    let n : q / 2 ≡ 1 = omega arith in
+    rw n (eqb→eq (b / 128) (markOf 1 (signedOf b)) (if-so (isLevel 1 (signedOf b)) _ (subst (λ (k : ℕ). isLevel k (signedOf b) ≡ true) n l) (below-at signTest 256 t b h)))

@@ -57,8 +57,6 @@ const QAM64: [i8; 32] = [
 
 // The marks of the levels -7, -5, .., 7 as the bytes of a number, lowest first: a level's bits at every second place of a word, so
 // that the word of a pair is twice the mark of I and the mark of J. 255 for a level that no bits have.
-const QPSK_MARKS: u64 = 18446742974231478271;
-
 const QAM16_MARKS: u64 = 18446463698311970815;
 
 const QAM64_MARKS: u64 = 361413874677715989;
@@ -88,12 +86,9 @@ pub fn symbol(q: u32, w: u32) -> Pair
 }
 
 fn marks_for(q: u32) -> u64
-    requires { ⌜ Order q ⌝ }
+    requires { ⌜ Order q × (q ≡ 2 → ⊥) ⌝ }
     ensures { λ r. ⌜ r ≡ marksOf (q / 2) ⌝ }
 {
-    if q == 2 {
-        return QPSK_MARKS;
-    }
     if q == 4 {
         return QAM16_MARKS;
     }
@@ -125,11 +120,14 @@ pub fn known(q: u32, b: u8) -> bool
     x & (255 - 2 * m) == 0
 }
 
-// The mark of a level that some bits have.
+// The mark of a level that some bits have. Of QPSK's two levels only the negative one has the bit 1.
 fn mark(q: u32, b: u8) -> u32
     requires { ⌜ Order q × (isLevel (q / 2) (signedOf b) ≡ true) ⌝ }
     ensures { λ r. ⌜ r ≡ markOf (q / 2) (signedOf b) ⌝ }
 {
+    if q == 2 {
+        return (b / 128) as u32;
+    }
     let at = (4 * base::wide(b) + 28) % 64;
     ((marks_for(q) >> at) % 256) as u32
 }

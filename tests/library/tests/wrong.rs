@@ -1,0 +1,254 @@
+//! A library made of the judge agrees with it; libraries that are wrong in one thing do not.
+
+use judge::sample::sample_numbers;
+use judge::Refusal;
+use library::calls::Library;
+use library::found::Found;
+use library::sections::{named, SECTIONS};
+use std::cell::RefCell;
+use std::slice::{from_raw_parts, from_raw_parts_mut};
+
+fn number<T>(answer: Result<T, Refusal>, value: impl Fn(T) -> usize) -> i64 {
+    answer.map_or_else(|refusal| -i64::from(refusal), |answer| value(answer) as i64)
+}
+
+unsafe extern "C" fn check(plan: *const u8, length: usize) -> i64 {
+    number(judge::check(from_raw_parts(plan, length)), |_| 0)
+}
+
+unsafe extern "C" fn grid_len(plan: *const u8, length: usize) -> i64 {
+    number(judge::grid_length(from_raw_parts(plan, length)), |length| length)
+}
+
+unsafe extern "C" fn payload_len(plan: *const u8, length: usize) -> i64 {
+    number(judge::payload_length(from_raw_parts(plan, length)), |length| length)
+}
+
+/// Writes the bytes of an accepted call.
+unsafe fn write(answer: Result<(Vec<u8>, usize), Refusal>, to: *mut u8, length: usize) -> i64 {
+    number(answer, |(bytes, count)| {
+        from_raw_parts_mut(to, length).copy_from_slice(&bytes);
+        count
+    })
+}
+
+unsafe extern "C" fn build(
+    p: *const u8,
+    pl: usize,
+    given: *const u8,
+    gl: usize,
+    to: *mut u8,
+    n: usize,
+) -> i64 {
+    write(judge::build(from_raw_parts(p, pl), from_raw_parts(given, gl), n), to, n)
+}
+
+unsafe extern "C" fn read(
+    p: *const u8,
+    pl: usize,
+    given: *const u8,
+    gl: usize,
+    to: *mut u8,
+    n: usize,
+) -> i64 {
+    write(judge::read(from_raw_parts(p, pl), from_raw_parts(given, gl), n), to, n)
+}
+
+thread_local! {
+    /// The owners of the last plan.
+    static KEPT: RefCell<(Vec<u8>, Vec<u16>)> = const { RefCell::new((vec![], vec![])) };
+}
+
+unsafe extern "C" fn owner(plan: *const u8, length: usize, s: usize, k: usize, port: usize) -> i64 {
+    let bytes = from_raw_parts(plan, length);
+    let cell = match judge::check(bytes) {
+        Ok(plan) => plan.cell,
+        Err(refusal) => return -i64::from(refusal),
+    };
+    if s >= cell.symbols() || k >= cell.subcarriers() || port >= cell.ports {
+        return -8;
+    }
+    KEPT.with_borrow_mut(|(plan, owners)| {
+        if plan != bytes {
+            (*plan, *owners) = (bytes.to_vec(), judge::owner_numbers(bytes).expect("an accepted plan"));
+        }
+        i64::from(owners[s * cell.subcarriers() + k])
+    })
+}
+
+unsafe extern "C" fn count(plan: *const u8, length: usize, kind: usize) -> i64 {
+    let counts = judge::counts(from_raw_parts(plan, length));
+    number(counts, |counts| counts.get(kind).copied().unwrap_or(0))
+}
+
+unsafe extern "C" fn sample_kind(unit: u8, i: u8, j: u8) -> i64 {
+    sample_numbers(unit, i, j)[0]
+}
+
+unsafe extern "C" fn sample_i(unit: u8, i: u8, j: u8) -> i64 {
+    sample_numbers(unit, i, j)[1]
+}
+
+unsafe extern "C" fn sample_j(unit: u8, i: u8, j: u8) -> i64 {
+    sample_numbers(unit, i, j)[2]
+}
+
+const RIGHT: Library =
+    Library { check, grid_len, payload_len, build, read, owner, count, sample_kind, sample_i, sample_j };
+
+/// What the first cases of a section find.
+fn found(library: &Library, section: &str, cases: u64) -> Found {
+    named(section).expect("a section").cases(library, 1, 0..cases)
+}
+
+/// The first difference that a section finds contains this text.
+fn caught(library: Library, section: &str, cases: u64, text: &str) {
+    let found = found(&library, section, cases);
+    assert!(found.differences > 0, "nothing found, {text} expected");
+    let told = found.text(section, 1);
+    assert!(told.contains(text), "{text} expected, found:\n{told}");
+}
+
+#[test]
+fn the_judge_agrees_with_itself() {
+    for section in &SECTIONS {
+        let cases = match section.name {
+            "samples" => 70_000,
+            "owners" => 8,
+            _ => 400,
+        };
+        let found = found(&RIGHT, section.name, cases);
+        assert_eq!((found.cases, found.differences), (cases, 0), "{}", found.text(section.name, 1));
+    }
+}
+
+/// The same for one thread and for several.
+#[test]
+fn the_number_of_threads_does_not_matter() {
+    unsafe extern "C" fn wrong(plan: *const u8, length: usize) -> i64 {
+        payload_len(plan, length) + i64::from(length % 7 == 1)
+    }
+    let library = Library { payload_len: wrong, ..RIGHT };
+    let section = named("refusals").expect("a section");
+    let (one, several) = (section.cases(&library, 5, 0..900), section.first(&library, 5, 900, |_| ()));
+    assert!(one.differences > 10);
+    assert_eq!(one.differences, several.differences);
+    assert_eq!(one.answers.text(), several.answers.text());
+    assert_eq!(one.text("refusals", 5), several.text("refusals", 5));
+}
+
+#[test]
+fn every_refusal_is_expected() {
+    let (refusals, grids) = (found(&RIGHT, "refusals", 1500), found(&RIGHT, "grids", 400));
+    for refusal in [1, 2, 3, 4, 5, 6, 7, 8, 10, 11, 12, 13] {
+        assert!(refusals.answers.refused(refusal) > 20, "{}", refusals.answers.text());
+    }
+    assert!(refusals.answers.accepted() > 1500);
+    assert!(grids.answers.accepted() > 80 && grids.answers.refused(13) > 80);
+}
+
+#[test]
+fn wrong_numbers() {
+    unsafe extern "C" fn plus(plan: *const u8, length: usize) -> i64 {
+        check(plan, length).abs()
+    }
+    caught(Library { check: plus, ..RIGHT }, "refusals", 50, "check: expected -");
+
+    unsafe extern "C" fn wrapped(plan: *const u8, length: usize, s: usize, k: usize, port: usize) -> i64 {
+        owner(plan, length, s as u32 as usize, k, port)
+    }
+    caught(Library { owner: wrapped, ..RIGHT }, "owners", 1, "expected -8");
+
+    unsafe extern "C" fn one_place(plan: *const u8, length: usize, s: usize, k: usize, port: usize) -> i64 {
+        owner(plan, length, s, k, port) + i64::from((s, k) == (5, 100))
+    }
+    caught(Library { owner: one_place, ..RIGHT }, "owners", 1, "owner of s 5, k 100");
+
+    unsafe extern "C" fn kinds(plan: *const u8, length: usize, kind: usize) -> i64 {
+        count(plan, length, kind % (1 << 32))
+    }
+    caught(Library { count: kinds, ..RIGHT }, "owners", 1, "count of kind 4294967296");
+
+    unsafe extern "C" fn minus_zero(unit: u8, i: u8, j: u8) -> i64 {
+        sample_j(unit, i, j) | if (unit, j) == (1, 0) { 1 << 31 } else { 0 }
+    }
+    caught(Library { sample_j: minus_zero, ..RIGHT }, "samples", 70_000, "80000000");
+
+    unsafe extern "C" fn counted(
+        p: *const u8,
+        pl: usize,
+        given: *const u8,
+        gl: usize,
+        to: *mut u8,
+        n: usize,
+    ) -> i64 {
+        2 * build(p, pl, given, gl, to, n)
+    }
+    caught(Library { build: counted, ..RIGHT }, "builds", 3, "build: expected");
+}
+
+/// A call that does as it should, and then changes a byte: of the buffer to fill or of those given.
+macro_rules! spoils {
+    ($name:ident, $right:ident, |$answer:ident, $plan:ident, $given:ident, $to:ident, $n:ident| $spoil:expr) => {
+        unsafe extern "C" fn $name(
+            $plan: *const u8,
+            plan_length: usize,
+            $given: *const u8,
+            given_length: usize,
+            $to: *mut u8,
+            $n: usize,
+        ) -> i64 {
+            let $answer = $right($plan, plan_length, $given, given_length, $to, $n);
+            $spoil;
+            $answer
+        }
+    };
+}
+
+#[test]
+fn wrong_bytes() {
+    spoils!(level, build, |answer, _p, _g, to, n| if answer > 0 {
+        *to.add(n / 2 + 1) ^= 0xFE
+    });
+    caught(Library { build: level, ..RIGHT }, "builds", 8, "grid: 1 of ");
+
+    spoils!(behind, build, |answer, _p, _g, to, n| if answer >= 0 {
+        *to.add(n) = 0
+    });
+    caught(Library { build: behind, ..RIGHT }, "builds", 2, "guard behind the grid: 1 of ");
+
+    spoils!(before, read, |answer, _p, _g, to, _n| if answer >= 0 {
+        *to.sub(1) = 0
+    });
+    caught(Library { read: before, ..RIGHT }, "builds", 2, "guard before the payload: 1 of ");
+
+    spoils!(on_refusal, build, |answer, _p, _g, to, _n| if answer == -12 {
+        *to = 0
+    });
+    caught(Library { build: on_refusal, ..RIGHT }, "refusals", 400, "build, answer -12: grid: 1 of ");
+
+    spoils!(first_half, read, |answer, _p, _g, to, n| if answer == -13 && n > 0 {
+        *to.add(n / 2) ^= 0x80
+    });
+    caught(Library { read: first_half, ..RIGHT }, "grids", 40, "read, answer -13: payload: 1 of ");
+
+    spoils!(given, build, |_answer, _p, given, _t, _n| *given.cast_mut() ^= 1);
+    caught(Library { build: given, ..RIGHT }, "builds", 8, "payload: 1 of ");
+
+    spoils!(plan, read, |_answer, plan, _g, _t, _n| *plan.cast_mut() ^= 1);
+    caught(Library { read: plan, ..RIGHT }, "grids", 1, "plan: 1 of ");
+}
+
+/// One reader takes any grid, one takes none.
+#[test]
+fn wrong_readers() {
+    spoils!(refused, read, |answer, _p, _g, _t, _n| if answer >= 0 {
+        return -13;
+    });
+    caught(Library { read: refused, ..RIGHT }, "grids", 80, "found -13");
+
+    spoils!(taken, read, |answer, _p, _g, _t, _n| if answer == -13 {
+        return 0;
+    });
+    caught(Library { read: taken, ..RIGHT }, "grids", 80, "read: expected -13, found 0");
+}
