@@ -12,28 +12,39 @@
  *     -2   a command is out of order, or any byte stands after END
  *     -3   a field of CELL is out of range
  *     -4   a field of FRAME is out of range
- *     -5   an HI's group or sequence is beyond the count, or its pair was used before
- *     -6   a field of USER is out of range
+ *     -5   an HI's group is not below the number of PHICH groups, its sequence not below 8 (extended prefix 4), or the pair was used before
+ *     -6   a field of USER is out of range, or first + count is above the number of blocks
  *     -7   a USER's RNTI or one of its blocks was used before
  *     -8   mapper_owner: s, k or port lies outside the grid
  *     -9   mapper_sample_*: the three bytes are no element
  *    -10   the grid has not the plan's length
  *    -11   the payload has not the plan's length
  *    -12   mapper_build: a spare bit of the payload is set
- *    -13   mapper_read: no payload makes this grid
+ *    -13   mapper_read: no accepted payload (of the right length, spare bits 0) makes this grid
  *
  *   1 to 7 are the plan's refusals: the first fault from left to right, in one command the least number. Every function that takes a
  *   plan checks the whole plan first and can answer with them. Then come the buffers, 10 before 11 before 12 or 13.
+ *
+ * Plan
+ *   Commands of one byte, in hexadecimal here, with operands of fixed widths, big-endian, in this order:
+ *
+ *     10   CELL, once: identity (2 bytes, 0 to 503), blocks N (15, 25, 50, 75, 100), prefix (0 normal, 1 extended), ports P (1, 2, 4),
+ *          N_g in sixths (1, 3, 6, 12)
+ *     11   FRAME, once: frame number (2 bytes, 0 to 1023), subframe (0 to 9), CFI (1 to 3)
+ *     20   HI, any number: PHICH group, sequence
+ *     30   USER, any number: RNTI (2 bytes, 1 to 65535), bits of a symbol (2, 4, 6), first block, number of blocks (1 or more)
+ *     00   END
  *
  * Buffers
  *   A buffer is a pointer and its length in bytes. Any length and any contents are taken: wrong ones are refused. Pointers are not
  *   NULL, also where the length is 0, and point to that many bytes. A buffer that is written (mapper_build's grid, mapper_read's
  *   payload) overlaps no other argument. On a refusal nothing is written. mapper_grid_len and mapper_payload_len give the
- *   lengths that a plan asks for; a plan's payload may be 0 bytes long.
+ *   lengths that a plan asks for; a plan's payload may be 0 bytes long. What is read comes first and what is written last:
+ *   mapper_build takes payload, grid; mapper_read takes grid, payload.
  *
  * Threads
  *   The functions keep no state, allocate nothing and always return. Calls may run at the same time, as long as no buffer that
- *   one of them writes is used by another.
+ *   one of them writes is used by another. A call needs less than 16 KiB of stack.
  *
  * Example
  *
@@ -73,7 +84,8 @@ int64_t mapper_check(const uint8_t *plan, size_t plan_len);
 /*
  * The length of a plan's grid in bytes: 36 * N * S * P, with N blocks, S symbols (14, with the extended prefix 12) and P ports. An element
  * on port p, symbol s, subcarrier k is the three bytes at ((p * S + s) * 12 * N + k) * 3: unit u, then I and J as signed bytes, for
- * (I + jJ) / sqrt(u). mapper_sample_* take such three bytes.
+ * (I + jJ) / sqrt(u). Unit 63 is a phase instead, exp(-2j * pi * I / 63) with I from 0 to 62 and J 0; unit 0 is silence, 0 0 0.
+ * mapper_sample_* take such three bytes.
  *
  * Answers the length, or -1 to -7.
  */
@@ -81,7 +93,8 @@ int64_t mapper_grid_len(const uint8_t *plan, size_t plan_len);
 
 /*
  * The length of a plan's payload in bytes: the sections of PBCH (in subframe 0), of the HIs, and of each user, one after the other, each from
- * a byte on and filled from the most significant bit. The spare bits at a section's end are 0.
+ * a byte on and filled from the most significant bit: 480 bits of PBCH (432 with the extended prefix), a bit for each HI, and for each user
+ * as many bits as its elements have. The spare bits at a section's end are 0.
  *
  * Answers the length, or -1 to -7.
  */
@@ -99,13 +112,14 @@ int64_t mapper_payload_len(const uint8_t *plan, size_t plan_len);
 int64_t mapper_build(const uint8_t *plan, size_t plan_len, const uint8_t *payload, size_t payload_len, uint8_t *grid, size_t grid_len);
 
 /*
- * Reads the payload of a grid back: the one from which mapper_build makes this very grid.
+ * Reads the payload of a grid back: the one from which mapper_build makes this very grid. Every byte counts: one that differs from
+ * what mapper_build would write, in a reference signal or a silent element too, gives -13. This is no receiver.
  *
  *   plan, plan_len         the plan's bytes
  *   grid, grid_len         the grid: mapper_grid_len bytes
  *   payload, payload_len   written: mapper_payload_len bytes, spare bits 0
  *
- * Answers the number of the users' elements (ports not multiplied), or -1 to -7, -10, -11, and -13 exactly where no payload makes the grid; the
+ * Answers the number of the users' elements (ports not multiplied), or -1 to -7, -10, -11, and -13 exactly where no accepted payload makes the grid; the
  * payload then stays as it was.
  */
 int64_t mapper_read(const uint8_t *plan, size_t plan_len, const uint8_t *grid, size_t grid_len, uint8_t *payload, size_t payload_len);
@@ -148,7 +162,8 @@ int64_t mapper_count(const uint8_t *plan, size_t plan_len, size_t kind);
  * mapper_sample_j answers of a pair the bits of the f32 of J / sqrt(unit); 0 for a phase and for silence.
  *
  * Each answers -9 where the bytes are no element: another unit than 0, 1, 2, 4, 10, 20, 42, 63, 84; unit 0 with a value; unit 63 with I not 0
- * to 62 or J not 0; a level beyond 8 either way. The bits are an unsigned 32-bit number, never a NaN's or an infinity's:
+ * to 62 or J not 0; a level beyond 8 either way. A pair's bits are an unsigned 32-bit number, never a NaN's or an infinity's; where
+ * mapper_sample_kind answers 2:
  *
  *     uint32_t bits = (uint32_t)mapper_sample_i(unit, i, j);
  *     float x;

@@ -1,6 +1,6 @@
 -- Lengths and counts of accepted plans are small, so that an i64 holds them. Assumes nothing.
 use Prim.Native.Nat.{ℕ, _^_, _≤_, _<_}
-use mathlib.Core.Path.{_≡_, refl, sym, ap, _∙_}
+use mathlib.Core.Path.{_≡_, refl, sym, ap, _∙_, subst}
 use mathlib.Core.Bool.{Bool, true, false}
 use mathlib.Core.List.{List}
 use native.Mathlib.Nat.{mul-le-mul}
@@ -27,7 +27,7 @@ use Rattle.payload.proofs.Lengths.{symbols-most, grid-most, length-room, length
 use Rattle.build.specs.Build.{refusedBy, pdschElements, valueOf as builtValue, numberedFrom, answerOf as builtAnswer}
 use Rattle.build.specs.declared.Built.{Built}
 use Rattle.build.specs.declared.Built.the-variants.{Elements as builtElements}
-use Rattle.read.specs.Read.{isMade, valueOf as readValue, numberedFrom as readFrom, answerOf as readAnswer}
+use Rattle.read.specs.Read.{isMade, valueOf as readValue, numberedFrom as readFrom, answerOf as readAnswer, Reads}
 use Rattle.read.specs.declared.ReadBack.{ReadBack}
 use Rattle.read.specs.declared.ReadBack.the-variants.{Elements as readElements}
 use Rattle.mapper.specs.Calls.{numberFrom, given, gridLengthOf, payloadLengthOf, kindElements, countOf}
@@ -124,3 +124,7 @@ module _ (w payload grid : List ℕ) where
   read-fits b e n q =
       let is : given n ≡ readFrom w (checkOf w) grid payload = ap readValue (sym q) ∙ e in
       omega (arith, ap (λ (x : Answer). x .value) is, read-from (checkOf w) refl)
+
+-- what read promises of its answer it promises of the answer's definition
+pub reads-of : {w g before after : List ℕ} {r s : ReadBack} → r ≡ s → Reads w g before r after → Reads w g before s after
+reads-of {w = w} {g = g} {before = before} {after = after} e h = subst (λ (x : ReadBack). Reads w g before x after) e h

@@ -22,8 +22,8 @@ ghost use Rattle.layout.specs.Query.{ownerQueryOf, answerOf as ownerAnswer};
 ghost use Rattle.sample.specs.Answer.{sampleOf};
 ghost use Rattle.sample.specs.Promise.{Sampled};
 ghost use Rattle.counted.specs.Gridcount.{gridcountOf};
-ghost use Rattle.build.specs.Build.{builtOf, gridAfter, answerOf as builtAnswer};
-ghost use Rattle.read.specs.Read.{readOf, payloadAfter, Reads, answerOf as readAnswer};
+ghost use Rattle.build.specs.Build.{builtOf, gridAfter, valueOf as builtValue, answerOf as builtAnswer};
+ghost use Rattle.read.specs.Read.{readOf, payloadAfter, Reads, valueOf as readValue, answerOf as readAnswer};
 ghost use Rattle.two_builds.specs.Both.{bothOf, firstAfter, secondAfter, Separate};
 ghost use Rattle.mapper.specs.Calls.{kindElements, gridLengthOf, payloadLengthOf, countOf, valueOf, checkedOf, inC, kindOf, firstOf, secondOf};
 ghost use Rattle.mapper.specs.Sizes.{Small};
@@ -106,14 +106,23 @@ pub fn sample_at(unit: u8, i: u8, j: u8) -> SampleAnswer
 
 // BUILD: the grid of a plan and a payload.
 pub fn build_grid(plan: &[u8], payload: &[u8], grid: &mut [u8]) -> Built
-    ensures { λ r. ⌜ (r ≡ builtOf (now (plan .entry)) (now (payload .entry)) (now (grid .entry))) × (now (grid .exit) ≡ gridAfter (now (plan .entry)) (now (payload .entry)) (now (grid .entry))) ⌝ }
+    ensures { λ r. ⌜
+        (r ≡ builtOf (now (plan .entry)) (now (payload .entry)) (now (grid .entry)))
+        × (builtValue r ≡ builtAnswer (now (plan .entry)) (now (payload .entry)) (now (grid .entry)))
+        × (now (grid .exit) ≡ gridAfter (now (plan .entry)) (now (payload .entry)) (now (grid .entry)))
+        ⌝ }
 {
     build::build(plan, payload, grid)
 }
 
 // READ: the payload of a grid.
 pub fn read_grid(plan: &[u8], grid: &[u8], payload: &mut [u8]) -> ReadBack
-    ensures { λ r. ⌜ (r ≡ readOf (now (plan .entry)) (now (grid .entry)) (now (payload .entry))) × (now (payload .exit) ≡ payloadAfter (now (plan .entry)) (now (grid .entry)) (now (payload .entry))) × Reads (now (plan .entry)) (now (grid .entry)) (now (payload .entry)) r (now (payload .exit)) ⌝ }
+    ensures { λ r. ⌜
+        (r ≡ readOf (now (plan .entry)) (now (grid .entry)) (now (payload .entry)))
+        × (readValue r ≡ readAnswer (now (plan .entry)) (now (grid .entry)) (now (payload .entry)))
+        × (now (payload .exit) ≡ payloadAfter (now (plan .entry)) (now (grid .entry)) (now (payload .entry)))
+        × Reads (now (plan .entry)) (now (grid .entry)) (now (payload .entry)) r (now (payload .exit))
+        ⌝ }
 {
     read::read(plan, grid, payload)
 }
@@ -208,7 +217,11 @@ pub extern "C" fn mapper_build(plan: &[u8], payload: &[u8], grid: &mut [u8]) -> 
 
 #[no_mangle]
 pub extern "C" fn mapper_read(plan: &[u8], grid: &[u8], payload: &mut [u8]) -> i64
-    ensures { λ r. ⌜ (r ≡ inC (readAnswer (now (plan .entry)) (now (grid .entry)) (now (payload .entry)))) × (now (payload .exit) ≡ payloadAfter (now (plan .entry)) (now (grid .entry)) (now (payload .entry))) ⌝ }
+    ensures { λ r. ⌜
+        (r ≡ inC (readAnswer (now (plan .entry)) (now (grid .entry)) (now (payload .entry))))
+        × (now (payload .exit) ≡ payloadAfter (now (plan .entry)) (now (grid .entry)) (now (payload .entry)))
+        × Reads (now (plan .entry)) (now (grid .entry)) (now (payload .entry)) (readOf (now (plan .entry)) (now (grid .entry)) (now (payload .entry))) (now (payload .exit))
+        ⌝ }
 {
     match read::read(plan, grid, payload) {
         ReadBack::Elements(n) => plus(n),

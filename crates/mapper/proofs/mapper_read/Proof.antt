@@ -1,6 +1,6 @@
 -- `mapper::mapper_read` meets its contract: the count of user elements is small. Assumes nothing.
 use Rattle.mapper.proofs.Numbers.{plus-back, minus-back}
-use Rattle.mapper.proofs.Bounds.{read-fits}
+use Rattle.mapper.proofs.Bounds.{read-fits, reads-of}
 use mathlib.Core.Path.{sym, ap, _∙_}
 use Rattle.read.specs.Read.{valueOf}
 use native.Mathlib.Omega.{arith}
@@ -27,13 +27,13 @@ same-length : tie.Need-same-length
 same-length c = search needs
 
 returns : tie.Need-returns
-returns c = (plus-back _ _ (c .plus .result) (c .plus .ok) (c .plus .ensures) (sym (c .before .before .before .before .before .before .read .ensures .1) ∙ ap valueOf (c .before .before .n .given .1)), c .before .before .before .before .before .before .read .ensures .2)
+returns c = (plus-back _ _ (c .plus .result) (c .plus .ok) (c .plus .ensures) (sym (c .before .before .before .before .before .before .read .ensures .1) ∙ ap valueOf (c .before .before .n .given .1)), c .before .before .before .before .before .before .read .ensures .2, reads-of (c .before .before .before .before .before .before .read .ensures .0) (c .before .before .before .before .before .before .read .ensures .3))
 
 same-length-2 : tie.Need-same-length-2
 same-length-2 c = search needs
 
 returns-2 : tie.Need-returns-2
-returns-2 c = (minus-back _ _ (c .minus .result) (c .minus .ok) (c .minus .ensures) (sym (c .before .before .before .before .before .before .read .ensures .1) ∙ ap valueOf (c .before .before .r .given .1)), c .before .before .before .before .before .before .read .ensures .2)
+returns-2 c = (minus-back _ _ (c .minus .result) (c .minus .ok) (c .minus .ensures) (sym (c .before .before .before .before .before .before .read .ensures .1) ∙ ap valueOf (c .before .before .r .given .1)), c .before .before .before .before .before .before .read .ensures .2, reads-of (c .before .before .before .before .before .before .read .ensures .0) (c .before .before .before .before .before .before .read .ensures .3))
 
 pub mapper-read-spec : {M : Type 1} → statement M
 mapper-read-spec =
