@@ -17,7 +17,7 @@ pub enum Seen {
     Differs,
 }
 
-// How many of few bytes are not 0, counted in a byte so that many are compared at once.
+// How many of at most 192 bytes are not 0, counted in a u8 so that many bytes are compared at once.
 fn marks_in(part: &[u8]) -> u8
     requires { ⌜ length (now part) ≤ 192 ⌝ }
     ensures { λ r. ⌜ r ≡ marks (now (part .entry)) ⌝ }
@@ -62,7 +62,7 @@ fn mark_of(b: u8) -> usize
     if b == 0 { 0 } else { 1 }
 }
 
-// One element beside its value.
+// One element compared with the value that is due.
 pub fn beside(a: Element, b: Element) -> Seen
     ensures { λ r. ⌜ r ≡ seenOf a b ⌝ }
 {

@@ -24,7 +24,7 @@ struct Walk {
     same: bool,
 }
 
-// A symbol that some bits have, in its unit.
+// Whether an element is a symbol of the order, in its unit.
 fn is_symbol(q: u32, unit: u8, e: Element) -> bool
     requires { ⌜ Order q ⌝ }
     ensures { λ r. ⌜ r ≡ ownFits q unit e ⌝ }
@@ -32,14 +32,14 @@ fn is_symbol(q: u32, unit: u8, e: Element) -> bool
     e.unit == unit && modulation::known(q, e.i) && modulation::known(q, e.j)
 }
 
-// Beside an even place: minus the conjugate of the other symbol of its pair.
+// On the other port at an even place: minus the conjugate of the other symbol of the pair.
 fn is_partner(unit: u8, e: Element, other: Element) -> bool
     ensures { λ r. ⌜ r ≡ partnerFits unit 0 e other ⌝ }
 {
     e.unit == unit && (base::wide(e.i) + base::wide(other.i)) % 256 == 0 && e.j == other.j
 }
 
-// Beside an odd place: the conjugate.
+// At an odd place: the conjugate.
 fn is_conjugate(unit: u8, e: Element, other: Element) -> bool
     ensures { λ r. ⌜ r ≡ partnerFits unit 1 e other ⌝ }
 {

@@ -188,7 +188,7 @@ fn read_row(start: Gather, a: Area, s: usize, q: u32, grid: &[u8], part: &mut [u
     w
 }
 
-// The last of an odd number of places. Only one port sends such a channel.
+// The last of an odd number of places, which occurs with one port only.
 fn read_last(w: Gather, q: u32, grid: &[u8]) -> Gather
     requires { ⌜ LastIn q (now grid) w ⌝ }
     ensures { λ r. ⌜ Lasted q (now (grid .entry)) w r ⌝ }
@@ -225,8 +225,8 @@ fn flush(w: Gather, part: &mut [u8])
     }
 }
 
-// The section of an area's bits, with symbols of q bits scrambled by what the pair gives; the pair after them. Callers have compared
-// the area: some bits have each symbol.
+// The section of an area's bits, with symbols of q bits scrambled by what the register pair gives; the pair after the last whole 24
+// of them. Callers have compared the area: each symbol is one of the order's.
 pub fn read_area(r: Registers, a: Area, q: u32, grid: &[u8], part: &mut [u8]) -> Registers
     requires { ⌜ SectionIn a q (now grid) × (length (now part) ≡ sectionBytes (q * areaCount a)) ⌝ }
     ensures { λ x. ⌜ (now (part .exit) ≡ sectionOf (areaBit a q (now (grid .entry)) r) (q * areaCount a)) × ((n : ℕ) × (x ≡ after r n)) ⌝ }

@@ -3,7 +3,7 @@ use base::wide;
 use plan::Checked;
 ghost use Prim.Native.Nat.{_<_};
 
-// Two numbers that hang on every byte and its position.
+// Two numbers that depend on every byte and its position.
 pub struct Digest {
     pub a: u64,
     pub b: u64,

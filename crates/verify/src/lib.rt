@@ -1,5 +1,5 @@
 // Whether some accepted payload makes a grid, found in place: every channel's elements are compared with what the payload read from
-// them would give, and the bytes that are not 0 are counted, so that every other element is silent (document 01, refusal 13).
+// them would give, and the bytes that are not 0 are counted: by their number every other element is silent (document 01, refusal 13).
 use channels::Channel;
 use compare::Seen;
 use compare::both;
