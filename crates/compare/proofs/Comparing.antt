@@ -89,17 +89,6 @@ module _ (g : List ℕ) where
       pick true = weight-le (elementIn g n)
       pick false = omega arith
 
-  -- a test that more elements pass
-  pub weight-mono : (D D′ : ℕ → Bool) (n : ℕ) → ((e : ℕ) → e < n → D e ≡ true → D′ e ≡ true) → weightIn D g n ≤ weightIn D′ g n
-  unfolding weightIn
-  weight-mono D D′ zero d = omega arith
-  weight-mono D D′ (suc n) d = omega (arith, weight-mono D D′ n (λ e l. d e (omega arith)), pick (D n) (D′ n) (d n (omega arith)))
-    where
-      pick : (b c : Bool) → (b ≡ true → c ≡ true) → cond b (weightOf (elementIn g n)) 0 ≤ cond c (weightOf (elementIn g n)) 0
-      pick true true k = omega arith
-      pick true false k = clash refl (sym (k refl))
-      pick false c k = omega arith
-
   -- no weight
   pub weight-none : (D : ℕ → Bool) (n : ℕ) → ((e : ℕ) → e < n → D e ≡ true → weightOf (elementIn g e) ≡ 0) → weightIn D g n ≡ 0
   unfolding weightIn

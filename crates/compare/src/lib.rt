@@ -63,7 +63,7 @@ fn mark_of(b: u8) -> usize
 }
 
 // One element compared with the value that is due.
-pub fn beside(a: Element, b: Element) -> Seen
+fn beside(a: Element, b: Element) -> Seen
     ensures { λ r. ⌜ r ≡ seenOf a b ⌝ }
 {
     if a.unit == b.unit && a.i == b.i && a.j == b.j {
