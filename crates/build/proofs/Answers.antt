@@ -10,8 +10,10 @@ use lib.Dec.{eqb}
 use lib.ListN.{length}
 use types.Run.{OneOf}
 use denote.Enum.Declared.{tagOf}
+use Rattle.base.proofs.Tests.{}
 use Rattle.plan.specs.Lists.{oneOf}
-use Rattle.plan.specs.Check.{checkOf}
+use Rattle.plan.specs.Answers.{given}
+use Rattle.plan.specs.Check.{checkOf, refusedAs}
 use Rattle.plan.specs.declared.Plan.{Plan}
 use Rattle.plan.specs.declared.Refusal.{Refusal}
 use Rattle.plan.specs.declared.Refusal.the-variants.{GridLength, PayloadLength, SpareBit}
@@ -23,7 +25,6 @@ use Rattle.plan.specs.Lists.{Among}
 use Rattle.plan.specs.Fields.{portCounts}
 use Rattle.plan.proofs.Counts.{blocks-most, ports-least, ports-most}
 use Rattle.plan.proofs.Valid.{valid}
-use Rattle.places.proofs.Counts.{by-test}
 use Rattle.places.proofs.Numbers.{symbols-most}
 use Rattle.layout.specs.Chain.{refusalOf}
 use Rattle.layout.specs.Owners.{symbols, carriers}
@@ -33,7 +34,7 @@ use Rattle.payload.proofs.Refusals.{grid-refused, payload-refused, spare-refuse
 use Rattle.grid.specs.Writing.{Room}
 use Rattle.subframe.specs.Grid.{gridOf}
 use Rattle.subframe.proofs.Bytes.{length-by-port}
-use Rattle.build.specs.Build.{pdschElements, answerFrom, builtOf, valueOf, numberedFrom, answerOf, gridAfter}
+use Rattle.build.specs.Build.{pdschElements, builtOf, gridAfter, builtAnswer}
 use Rattle.build.specs.Senders.{Ready}
 use Rattle.build.specs.declared.Built.{Built}
 use Rattle.build.specs.declared.Built.the-variants.{Elements, Refused}
@@ -57,52 +58,37 @@ plan-room w p ok grid right =
       size = right ∙ length-by-port p;
     }
 
--- the answer has document 01's numbers
-numbered-from : (w : List ℕ) (a : Checked) (payload grid : List ℕ) → valueOf (answerFrom w a payload grid) ≡ numberedFrom w a payload grid
-unfolding unlessBuffers unlessLengths
-numbered-from w (accepted p) payload grid =
-    by-test (eqb (length grid) (gridLength p))
-    (λ a. by-test (eqb (length payload) (payloadLength w p))
-    (λ b. by-test (spareClear w p payload) (λ d. rw (a, b, d) refl) (λ d. rw (a, b, d) refl))
-    (λ b. rw (a, b) refl))
-    (λ a. rw a refl)
-numbered-from w (refused r) payload grid = refl
-
-pub numbered-is : (w payload grid : List ℕ) → valueOf (builtOf w payload grid) ≡ answerOf w payload grid
-unfolding builtOf answerOf
-numbered-is w payload grid = numbered-from w (checkOf w) payload grid
-
 module _ (w payload grid : List ℕ) where
   abbrev Answered : Built → List ℕ → Type 0
-  Answered b g = (b ≡ builtOf w payload grid) × (valueOf b ≡ answerOf w payload grid) × (g ≡ gridAfter w payload grid)
+  Answered b g = (builtAnswer b ≡ builtOf w payload grid) × (g ≡ gridAfter w payload grid)
 
-  answered : {b : Built} {g : List ℕ} → b ≡ builtOf w payload grid → g ≡ gridAfter w payload grid → Answered b g
-  answered e f = (e, ap valueOf e ∙ numbered-is w payload grid, f)
+  answered : (b : Built) {g : List ℕ} → builtAnswer b ≡ builtOf w payload grid → g ≡ gridAfter w payload grid → Answered b g
+  answered b e f = (e, f)
 
   pub way-refused : (a : Checked) → a ≡ checkOf w → OneOf (1 ∷ []) (tagOf the-type a) → (r : Refusal) → r ≡ refusalOf a → Answered (Refused r) grid
   unfolding oneOf builtOf gridAfter
   way-refused (accepted p) e h r q = absurd (not-in (1 ∷ []) 0 h refl)
-  way-refused (refused x) e h r q = answered (ap Refused q ∙ rw (← e) refl) (rw (← e) refl)
+  way-refused (refused x) e h r q = answered (Refused r) (ap refusedAs q ∙ rw (← e) refl) (rw (← e) refl)
 
   module _ (p : Plan) (ok : checkOf w ≡ accepted p) where
     pub way-grid : (n : ℕ) → n ≡ gridLength p → (length grid ≡ n → ⊥) → Answered (Refused GridLength) grid
     unfolding builtOf gridAfter unlessBuffers
     way-grid n e h =
         let k : length grid ≡ gridLength p → ⊥ = λ x. h (x ∙ sym e) in
-        answered (rw ok (sym (grid-refused Refused w p grid payload _ k))) (rw ok (sym (grid-refused (λ (r : Refusal). grid) w p grid payload _ k)))
+        answered (Refused GridLength) (rw ok (sym (grid-refused refusedAs w p grid payload _ k))) (rw ok (sym (grid-refused (λ (r : Refusal). grid) w p grid payload _ k)))
 
     module _ (right : length grid ≡ gridLength p) where
       pub way-payload : (n : ℕ) → n ≡ payloadLength w p → (length payload ≡ n → ⊥) → Answered (Refused PayloadLength) grid
       unfolding builtOf gridAfter unlessBuffers
       way-payload n e h =
           let k : length payload ≡ payloadLength w p → ⊥ = λ x. h (x ∙ sym e) in
-          answered (rw ok (sym (payload-refused Refused w p grid payload _ right k))) (rw ok (sym (payload-refused (λ (r : Refusal). grid) w p grid payload _ right k)))
+          answered (Refused PayloadLength) (rw ok (sym (payload-refused refusedAs w p grid payload _ right k))) (rw ok (sym (payload-refused (λ (r : Refusal). grid) w p grid payload _ right k)))
 
       module _ (size : length payload ≡ payloadLength w p) (b : Bool) (eb : b ≡ spareClear w p payload) where
         pub way-spare : b ≡ false → Answered (Refused SpareBit) grid
         unfolding builtOf gridAfter
         way-spare h =
-            answered (rw ok (sym (spare-refused w p payload Refused grid right _ size (sym eb ∙ h)))) (rw ok (sym (spare-refused w p payload (λ (r : Refusal). grid) grid right _ size (sym eb ∙ h))))
+            answered (Refused SpareBit) (rw ok (sym (spare-refused w p payload refusedAs grid right _ size (sym eb ∙ h)))) (rw ok (sym (spare-refused w p payload (λ (r : Refusal). grid) grid right _ size (sym eb ∙ h))))
 
         accepted-is : b ≡ true → AcceptedPayload w p payload
         accepted-is h = accepted-payload w p payload size (sym eb ∙ h)
@@ -113,4 +99,4 @@ module _ (w payload grid : List ℕ) where
         pub way-built : b ≡ true → (n : ℕ) → n ≡ pdschElements w p → (g : List ℕ) → g ≡ gridOf w p payload → Answered (Elements n) g
         unfolding builtOf gridAfter
         way-built h n en g eg =
-            answered (ap Elements en ∙ rw ok (sym (buffers-right w p payload Refused grid right _ (accepted-is h)))) (eg ∙ rw ok (sym (buffers-right w p payload (λ (r : Refusal). grid) grid right _ (accepted-is h))))
+            answered (Elements n) (ap given en ∙ rw ok (sym (buffers-right w p payload refusedAs grid right _ (accepted-is h)))) (eg ∙ rw ok (sym (buffers-right w p payload (λ (r : Refusal). grid) grid right _ (accepted-is h))))

@@ -5,7 +5,7 @@ use mathlib.Core.Bool.{Bool, true, false}
 use native.Mathlib.Omega.{arith}
 use borrow.Author.Tests.{eq-eqb, ne-eqb, lt-ltb, le-ltb}
 use lib.Dec.{eqb, ltb}
-use Rattle.layout.specs.Choice.{if_then_else_}
+use Rattle.base.specs.Choice.{if_then_else_}
 use Rattle.layout.specs.Rules.{inSlot, crsSymbol}
 
 module _ (L L′ q l l′ : ℕ) (eL : L ≡ L′) (el : l ≡ l′) where

@@ -9,6 +9,7 @@ use native.Mathlib.Omega.{arith}
 use borrow.Author.Tests.{ne-eqb, ltb-true}
 use lib.Dec.{eqb, ltb}
 use lib.ListN.{length}
+use Rattle.base.proofs.Tests.{clash}
 use Rattle.base.specs.declared.Pair.{Pair}
 use Rattle.base.specs.Bytes.{silent}
 use Rattle.modulation.specs.Symbols.{unitOf}
@@ -29,7 +30,6 @@ use Rattle.layout.specs.declared.Owner.{Owner}
 use Rattle.layout.specs.declared.Owner.the-variants.{Crs, Sync, Pbch, Pcfich, Phich, User as UserOf, Held, Idle}
 use Rattle.layout.proofs.OneOwner.{one-owner}
 use Rattle.places.specs.Places.{placeNumber, symbolNumber, carrierOf, placesOf, ownsAt, placeCount, indexOf}
-use Rattle.places.proofs.Counts.{clash}
 use Rattle.places.proofs.Listing.{pcfich-count, phich-count}
 use Rattle.grid.specs.Writing.{sends}
 use Rattle.grid.proofs.Sending.{silent-port}

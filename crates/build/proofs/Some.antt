@@ -6,8 +6,8 @@ use native.Mathlib.Decide.{ℕ-discrete}
 use native.Mathlib.Nat.{not-suc-le-zero}
 use native.Mathlib.Numerals.{add-one}
 use native.Mathlib.Omega.{arith}
+use Rattle.base.proofs.Tests.{clash}
 use Rattle.plan.proofs.Listed.{and-left, and-right}
-use Rattle.places.proofs.Counts.{clash}
 use Rattle.build.specs.Senders.{someBelow}
 
 pub or-false : (a b : Bool) → a || b ≡ false → (a ≡ false) × (b ≡ false)

@@ -36,7 +36,7 @@ use Rattle.subframe.proofs.Bytes.{length-by-port}
 use Rattle.signals.specs.Signals.{markSends, pssSent, sssSent}
 use Rattle.channels.specs.declared.Channel.{Channel}
 use Rattle.channels.specs.declared.Channel.the-variants.{Crs, Pbch as PbchChannel, Pcfich as PcfichChannel, Phich as PhichChannel, User as UserChannel}
-use Rattle.channels.specs.Channels.{initOf, firstOf, sendsOf, sentOf, Among, ChannelIn}
+use Rattle.channels.specs.Channels.{initOf, firstBit, sendsOf, sentOf, Among, ChannelIn}
 use Rattle.build.specs.Senders.{someBelow, ownerSends, crsIn, crsPorts, crsRows, marksSend, pbchSends, unitsSend, usersSend, allSend, Ready}
 use Rattle.build.proofs.Some.{some-none, some-more}
 use Rattle.build.proofs.DataValues.{pbch-area, pbch-value, user-area, user-value}
@@ -107,9 +107,9 @@ module _ (w : List ℕ) (p : Plan) (payload : List ℕ) {g₀ : List ℕ} (start
 
       pub crs-more :
           (bits : List ℕ) {h : List ℕ} → crsSymbol (slotOfCell (p .cell)) q (inSlot (slotOfCell (p .cell)) s) ≡ true → q < p .cell .ports
-          → Written (sendsOf p (Crs s q)) (sentOf w p bits (pairAt (initOf p (Crs s q)) (firstOf p (Crs s q))) (Crs s q)) g h
+          → Written (sendsOf p (Crs s q)) (sentOf w p bits (pairAt (initOf p (Crs s q)) (firstBit p (Crs s q))) (Crs s q)) g h
           → Written (crsPorts p s (q + 1)) E g₀ h
-      unfolding crsPorts crsIn sendsOf sentOf initOf firstOf
+      unfolding crsPorts crsIn sendsOf sentOf initOf firstBit
       crs-more bits y l r = turn-more (crsIn p s) q so-far r (λ e. rw y refl) (λ e k. crs-numbered w p ok payload s q e l y k)
 
     pub crs-end : (q : ℕ) {g : List ℕ} → q ≤ p .cell .ports → p .cell .ports ≤ q → Written (crsPorts p s q) E g₀ g → Written (crsPorts p s (p .cell .ports)) E g₀ g
@@ -146,18 +146,18 @@ module _ (w : List ℕ) (p : Plan) (payload : List ℕ) {g₀ : List ℕ} (start
 
   pub pbch-written :
       {g : List ℕ} (end : ℕ) → p .frame .subframe ≡ 0 → end ≡ sectionBytes (pbchBits (p .cell) (p .frame))
-      → Written (sendsOf p PbchChannel) (sentOf w p (take (end - 0) (drop 0 payload)) (pairAt (initOf p PbchChannel) (firstOf p PbchChannel)) PbchChannel) g₀ g
+      → Written (sendsOf p PbchChannel) (sentOf w p (take (end - 0) (drop 0 payload)) (pairAt (initOf p PbchChannel) (firstBit p PbchChannel)) PbchChannel) g₀ g
       → Written (pbchSends w p) E g₀ g
-  unfolding pbchSends sendsOf sentOf initOf firstOf
+  unfolding pbchSends sendsOf sentOf initOf firstBit
   pbch-written end z ee r =
       same (λ e. pbch-area w p ok payload payload (start .room) z e ∙ sym (rw (eq-eqb (p .frame .subframe) 0 z) refl))
       (λ e k. pbch-value w p ok payload (take (end - 0) (drop 0 payload)) (start .room) z (pbch-slice w p ok payload end ee) e k) r
 
   -- ---- PCFICH
   pub pcfich-written :
-      (bits : List ℕ) {g : List ℕ} → Written (sendsOf p PcfichChannel) (sentOf w p bits (pairAt (initOf p PcfichChannel) (firstOf p PcfichChannel)) PcfichChannel) g₀ g
+      (bits : List ℕ) {g : List ℕ} → Written (sendsOf p PcfichChannel) (sentOf w p bits (pairAt (initOf p PcfichChannel) (firstBit p PcfichChannel)) PcfichChannel) g₀ g
       → Written (ownerSends w p Pcfich) E g₀ g
-  unfolding sendsOf sentOf initOf firstOf
+  unfolding sendsOf sentOf initOf firstBit
   pcfich-written bits r = same (λ e. pcfich-owned w p ok payload (start .room) e) (λ e k. pcfich-numbered w p ok payload (start .room) e k) r
 
   -- ---- PHICH
@@ -168,9 +168,9 @@ module _ (w : List ℕ) (p : Plan) (payload : List ℕ) {g₀ : List ℕ} (start
   pub units-more :
       (m : ℕ) {g h : List ℕ} (from end : ℕ) → m < unitsOf (p .cell) → from ≡ sectionBytes (pbchBits (p .cell) (p .frame)) → end ≡ usersStart p
       → Written (unitsSend w p m) E g₀ g
-      → Written (sendsOf p (PhichChannel m)) (sentOf w p (take (end - from) (drop from payload)) (pairAt (initOf p (PhichChannel m)) (firstOf p (PhichChannel m))) (PhichChannel m)) g h
+      → Written (sendsOf p (PhichChannel m)) (sentOf w p (take (end - from) (drop from payload)) (pairAt (initOf p (PhichChannel m)) (firstBit p (PhichChannel m))) (PhichChannel m)) g h
       → Written (unitsSend w p (m + 1)) E g₀ h
-  unfolding unitsSend sendsOf sentOf initOf firstOf
+  unfolding unitsSend sendsOf sentOf initOf firstBit
   units-more m from end l ef ee so-far r =
       turn-more (λ (i e : ℕ). ownerSends w p (Phich i) e) m so-far r (λ e. phich-owned w p ok payload (start .room) m l e)
       (λ e k. phich-numbered w p ok payload (start .room) m l (take (end - from) (drop from payload)) (hi-slice w p ok payload from end ef ee) e k)
@@ -212,9 +212,9 @@ module _ (w : List ℕ) (p : Plan) (payload : List ℕ) {g₀ : List ℕ} (start
 
       pub going-next :
           {h : List ℕ} (to : ℕ) → to ≡ nextOf w at
-          → Written (sendsOf p (UserChannel u)) (sentOf w p (take (end - from) (drop from payload)) (pairAt (initOf p (UserChannel u)) (firstOf p (UserChannel u))) (UserChannel u)) g h
+          → Written (sendsOf p (UserChannel u)) (sentOf w p (take (end - from) (drop from payload)) (pairAt (initOf p (UserChannel u)) (firstBit p (UserChannel u))) (UserChannel u)) g h
           → Going to end (i + 1) h
-      unfolding usersSend sendsOf sentOf initOf firstOf
+      unfolding usersSend sendsOf sentOf initOf firstBit
       going-next to et r =
           record {
             most = omega arith;

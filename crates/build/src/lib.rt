@@ -18,7 +18,7 @@ ghost use Rattle.grid.specs.Writing.{Written};
 ghost use Rattle.subframe.specs.Grid.{elementNumbered, gridOf};
 ghost use Rattle.build.specs.Senders.{crsPorts, crsRows, marksSend, pbchSends, ownerSends, unitsSend, usersSend, Ready};
 ghost use Rattle.layout.specs.declared.Owner.the-variants.{Pcfich};
-ghost use Rattle.build.specs.Build.{builtOf, valueOf, answerOf, gridAfter};
+ghost use Rattle.build.specs.Build.{builtOf, gridAfter, builtAnswer};
 
 // The count of user elements, ports not multiplied, or the refusal.
 pub enum Built {
@@ -136,7 +136,7 @@ pub fn fill(plan: &[u8], p: Plan, payload: &[u8], grid: &mut [u8])
 
 // BUILD: the grid of a plan and a payload. It goes on only if the plan check answers with a plan.
 pub fn build(plan: &[u8], payload: &[u8], grid: &mut [u8]) -> Built
-    ensures { λ r. ⌜ (r ≡ builtOf (now (plan .entry)) (now (payload .entry)) (now (grid .entry))) × (valueOf r ≡ answerOf (now (plan .entry)) (now (payload .entry)) (now (grid .entry))) × (now (grid .exit) ≡ gridAfter (now (plan .entry)) (now (payload .entry)) (now (grid .entry))) ⌝ }
+    ensures { λ r. ⌜ (builtAnswer r ≡ builtOf (now (plan .entry)) (now (payload .entry)) (now (grid .entry))) × (now (grid .exit) ≡ gridAfter (now (plan .entry)) (now (payload .entry)) (now (grid .entry))) ⌝ }
 {
     let checked = plan::check(plan);
     let Checked::Plan(p) = checked else {

@@ -8,7 +8,7 @@ use borrow.Author.Tests.{lt-ltb, le-ltb, eq-eqb, ne-eqb}
 use Rattle.crs.specs.Crs.{crsInit}
 use Rattle.plan.specs.declared.Cell.{Cell}
 use Rattle.plan.specs.declared.Frame.{Frame}
-use Rattle.layout.specs.Choice.{if_then_else_}
+use Rattle.base.specs.Choice.{if_then_else_}
 use Rattle.layout.specs.Rules.{slotOf, inSlot}
 use Rattle.subframe.specs.Elements.{pbchFirst}
 

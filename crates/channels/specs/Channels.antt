@@ -34,12 +34,12 @@ initOf p Pcfich = controlInit (p .cell) (p .frame)
 initOf p (Phich m) = controlInit (p .cell) (p .frame)
 initOf p (User u) = userInit (p .cell) (p .frame) u
 
-unfoldable pub firstOf : Plan → Channel → ℕ
-firstOf p (Crs s q) = 2 * (110 - p .cell .blocks)
-firstOf p Pbch = pbchFirst (p .cell) (p .frame)
-firstOf p Pcfich = 0
-firstOf p (Phich m) = 0
-firstOf p (User u) = 0
+unfoldable pub firstBit : Plan → Channel → ℕ
+firstBit p (Crs s q) = 2 * (110 - p .cell .blocks)
+firstBit p Pbch = pbchFirst (p .cell) (p .frame)
+firstBit p Pcfich = 0
+firstBit p (Phich m) = 0
+firstBit p (User u) = 0
 
 -- the elements that it writes, and what it writes there with the pair r
 unfoldable pub sendsOf : Plan → Channel → ℕ → Bool

@@ -15,7 +15,7 @@ ghost use Rattle.layout.specs.Rules.{slotOf, inSlot};
 ghost use Rattle.layout.specs.Owners.{slotOfCell, symbols};
 ghost use Rattle.grid.specs.Writing.{Written};
 ghost use Rattle.subframe.specs.Elements.{pbchFirst, controlInit, userInit};
-ghost use Rattle.channels.specs.Channels.{initOf, firstOf, sendsOf, sentOf, Among, ChannelIn};
+ghost use Rattle.channels.specs.Channels.{initOf, firstBit, sendsOf, sentOf, Among, ChannelIn};
 
 // Which channel: a port's reference signal in a symbol, PBCH, PCFICH, a PHICH unit, a user.
 pub enum Channel {
@@ -87,7 +87,7 @@ fn c_init(p: Plan, ch: Channel) -> u32
 // The bit of its sequence at which the channel starts. Callers have the plan from the plan check: at most 100 blocks.
 fn first_bit(p: Plan, ch: Channel) -> usize
     requires { ⌜ CellIn (p .cell) ⌝ }
-    ensures { λ r. ⌜ r ≡ firstOf p ch ⌝ }
+    ensures { λ r. ⌜ r ≡ firstBit p ch ⌝ }
 {
     let cell = p.cell;
     let frame = p.frame;
@@ -103,7 +103,7 @@ fn first_bit(p: Plan, ch: Channel) -> usize
 // The pair at the start of the channel's bits.
 pub fn started(p: Plan, ch: Channel) -> Registers
     requires { ⌜ CellIn (p .cell) × FrameIn (p .frame) × Among p ch ⌝ }
-    ensures { λ r. ⌜ r ≡ pairAt (initOf p ch) (firstOf p ch) ⌝ }
+    ensures { λ r. ⌜ r ≡ pairAt (initOf p ch) (firstBit p ch) ⌝ }
 {
     gold::pair_at(c_init(p, ch), first_bit(p, ch))
 }
@@ -152,7 +152,7 @@ pub fn fill(r: &mut Registers, p: Plan, ch: Channel, plan: &[u8], bits: &[u8], g
 // The channel filled, with a pair of its own that it lends. Its parameters are plain, so that its callers need no proof by hand.
 pub fn map(p: Plan, ch: Channel, plan: &[u8], bits: &[u8], grid: &mut [u8])
     requires { ⌜ ChannelIn (now plan) p ch (now grid) ⌝ }
-    ensures { λ _. ⌜ Written (sendsOf p ch) (sentOf (now (plan .entry)) p (now (bits .entry)) (pairAt (initOf p ch) (firstOf p ch)) ch) (now (grid .entry)) (now (grid .exit)) ⌝ }
+    ensures { λ _. ⌜ Written (sendsOf p ch) (sentOf (now (plan .entry)) p (now (bits .entry)) (pairAt (initOf p ch) (firstBit p ch)) ch) (now (grid .entry)) (now (grid .exit)) ⌝ }
 {
     let mut r = started(p, ch);
     fill(&mut r, p, ch, plan, bits, grid);

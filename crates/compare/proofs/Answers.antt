@@ -6,15 +6,15 @@ use borrow.Author.Tests.{eq-eqb, ne-eqb}
 use Rattle.base.specs.declared.Element.{Element}
 use Rattle.compare.specs.declared.Seen.{Seen}
 use Rattle.compare.specs.declared.Seen.the-variants.{Weight, Differs}
-use Rattle.compare.specs.Comparing.{mark, weightOf, seenOf, bothOf, Few}
-use Rattle.compare.proofs.Comparing.{mark-le}
+use Rattle.compare.specs.Comparing.{nonzero, weightOf, seenOf, bothOf, Few}
+use Rattle.compare.proofs.Comparing.{nonzero-le}
 
-pub mark-few : (b : ℕ) {n : ℕ} → n ≡ mark b → n ≤ 1
-mark-few b e = omega (arith, e, mark-le b)
+pub mark-few : (b : ℕ) {n : ℕ} → n ≡ nonzero b → n ≤ 1
+mark-few b e = omega (arith, e, nonzero-le b)
 
 module _ (a b : Element) where
   pub all-same :
-      {x y z : ℕ} → a .unit ≡ b .unit → a .i ≡ b .i → a .j ≡ b .j → x ≡ mark (a .unit) → y ≡ mark (a .i) → z ≡ mark (a .j)
+      {x y z : ℕ} → a .unit ≡ b .unit → a .i ≡ b .i → a .j ≡ b .j → x ≡ nonzero (a .unit) → y ≡ nonzero (a .i) → z ≡ nonzero (a .j)
       → Weight (x + y + z) ≡ seenOf a b
   unfolding seenOf weightOf
   all-same u i j ex ey ez = rw (eq-eqb (a .unit) (b .unit) u, eq-eqb (a .i) (b .i) i, eq-eqb (a .j) (b .j) j, ex, ey, ez) refl

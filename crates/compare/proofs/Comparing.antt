@@ -10,52 +10,46 @@ use native.Mathlib.Omega.{arith}
 use borrow.Author.Tests.{eqb-true, eq-eqb, ne-eqb, not-true}
 use lib.Dec.{eqb}
 use lib.ListN.{length, getD}
+use Rattle.base.proofs.Tests.{by-test, clash}
 use Rattle.base.specs.declared.Element.{Element}
 use Rattle.base.specs.Bytes.{silent}
 use Rattle.grid.specs.Elements.{elementIn}
 use Rattle.grid.specs.Writing.{Room}
 use Rattle.compare.specs.declared.Seen.{Seen}
 use Rattle.compare.specs.declared.Seen.the-variants.{Weight, Differs}
-use Rattle.compare.specs.Comparing.{Holds, mark, marks, weightOf, weightIn, Compared, sameElement, seenOf, bothOf, Few}
-
-by-test : {X : Type 0} (b : Bool) → (b ≡ true → X) → (b ≡ false → X) → X
-by-test true t f = t refl
-by-test false t f = f refl
-
-clash : {X : Type 0} {b : Bool} → b ≡ true → b ≡ false → X
-clash p q = absurd (true≢false (sym p ∙ q))
+use Rattle.compare.specs.Comparing.{Holds, nonzero, nonzeros, weightOf, weightIn, Compared, sameElement, seenOf, bothOf, Few}
 
 -- ---- bytes that are not 0
-pub mark-one : (b : ℕ) → (b ≡ 0 → ⊥) → mark b ≡ 1
-unfolding mark
-mark-one b n = rw (ne-eqb b 0 n) refl
+pub nonzero-one : (b : ℕ) → (b ≡ 0 → ⊥) → nonzero b ≡ 1
+unfolding nonzero
+nonzero-one b n = rw (ne-eqb b 0 n) refl
 
-pub mark-none : (b : ℕ) → b ≡ 0 → mark b ≡ 0
-unfolding mark
-mark-none b e = rw (eq-eqb b 0 e) refl
+pub nonzero-none : (b : ℕ) → b ≡ 0 → nonzero b ≡ 0
+unfolding nonzero
+nonzero-none b e = rw (eq-eqb b 0 e) refl
 
-pub mark-le : (b : ℕ) → mark b ≤ 1
-unfolding mark
-mark-le b = by-test (eqb b 0) (λ e. rw e (omega arith)) (λ e. rw e (omega arith))
+pub nonzero-le : (b : ℕ) → nonzero b ≤ 1
+unfolding nonzero
+nonzero-le b = by-test (eqb b 0) (λ e. rw e (omega arith)) (λ e. rw e (omega arith))
 
-mark-zero : (b : ℕ) → mark b ≡ 0 → b ≡ 0
-unfolding mark
-mark-zero b h = by-test (eqb b 0) (λ e. eqb-true b 0 e) (λ e. absurd (let z : _≡_ {A = ℕ} 1 0 = subst (λ (t : Bool). _≡_ {A = ℕ} (cond t 0 1) 0) e h in omega arith))
+nonzero-zero : (b : ℕ) → nonzero b ≡ 0 → b ≡ 0
+unfolding nonzero
+nonzero-zero b h = by-test (eqb b 0) (λ e. eqb-true b 0 e) (λ e. absurd (let z : _≡_ {A = ℕ} 1 0 = subst (λ (t : Bool). _≡_ {A = ℕ} (cond t 0 1) 0) e h in omega arith))
 
 weight-le : (el : Element) → weightOf el ≤ 3
 unfolding weightOf
-weight-le el = omega (arith, mark-le (el .unit), mark-le (el .i), mark-le (el .j))
+weight-le el = omega (arith, nonzero-le (el .unit), nonzero-le (el .i), nonzero-le (el .j))
 
 weight-silent : (g : List ℕ) (e : ℕ) → weightOf (elementIn g e) ≡ 0 → elementIn g e ≡ silent
 unfolding weightOf elementIn silent
 weight-silent g e h =
-    let a : getD g (3 * e) 0 ≡ 0 = mark-zero (getD g (3 * e) 0) (omega arith) in
-    let b : getD g (3 * e + 1) 0 ≡ 0 = mark-zero (getD g (3 * e + 1) 0) (omega arith) in
-    let c : getD g (3 * e + 2) 0 ≡ 0 = mark-zero (getD g (3 * e + 2) 0) (omega arith) in
+    let a : getD g (3 * e) 0 ≡ 0 = nonzero-zero (getD g (3 * e) 0) (omega arith) in
+    let b : getD g (3 * e + 1) 0 ≡ 0 = nonzero-zero (getD g (3 * e + 1) 0) (omega arith) in
+    let c : getD g (3 * e + 2) 0 ≡ 0 = nonzero-zero (getD g (3 * e + 2) 0) (omega arith) in
     rw (a, b, c) refl
 
 silent-weight : weightOf silent ≡ 0
-unfolding weightOf silent mark
+unfolding weightOf silent nonzero
 silent-weight = refl
 
 -- ---- the weight of the elements that pass a test
@@ -211,16 +205,16 @@ look-compared g e el l = pick (sameElement (elementIn g e) el) refl
 -- of the first n bytes
 abbrev upTo : List ℕ → ℕ → ℕ
 upTo g zero = 0
-upTo g (suc n) = upTo g n + mark (getD g n 0)
+upTo g (suc n) = upTo g n + nonzero (getD g n 0)
 
-up-cons : (b : ℕ) (bs : List ℕ) (n : ℕ) → upTo (b ∷ bs) (suc n) ≡ mark b + upTo bs n
+up-cons : (b : ℕ) (bs : List ℕ) (n : ℕ) → upTo (b ∷ bs) (suc n) ≡ nonzero b + upTo bs n
 up-cons b bs zero = omega arith
 up-cons b bs (suc n) = omega (arith, up-cons b bs n)
 
-up-all : (g : List ℕ) → upTo g (length g) ≡ marks g
-unfolding marks
+up-all : (g : List ℕ) → upTo g (length g) ≡ nonzeros g
+unfolding nonzeros
 up-all [] = refl
-up-all (b ∷ bs) = up-cons b bs (length bs) ∙ ap (λ (x : ℕ). mark b + x) (up-all bs)
+up-all (b ∷ bs) = up-cons b bs (length bs) ∙ ap (λ (x : ℕ). nonzero b + x) (up-all bs)
 
 up-three : (g : List ℕ) (n : ℕ) → weightIn (λ (e : ℕ). true) g n ≡ upTo g (3 * n)
 unfolding weightIn weightOf elementIn
@@ -231,7 +225,7 @@ up-three g (suc n) =
     let e₂ : 3 * n + 2 ≡ suc (suc (3 * n)) = omega arith in
     rw (e, e₁, e₂) (omega (arith, up-three g n))
 
-pub weight-all : (g : List ℕ) → length g % 3 ≡ 0 → weightIn (λ (e : ℕ). true) g (length g / 3) ≡ marks g
+pub weight-all : (g : List ℕ) → length g % 3 ≡ 0 → weightIn (λ (e : ℕ). true) g (length g / 3) ≡ nonzeros g
 weight-all g h = let e : 3 * (length g / 3) ≡ length g = omega arith in up-three g (length g / 3) ∙ ap (upTo g) e ∙ up-all g
 
 -- the elements that pass and those that don't
@@ -249,7 +243,7 @@ weight-rest D g n =
     apart false h k = clash h refl
 
 pub rest-silent :
-    (D : ℕ → Bool) (g : List ℕ) → length g % 3 ≡ 0 → weightIn D g (length g / 3) ≡ marks g
+    (D : ℕ → Bool) (g : List ℕ) → length g % 3 ≡ 0 → weightIn D g (length g / 3) ≡ nonzeros g
     → (e : ℕ) → e < length g / 3 → D e ≡ false → elementIn g e ≡ silent
 rest-silent D g m h e l k =
     weight-silent g e
@@ -257,7 +251,7 @@ rest-silent D g m h e l k =
 
 pub silent-rest :
     (D : ℕ → Bool) (g : List ℕ) → length g % 3 ≡ 0 → ((e : ℕ) → e < length g / 3 → D e ≡ false → elementIn g e ≡ silent)
-    → weightIn D g (length g / 3) ≡ marks g
+    → weightIn D g (length g / 3) ≡ nonzeros g
 silent-rest D g m h =
     let z = weight-none g (λ (x : ℕ). not (D x)) (length g / 3) (λ e l k. ap weightOf (h e l (not-true (D e) k)) ∙ silent-weight) in
     omega (arith, z, weight-all g m, weight-rest D g (length g / 3))

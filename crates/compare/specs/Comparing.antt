@@ -16,17 +16,17 @@ pub record Holds (D : ℕ → Bool) (W : ℕ → Element) (g : List ℕ) : Type 
   pub elements : (e : ℕ) → D e ≡ true → elementIn g e ≡ W e
 
 -- 1 for a byte that is not 0
-unfoldable pub mark : ℕ → ℕ
-mark b = cond (eqb b 0) 0 1
+unfoldable pub nonzero : ℕ → ℕ
+nonzero b = cond (eqb b 0) 0 1
 
 -- how many bytes of a list are not 0
-unfoldable pub marks : List ℕ → ℕ
-marks [] = 0
-marks (b ∷ bs) = mark b + marks bs
+unfoldable pub nonzeros : List ℕ → ℕ
+nonzeros [] = 0
+nonzeros (b ∷ bs) = nonzero b + nonzeros bs
 
 -- of an element
 unfoldable pub weightOf : Element → ℕ
-weightOf el = mark (el .unit) + mark (el .i) + mark (el .j)
+weightOf el = nonzero (el .unit) + nonzero (el .i) + nonzero (el .j)
 
 -- of those elements below n that pass the test
 unfoldable pub weightIn : (ℕ → Bool) → List ℕ → ℕ → ℕ

@@ -9,7 +9,7 @@ ghost use Rattle.base.specs.Pairs.{Small};
 ghost use Rattle.precoding.specs.Places.{onPort};
 ghost use Rattle.grid.specs.Elements.{elementIn};
 ghost use Rattle.grid.specs.Writing.{sentAt, Room};
-ghost use Rattle.compare.specs.Comparing.{mark, marks, seenOf, bothOf, Few, Compared};
+ghost use Rattle.compare.specs.Comparing.{nonzero, nonzeros, seenOf, bothOf, Few, Compared};
 
 // What a comparison of elements with their values found: how many of their bytes are not 0, or a difference.
 pub enum Seen {
@@ -18,9 +18,9 @@ pub enum Seen {
 }
 
 // How many of at most 192 bytes are not 0, counted in a u8 so that many bytes are compared at once.
-fn marks_in(part: &[u8]) -> u8
+fn nonzeros_in(part: &[u8]) -> u8
     requires { ⌜ length (now part) ≤ 192 ⌝ }
-    ensures { λ r. ⌜ r ≡ marks (now (part .entry)) ⌝ }
+    ensures { λ r. ⌜ r ≡ nonzeros (now (part .entry)) ⌝ }
 {
     let mut n: u8 = 0;
     let mut i: usize = 0;
@@ -43,21 +43,21 @@ fn part_end(i: usize, length: usize) -> usize
 
 // How many bytes of a grid are not 0.
 pub fn weight(grid: &[u8]) -> usize
-    ensures { λ r. ⌜ r ≡ marks (now (grid .entry)) ⌝ }
+    ensures { λ r. ⌜ r ≡ nonzeros (now (grid .entry)) ⌝ }
 {
     let mut n: usize = 0;
     let mut i: usize = 0;
     while i < grid.len() {
         let end = part_end(i, grid.len());
-        n += base::wide(marks_in(&grid[i..end]));
+        n += base::wide(nonzeros_in(&grid[i..end]));
         i = end;
     }
     n
 }
 
 // 1 for a byte that is not 0.
-fn mark_of(b: u8) -> usize
-    ensures { λ r. ⌜ r ≡ mark b ⌝ }
+fn nonzero_of(b: u8) -> usize
+    ensures { λ r. ⌜ r ≡ nonzero b ⌝ }
 {
     if b == 0 { 0 } else { 1 }
 }
@@ -67,7 +67,7 @@ fn beside(a: Element, b: Element) -> Seen
     ensures { λ r. ⌜ r ≡ seenOf a b ⌝ }
 {
     if a.unit == b.unit && a.i == b.i && a.j == b.j {
-        return Seen::Weight(mark_of(a.unit) + mark_of(a.i) + mark_of(a.j));
+        return Seen::Weight(nonzero_of(a.unit) + nonzero_of(a.i) + nonzero_of(a.j));
     }
     Seen::Differs
 }

@@ -8,11 +8,11 @@ use native.Mathlib.Nat.{mod-lt}
 use native.Mathlib.Omega.{arith}
 use lib.Dec.{eqb, ltb}
 use borrow.Author.Tests.{eqb-true, eqb-false, lt-ltb, le-ltb, ltb-true, ltb-false}
+use Rattle.base.proofs.Tests.{by-test}
 use Rattle.base.specs.declared.Pair.{Pair}
 use Rattle.base.specs.declared.Element.{Element}
 use Rattle.precoding.specs.Places.{onPort, beside, placed}
 use Rattle.places.specs.Counts.{Listed}
-use Rattle.places.proofs.Counts.{by-test}
 use Rattle.plan.proofs.Listed.{and-left}
 use Rattle.grid.specs.Writing.{sends, sentAt, Written}
 use Rattle.grid.proofs.Writing.{none, same, over}

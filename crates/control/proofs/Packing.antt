@@ -14,7 +14,7 @@ use lib.Seq.{getD-set-same, getD-set-other}
 use Rattle.base.proofs.Tables.{filled}
 use Rattle.gold.specs.Sequence.{binary}
 use Rattle.gold.proofs.Binary.{binary-more, binary-same, binary-split, binary-lt}
-use Rattle.layout.specs.Choice.{if_then_else_}
+use Rattle.base.specs.Choice.{if_then_else_}
 use Rattle.payload.specs.Sections.{sectionBytes}
 use Rattle.recovery.specs.Recovery.{sectionOf}
 use Rattle.control.specs.Reading.{heldAt, pushed, PushIn}

@@ -9,24 +9,24 @@ use lib.ListN.{length, getD, take, drop, length-drop}
 use lib.Seq.{take-all}
 use borrow.Author.Tests.{eq-eqb, ne-eqb, lt-ltb, le-ltb}
 use Rattle.base.specs.Tables.{table}
-use Rattle.plan.specs.Check.{checkOf, numberOf}
+use Rattle.plan.specs.Check.{checkOf, refusalNumber}
 use Rattle.plan.specs.declared.Plan.{Plan}
 use Rattle.plan.specs.declared.Refusal.{Refusal}
 use Rattle.plan.specs.declared.Checked.{Checked}
 use Rattle.plan.specs.declared.Checked.the-variants.{Plan as accepted, Refused as refused}
-use Rattle.layout.specs.Choice.{if_then_else_}
+use Rattle.base.specs.Choice.{if_then_else_}
 use Rattle.counts.specs.Counts.{kinds, kindCount}
 use Rattle.payload.specs.Payload.{payloadLength, spareClear}
 use Rattle.counted.specs.declared.Counted.{Counted}
-use Rattle.counted.specs.Gridcount.{refusedBy, linesOf, acceptedWith, answerTo, countedOf, planEnd, gridcountOf}
+use Rattle.counted.specs.Gridcount.{refusedWith, linesOf, acceptedWith, countedOf, planEnd, gridcountOf}
 
 module _ (w : List ℕ) (p : Plan) (payload : List ℕ) (n : ℕ) (e : n ≡ payloadLength w p) where
-  pub wrong-length : (length payload ≡ n → ⊥) → refusedBy 11 ≡ acceptedWith w p payload
+  pub wrong-length : (length payload ≡ n → ⊥) → refusedWith 11 ≡ acceptedWith w p payload
   unfolding acceptedWith
   wrong-length h = rw (ne-eqb (length payload) (payloadLength w p) (λ q. h (q ∙ sym e)))
 
   module _ (h : length payload ≡ n) (b : Bool) (eb : b ≡ spareClear w p payload) where
-    pub spare-set : b ≡ false → refusedBy 12 ≡ acceptedWith w p payload
+    pub spare-set : b ≡ false → refusedWith 12 ≡ acceptedWith w p payload
     unfolding acceptedWith
     spare-set f = rw (eq-eqb (length payload) (payloadLength w p) (h ∙ e), ← eb, f)
 
@@ -37,14 +37,14 @@ module _ (w : List ℕ) (p : Plan) (payload : List ℕ) (n : ℕ) (e : n ≡ pay
 -- the plan check's answer, by its cases
 pub plan-is : (w payload : List ℕ) (p : Plan) (a : Checked) → a ≡ checkOf w → a ≡ accepted p → acceptedWith w p payload ≡ countedOf w payload
 unfolding countedOf
-plan-is w payload p a e f = ap (λ (x : Checked). answerTo w x payload) (sym f ∙ e)
+plan-is w payload p a e f = rw (sym e ∙ f)
 
-pub plan-refused : (w payload : List ℕ) (r : Refusal) (n : ℕ) (a : Checked) → a ≡ checkOf w → a ≡ refused r → n ≡ numberOf r → refusedBy n ≡ countedOf w payload
+pub plan-refused : (w payload : List ℕ) (r : Refusal) (n : ℕ) (a : Checked) → a ≡ checkOf w → a ≡ refused r → n ≡ refusalNumber r → refusedWith n ≡ countedOf w payload
 unfolding countedOf
-plan-refused w payload r n a e f en = ap refusedBy en ∙ ap (λ (x : Checked). answerTo w x payload) (sym f ∙ e)
+plan-refused w payload r n a e f en = ap refusedWith en ∙ rw (sym e ∙ f)
 
 -- the input's framing
-pub no-length : (x : List ℕ) → length x < 2 → refusedBy 1 ≡ gridcountOf x
+pub no-length : (x : List ℕ) → length x < 2 → refusedWith 1 ≡ gridcountOf x
 unfolding gridcountOf
 no-length x h = rw (lt-ltb (length x) 2 h)
 
@@ -52,7 +52,7 @@ module _ (x : List ℕ) (a b : ℕ) (ea : a ≡ getD x 0 0) (eb : b ≡ getD x 1
   end-is : 2 + (a * 256 + b) ≡ planEnd x
   end-is = ap₂ (λ (m n : ℕ). 2 + (m * 256 + n)) ea eb
 
-  pub plan-short : length x < 2 + (a * 256 + b) → refusedBy 1 ≡ gridcountOf x
+  pub plan-short : length x < 2 + (a * 256 + b) → refusedWith 1 ≡ gridcountOf x
   unfolding gridcountOf
   plan-short h = let l : length x < planEnd x = rw end-is at h in rw (le-ltb (length x) 2 two, lt-ltb (length x) (planEnd x) l)
 

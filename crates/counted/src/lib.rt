@@ -2,7 +2,7 @@
 ghost use mathlib.Core.Path.{_≡_};
 ghost use Rattle.plan.specs.Check.{checkOf};
 ghost use Rattle.plan.specs.declared.Checked.the-variants.{Plan as accepted};
-ghost use Rattle.counted.specs.Gridcount.{refusedBy, acceptedWith, countedOf, gridcountOf};
+ghost use Rattle.counted.specs.Gridcount.{refusedWith, acceptedWith, countedOf, gridcountOf};
 use base::wide;
 use plan::Checked;
 use plan::Plan;
@@ -14,7 +14,7 @@ pub struct Counted {
 }
 
 fn refused(number: u8) -> Counted
-    ensures { λ r. ⌜ r ≡ refusedBy number ⌝ }
+    ensures { λ r. ⌜ r ≡ refusedWith number ⌝ }
 {
     Counted {
         refusal: number,

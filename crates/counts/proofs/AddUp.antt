@@ -9,6 +9,7 @@ use native.Mathlib.Omega.{arith}
 use lib.Dec.{leb, ltb, eqb}
 use lib.ListN.{length}
 use borrow.Author.Tests.{ltb-true}
+use Rattle.base.proofs.Tests.{by-test, clash, is-false}
 use Rattle.base.specs.Tables.{table}
 use Rattle.plan.specs.Fields.{unitsOf}
 use Rattle.plan.specs.Check.{checkOf}
@@ -20,7 +21,7 @@ use Rattle.plan.specs.declared.Plan.{Plan}
 use Rattle.plan.specs.declared.Checked.the-variants.{Plan as accepted}
 use Rattle.plan.proofs.Listed.{and-left}
 use Rattle.plan.proofs.Valid.{valid}
-use Rattle.layout.specs.Choice.{if_then_else_, one}
+use Rattle.base.specs.Choice.{if_then_else_, one}
 use Rattle.layout.specs.Rules.{slotOf, crs, inGroup, phich}
 use Rattle.layout.specs.Owners.{slotOfCell, symbols, carriers, controlSymbols, fixedRule, above, userHas, userRule, owns, owners}
 use Rattle.layout.specs.declared.Mark.the-variants.{Primary, Secondary}
@@ -29,7 +30,6 @@ use Rattle.layout.specs.declared.Owner.the-variants.{Crs, Sync, Pbch, Pcfich, P
 use Rattle.counts.specs.Sums.{sumTo, sumOf}
 use Rattle.layout.proofs.OneOwner.{one-owner}
 use Rattle.counts.specs.Counts.{countOf, kindOf, kinds, kindCount}
-use Rattle.counts.proofs.Logic.{by-test, clash, is-false}
 use Rattle.counts.proofs.Sums.{sum-const, swap, list-same}
 use Rattle.counts.proofs.Ranges.{big, few-ports, few-units}
 
@@ -86,9 +86,10 @@ module _ (w : List ℕ) (p : Plan) (ok : Valid w p) (s k : ℕ) where
   above-in Idle e = clash e refl
 
   owner-in : (o : Owner) → owns w p o s k ≡ true → In o (owners w p)
-  unfolding owns owners userRule
+  unfolding owns fixedRule owners userRule
   owner-in (Crs q) e = In.there (in-left _ (above-in (Crs q) e))
-  owner-in (Sync m) e = In.there (in-left _ (above-in (Sync m) e))
+  owner-in (Sync Primary) e = In.there (in-left _ (above-in (Sync Primary) e))
+  owner-in (Sync Secondary) e = In.there (in-left _ (above-in (Sync Secondary) e))
   owner-in Pbch e = In.there (in-left _ (above-in Pbch e))
   owner-in Pcfich e = In.there (in-left _ (above-in Pcfich e))
   owner-in (Phich m) e = In.there (in-left _ (above-in (Phich m) e))

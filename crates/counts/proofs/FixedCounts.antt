@@ -9,6 +9,7 @@ use native.Mathlib.Nat.{not-suc-le-zero}
 use native.Mathlib.Omega.{arith}
 use lib.Dec.{T, leb, ltb, eqb, eqb→eq}
 use borrow.Author.Tests.{ne-eqb, lt-ltb, le-leb, eqb-true, leb-true, ltb-true}
+use Rattle.base.proofs.Tests.{by-test}
 use Rattle.base.proofs.Computed.{allBelow, below-at}
 use Rattle.plan.specs.Lists.{Among}
 use Rattle.plan.specs.Fields.{unitsOf, portCounts}
@@ -17,14 +18,14 @@ use Rattle.plan.specs.declared.Plan.{Plan}
 use Rattle.plan.specs.declared.Checked.the-variants.{Plan as accepted}
 use Rattle.plan.proofs.Listed.{and-left, and-right}
 use Rattle.plan.proofs.Valid.{valid}
-use Rattle.layout.specs.Choice.{if_then_else_, one}
+use Rattle.base.specs.Choice.{if_then_else_, one}
 use Rattle.layout.specs.Rules.{slotLength, inSlot, crsSymbol, crsAny, centre, pbchArea, pbch, groupOf, inGroup, isFormat, pcfich, left, number, takes, unitHas, phich}
 use Rattle.layout.specs.Owners.{slotOfCell, symbols, fixedRule, owns}
 use Rattle.layout.specs.declared.Owner.the-variants.{Pbch, Pcfich, Phich}
 use Rattle.counts.specs.Sums.{sumTo}
 use Rattle.counts.specs.Counts.{countOf}
 use Rattle.counts.specs.Users.{signals}
-use Rattle.counts.proofs.Logic.{by-test, everyWay, by-table}
+use Rattle.counts.proofs.Logic.{everyWay, by-table}
 use Rattle.counts.proofs.Sums.{six, by-six, sum-same, sum-none, sum-times}
 use Rattle.counts.proofs.Signals.{slot-length, hits, refs, four, half-left}
 use Rattle.counts.proofs.Halves.{central, centre-half, twelve}

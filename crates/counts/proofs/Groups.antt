@@ -8,12 +8,12 @@ use native.Mathlib.Numerals.{add-one}
 use native.Mathlib.Omega.{arith}
 use lib.Dec.{ltb, eqb}
 use borrow.Author.Tests.{ne-eqb, lt-ltb, le-ltb, eqb-true, eqb-false, ltb-true, ltb-false}
+use Rattle.base.proofs.Tests.{by-test}
 use Rattle.plan.specs.Fields.{unitsOf}
 use Rattle.plan.specs.declared.Cell.{Cell}
-use Rattle.layout.specs.Choice.{one}
+use Rattle.base.specs.Choice.{one}
 use Rattle.layout.specs.Rules.{formatGroup, isFormat, left, number, unitNumber, takes}
 use Rattle.counts.specs.Sums.{sumTo}
-use Rattle.counts.proofs.Logic.{by-test}
 use Rattle.counts.proofs.Sums.{sum-same, sum-add}
 
 -- ---- around a ring of h

@@ -5,14 +5,14 @@ use mathlib.Core.Bool.{Bool, true, false, not, _&&_, and-true}
 use native.Mathlib.Omega.{arith}
 use lib.Dec.{leb, ltb}
 use borrow.Author.Tests.{lt-ltb, le-leb, ltb-true, ltb-false, leb-true, leb-false}
+use Rattle.base.proofs.Tests.{by-test, both, same-test}
 use Rattle.plan.proofs.Listed.{and-left, and-right}
 use Rattle.plan.specs.declared.User.{User}
-use Rattle.layout.specs.Choice.{one}
+use Rattle.base.specs.Choice.{one}
 use Rattle.layout.specs.Rules.{middle, centre}
 use Rattle.layout.specs.Owners.{blocksHave}
 use Rattle.counts.specs.Sums.{sumTo}
 use Rattle.counts.specs.Users.{halves}
-use Rattle.counts.proofs.Logic.{by-test, both, same-test}
 use Rattle.counts.proofs.Sums.{sum-same, sum-add}
 
 -- a range whose ends are half blocks

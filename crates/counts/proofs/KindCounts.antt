@@ -10,6 +10,7 @@ use native.Mathlib.Omega.{arith}
 use lib.Dec.{T, leb, ltb, eqb, eqb→eq}
 use lib.ListN.{length}
 use borrow.Author.Tests.{lt-leb, eqb-true}
+use Rattle.base.proofs.Tests.{by-test, clash, both, same-test}
 use Rattle.base.specs.Tables.{table}
 use Rattle.base.proofs.Computed.{allBelow, below-at}
 use Rattle.plan.specs.Lists.{Among}
@@ -21,7 +22,7 @@ use Rattle.plan.specs.declared.Checked.the-variants.{Plan as accepted}
 use Rattle.plan.proofs.OneOf.{among-holds}
 use Rattle.plan.proofs.Listed.{and-right}
 use Rattle.plan.proofs.Valid.{valid}
-use Rattle.layout.specs.Choice.{if_then_else_, one}
+use Rattle.base.specs.Choice.{if_then_else_, one}
 use Rattle.layout.specs.Rules.{middle, slotLength, slotOf, inSlot, crsSymbol, shift, standsAt, crsOf, crs, crsAny, marked, centre, used, pss, sss, heldBySync, pbchArea, heldByPbch, held}
 use Rattle.layout.specs.Owners.{slotOfCell, symbols, carriers, fixedRule, above, owns, owners}
 use Rattle.layout.specs.declared.Mark.the-variants.{Primary, Secondary}
@@ -31,7 +32,7 @@ use Rattle.counts.specs.Sums.{sumTo, sumOf}
 use Rattle.counts.specs.Counts.{countOf, kindOf, kindCount}
 use Rattle.counts.specs.Users.{signals}
 use Rattle.counts.specs.Kinds.{crsElements, syncElements, pbchElements, holes, heldElements}
-use Rattle.counts.proofs.Logic.{by-test, clash, agree, agreed, implies, follows, everyWay, by-table, same-test, both}
+use Rattle.counts.proofs.Logic.{agree, agreed, implies, follows, everyWay, by-table}
 use Rattle.counts.proofs.Sums.{six, by-six, sum-same, sum-none, sum-const, sum-add, sum-times, list-append}
 use Rattle.counts.proofs.Signals.{slot-length, four}
 use Rattle.counts.proofs.Halves.{within, in-range, lowered, parted, away}

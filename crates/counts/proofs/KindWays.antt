@@ -15,7 +15,7 @@ use Rattle.plan.specs.declared.Frame.{Frame}
 use Rattle.plan.specs.declared.Plan.{Plan}
 use Rattle.plan.specs.declared.Checked.the-variants.{Plan as accepted}
 use Rattle.plan.proofs.Valid.{valid}
-use Rattle.layout.specs.Choice.{if_then_else_}
+use Rattle.base.specs.Choice.{if_then_else_}
 use Rattle.layout.specs.Rules.{marked}
 use Rattle.layout.specs.Owners.{slotOfCell, symbols, carriers}
 use Rattle.counts.specs.Sums.{sumTo}

@@ -3,32 +3,9 @@ use Prim.Native.Nat.{ℕ, zero, suc}
 use mathlib.Core.Path.{_≡_, refl, sym, _∙_}
 use mathlib.Core.Bool.{Bool, true, false, not, _&&_, true≢false}
 use lib.Dec.{T}
-use Rattle.layout.specs.Choice.{if_then_else_}
+use Rattle.base.proofs.Tests.{clash}
+use Rattle.base.specs.Choice.{if_then_else_}
 use lib.Ieee.Fits.{and-l, and-r}
-
-pub by-test : {X : Type 0} (b : Bool) → (b ≡ true → X) → (b ≡ false → X) → X
-by-test true t f = t refl
-by-test false t f = f refl
-
-pub clash : {X : Type 0} {b : Bool} → b ≡ true → b ≡ false → X
-clash p q = absurd (true≢false (sym p ∙ q))
-
-pub both : {a b : Bool} → a ≡ true → b ≡ true → a && b ≡ true
-both {a} {b} p q = rw (p, q) refl
-
-pub is-false : (b : Bool) → (b ≡ true → ⊥) → b ≡ false
-is-false true h = absurd (h refl)
-is-false false h = refl
-
--- two tests are equal that hold together
-pub same-test : (a b : Bool) → (a ≡ true → b ≡ true) → (b ≡ true → a ≡ true) → a ≡ b
-same-test true b f g = sym (f refl)
-same-test false b f g = sym (is-false b (λ e. clash (g e) refl))
-
--- what holds of both branches, each under its test's answer, holds of the choice
-pub on-if : {A : Type 0} (P : A → Type 0) (b : Bool) {x y : A} → (b ≡ true → P x) → (b ≡ false → P y) → P (if b then x else y)
-on-if P true f g = f refl
-on-if P false f g = g refl
 
 -- ---- truth tables: a rule of n tests that antt computes at all their answers holds at any
 abbrev pub Rule : ℕ → Type 0

@@ -6,14 +6,15 @@ use mathlib.Core.Bool.{Bool, true, false, not, _&&_, _||_, and-true, and-false, 
 use native.Mathlib.Omega.{arith}
 use lib.Dec.{T, ltb, eqb, eqb→eq}
 use borrow.Author.Tests.{eq-eqb, ne-eqb, lt-ltb, eqb-true, eqb-false, ltb-true, ltb-false}
+use Rattle.base.proofs.Tests.{by-test}
 use Rattle.base.proofs.Computed.{allBelow, below-at}
 use Rattle.plan.specs.Lists.{Among}
 use Rattle.plan.specs.Fields.{portCounts}
-use Rattle.layout.specs.Choice.{one}
+use Rattle.base.specs.Choice.{one}
 use Rattle.layout.specs.Rules.{slotLength, slotOf, inSlot, crsSymbol, shift, standsAt, crsOf, crs, crsOfFour, crsAny}
 use Rattle.counts.specs.Sums.{sumTo}
 use Rattle.counts.specs.Users.{signals}
-use Rattle.counts.proofs.Logic.{by-test, everyWay, by-table}
+use Rattle.counts.proofs.Logic.{everyWay, by-table}
 use Rattle.counts.proofs.Sums.{six}
 
 pub slot-length : (e : ℕ) → (6 ≤ slotLength e) × (slotLength e ≤ 7)

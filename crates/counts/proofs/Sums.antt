@@ -6,8 +6,8 @@ use native.Mathlib.Nat.{suc-mul, zero-mul, add-mul, not-suc-le-zero}
 use native.Mathlib.Omega.{arith}
 use lib.Dec.{eqb}
 use borrow.Author.Tests.{eqb-true, eqb-false}
+use Rattle.base.proofs.Tests.{by-test}
 use Rattle.counts.specs.Sums.{sumTo, sumOf}
-use Rattle.counts.proofs.Logic.{by-test}
 
 pub sum-same : (n : ℕ) (f g : ℕ → ℕ) → ((j : ℕ) → j < n → f j ≡ g j) → sumTo n f ≡ sumTo n g
 unfolding sumTo

@@ -9,6 +9,7 @@ use native.Mathlib.Omega.{arith}
 use lib.Dec.{T, leb, ltb, eqb}
 use lib.ListN.{length, getD}
 use borrow.Author.Tests.{ne-eqb, lt-ltb, le-ltb, le-leb, lt-leb, ltb-true, ltb-false, leb-true}
+use Rattle.base.proofs.Tests.{by-test, clash, both}
 use Rattle.base.specs.Tables.{table}
 use Rattle.plan.specs.Lists.{noneOf}
 use Rattle.plan.specs.Fields.{unitsOf}
@@ -22,7 +23,7 @@ use Rattle.plan.specs.declared.Plan.{Plan}
 use Rattle.plan.specs.declared.Checked.the-variants.{Plan as accepted}
 use Rattle.plan.proofs.Listed.{and-left, and-right, every-at}
 use Rattle.plan.proofs.Valid.{valid}
-use Rattle.layout.specs.Choice.{one}
+use Rattle.base.specs.Choice.{one}
 use Rattle.layout.specs.Rules.{middle, slotOf, inSlot, crs, crsOfFour, crsAny, centre, used, marked, pss, sss, heldBySync, pbchArea, pbch, heldByPbch, held, inGroup, pcfich, phich}
 use Rattle.layout.specs.Owners.{slotOfCell, symbols, carriers, controlSymbols, fixedRule, above, free, userHas, userRule, blocksHave, owns}
 use Rattle.layout.specs.declared.Owner.{Owner}
@@ -30,7 +31,7 @@ use Rattle.layout.specs.declared.Owner.the-variants.{Phich, User as UserOf}
 use Rattle.counts.specs.Sums.{sumTo}
 use Rattle.counts.specs.Counts.{countOf}
 use Rattle.counts.specs.Users.{signals, taken, rowElements, userElements}
-use Rattle.counts.proofs.Logic.{by-test, clash, both, by-table, agree, agreed}
+use Rattle.counts.proofs.Logic.{by-table, agree, agreed}
 use Rattle.counts.proofs.Sums.{sum-same, sum-none, sum-times, by-six}
 use Rattle.counts.proofs.Signals.{slot-length, hits, refs, half-left}
 use Rattle.counts.proofs.Halves.{within, central, blocks-half, centre-half, halves-are}

@@ -10,6 +10,7 @@ use native.Mathlib.Omega.{arith}
 use lib.Dec.{leb, ltb}
 use lib.ListN.{length}
 use borrow.Author.Tests.{ne-eqb, le-ltb, lt-leb, leb-true, ltb-true}
+use Rattle.base.proofs.Tests.{by-test, is-false, on-if}
 use Rattle.plan.specs.Lists.{Every, Apart}
 use Rattle.plan.specs.Check.{checkOf}
 use Rattle.plan.specs.Rows.{usersOf}
@@ -21,14 +22,13 @@ use Rattle.plan.specs.declared.Plan.{Plan}
 use Rattle.plan.specs.declared.Checked.the-variants.{Plan as accepted}
 use Rattle.plan.proofs.Listed.{and-left, and-right, every-at}
 use Rattle.plan.proofs.Valid.{valid}
-use Rattle.layout.specs.Choice.{one}
+use Rattle.base.specs.Choice.{one}
 use Rattle.layout.specs.Rules.{inSlot}
 use Rattle.layout.specs.Owners.{slotOfCell, symbols, carriers, controlSymbols}
 use Rattle.layout.specs.declared.Owner.the-variants.{User as UserOf}
 use Rattle.counts.specs.Sums.{sumTo, sumOf}
 use Rattle.counts.specs.Counts.{countOf}
 use Rattle.counts.specs.Users.{taken, halves, rowElements, userElements, allElements, usersElements}
-use Rattle.counts.proofs.Logic.{by-test, is-false, on-if}
 use Rattle.counts.proofs.Sums.{sum-even, sum-most, sum-part, swap}
 use Rattle.counts.proofs.Signals.{slot-length, signals-pair, signals-few}
 use Rattle.counts.proofs.Halves.{within, in-range, halves-most}

@@ -4,7 +4,7 @@ use Prim.Native.Nat.{ℕ}
 use mathlib.Core.List.{List}
 use lib.Dec.{eqb}
 use Rattle.plan.specs.declared.Plan.{Plan}
-use Rattle.layout.specs.Choice.{if_then_else_, one}
+use Rattle.base.specs.Choice.{if_then_else_, one}
 use Rattle.layout.specs.Owners.{symbols, carriers, owns, owners}
 use Rattle.layout.specs.declared.Mark.the-variants.{Primary, Secondary}
 use Rattle.layout.specs.declared.Owner.{Owner}

@@ -9,7 +9,7 @@ use Rattle.plan.specs.declared.Cell.{Cell}
 use Rattle.plan.specs.declared.Frame.{Frame}
 use Rattle.plan.specs.declared.User.{User}
 use Rattle.plan.specs.declared.Plan.{Plan}
-use Rattle.layout.specs.Choice.{if_then_else_, one}
+use Rattle.base.specs.Choice.{if_then_else_, one}
 use Rattle.layout.specs.Rules.{inSlot, crsSymbol, marked}
 use Rattle.layout.specs.Owners.{slotOfCell, symbols, controlSymbols}
 use Rattle.counts.specs.Sums.{sumTo, sumOf}

@@ -7,10 +7,10 @@ use native.Mathlib.Decide.{decLe}
 use native.Mathlib.Omega.{arith}
 use lib.Dec.{leb, ltb}
 use borrow.Author.Tests.{le-leb, lt-leb, lt-ltb, le-ltb, leb-true}
+use Rattle.base.proofs.Tests.{by-test, clash}
 use Rattle.layout.specs.Owners.{slotOfCell, carriers}
 use Rattle.places.specs.Places.{symbolNumber, carrierOf}
 use Rattle.places.specs.Halves.{without, taken}
-use Rattle.places.proofs.Counts.{by-test, clash}
 use Rattle.places.proofs.Numbers.{place-symbol, place-carrier, place-both, carrier-inside}
 use Rattle.data.specs.declared.Area.{Area}
 use Rattle.data.specs.Areas.{areaHas, areaAt}

@@ -8,16 +8,16 @@ use native.Mathlib.Nat.{div-le-self}
 use native.Mathlib.Omega.{arith}
 use lib.Dec.{leb, ltb, eqb, eqb→eq, T}
 use borrow.Author.Tests.{le-leb, lt-leb, lt-ltb, le-ltb, eq-eqb, ne-eqb, leb-true}
+use Rattle.base.proofs.Tests.{by-test}
 use Rattle.base.proofs.Computed.{allBelow, below-at}
 use Rattle.plan.specs.declared.Cell.{Cell}
 use Rattle.plan.specs.declared.Frame.{Frame}
-use Rattle.layout.specs.Choice.{one}
+use Rattle.base.specs.Choice.{one}
 use Rattle.layout.specs.Rules.{slotOf, inSlot, shift, marked, middle, pbchArea}
 use Rattle.layout.specs.Owners.{slotOfCell}
 use Rattle.layout.specs.Chain.{syncArea}
 use Rattle.counts.specs.Users.{taken as takenRow}
 use Rattle.places.specs.Halves.{taken}
-use Rattle.places.proofs.Counts.{by-test}
 use Rattle.places.proofs.Halves.{first-at, last-at, none-at, not-second}
 use Rattle.data.specs.Rows.{bitIf, maskBut, bitOf, Masks, centreOut}
 use Rattle.data.proofs.AreaPlaces.{leb-same}

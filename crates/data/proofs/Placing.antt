@@ -5,13 +5,13 @@ use mathlib.Core.Path.{_≡_, refl, sym, ap, _∙_, subst}
 use mathlib.Core.Bool.{Bool, true, false}
 use mathlib.Core.List.{List}
 use native.Mathlib.Omega.{arith}
+use Rattle.base.proofs.Tests.{clash}
 use Rattle.base.specs.declared.Pair.{Pair}
 use Rattle.base.specs.Pairs.{Small}
 use Rattle.base.specs.Bits.{bitAt}
 use Rattle.gold.specs.declared.Registers.{Registers}
 use Rattle.modulation.specs.Symbols.{Order}
 use Rattle.precoding.specs.Places.{onPort, beside, placed}
-use Rattle.places.proofs.Counts.{clash}
 use Rattle.codeword.specs.declared.Symbols.{Symbols}
 use Rattle.codeword.specs.Streams.{outputs, symbolsOf, Stands, Next, Sound}
 use Rattle.codeword.proofs.Laws.{order-symbol, sound}

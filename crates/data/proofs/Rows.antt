@@ -8,6 +8,7 @@ use native.Mathlib.Nat.{add-zero, suc-mul}
 use native.Mathlib.Omega.{arith}
 use lib.Dec.{leb, ltb}
 use lib.ListN.{length}
+use Rattle.base.proofs.Tests.{by-test}
 use Rattle.base.proofs.Rows.{row-inside}
 use Rattle.base.specs.declared.Pair.{Pair}
 use Rattle.gold.specs.declared.Registers.{Registers}
@@ -18,7 +19,6 @@ use Rattle.layout.specs.Rules.{slotLength}
 use Rattle.layout.specs.Owners.{slotOfCell, symbols, carriers}
 use Rattle.counts.specs.Users.{taken as takenRow}
 use Rattle.places.specs.Places.{placesOf}
-use Rattle.places.proofs.Counts.{by-test}
 use Rattle.places.proofs.Numbers.{symbols-most, slot-length}
 use Rattle.codeword.specs.declared.Stream.{Stream}
 use Rattle.codeword.specs.Streams.{Stands}

@@ -8,12 +8,13 @@ use native.Mathlib.Numerals.{add-one}
 use native.Mathlib.Omega.{arith}
 use lib.Dec.{ltb, eqb}
 use borrow.Author.Tests.{lt-ltb, le-ltb, ltb-true, ltb-false, eqb-true, eqb-false}
+use Rattle.base.proofs.Tests.{by-test, clash}
 use Rattle.base.specs.declared.Element.{Element}
 use Rattle.gold.specs.declared.Registers.{Registers}
 use Rattle.precoding.specs.Places.{placed}
 use Rattle.places.specs.Counts.{cnt}
 use Rattle.places.specs.Places.{placesOf}
-use Rattle.places.proofs.Counts.{by-test, clash, cnt-none, cnt-own, cnt-skip, cnt-most}
+use Rattle.places.proofs.Counts.{cnt-none, cnt-own, cnt-skip, cnt-most}
 use Rattle.codeword.specs.Streams.{Stands, symbolsOf}
 use Rattle.grid.specs.Writing.{Written, sends, sentAt}
 use Rattle.grid.proofs.Writing.{none, same, over, room-kept}

@@ -6,10 +6,10 @@ use mathlib.Core.Bool.{true, false, cond}
 use mathlib.Core.List.{List}
 use native.Mathlib.Nat.{add-zero, suc-mul, mul-le-mul-right}
 use native.Mathlib.Omega.{arith}
+use Rattle.base.proofs.Tests.{by-test}
 use Rattle.base.proofs.Rows.{row-inside}
 use Rattle.layout.specs.Owners.{symbols, carriers}
 use Rattle.places.specs.Places.{placesOf}
-use Rattle.places.proofs.Counts.{by-test}
 use Rattle.data.specs.declared.Area.{Area}
 use Rattle.data.specs.declared.Row.{Row}
 use Rattle.data.specs.Areas.{areaAt, AreaIn}

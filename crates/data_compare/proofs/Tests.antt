@@ -10,13 +10,13 @@ use lib.Dec.{eqb, ltb}
 use lib.IntN.{pos, negsuc, negℤ}
 use lib.ListN.{length}
 use borrow.Author.Tests.{eq-eqb, ne-eqb, eqb-true, ltb-false}
+use Rattle.base.proofs.Tests.{by-test, clash}
 use Rattle.base.specs.declared.Element.{Element}
 use Rattle.base.specs.Bytes.{byteOf, signedOf, elementOf, pairOf}
 use Rattle.base.proofs.Bytes.{level-back}
 use Rattle.modulation.specs.Demapping.{isLevel}
 use Rattle.modulation.specs.Marks.{isSymbol}
 use Rattle.precoding.specs.Places.{ownPort, otherPort, partnerOf}
-use Rattle.places.proofs.Counts.{by-test, clash}
 use Rattle.grid.specs.Elements.{elementIn}
 use Rattle.grid.specs.Writing.{Room}
 use Rattle.grid.proofs.Sending.{element-fits}

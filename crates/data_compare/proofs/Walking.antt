@@ -8,8 +8,8 @@ use native.Mathlib.Numerals.{add-one}
 use native.Mathlib.Omega.{arith}
 use lib.Dec.{eqb}
 use borrow.Author.Tests.{eqb-false}
+use Rattle.base.proofs.Tests.{by-test}
 use Rattle.places.specs.Places.{placesOf}
-use Rattle.places.proofs.Counts.{by-test}
 use Rattle.data.specs.declared.Area.{Area}
 use Rattle.data.specs.Areas.{areaAt, areaIndex, AreaIn}
 use Rattle.data.proofs.Walking.{index-more, index-same, index-none, index-most}

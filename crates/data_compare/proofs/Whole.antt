@@ -12,6 +12,7 @@ use lib.Dec.{eqb}
 use lib.IntN.{ℤ, pos, negsuc, negℤ, natAbs}
 use lib.ListN.{length}
 use borrow.Author.Tests.{eq-eqb, ne-eqb, eqb-true}
+use Rattle.base.proofs.Tests.{by-test, clash}
 use Rattle.base.specs.declared.Pair.{Pair}
 use Rattle.base.specs.Bytes.{byteOf, elementOf}
 use Rattle.base.proofs.Rows.{at-div, at-mod}
@@ -24,13 +25,12 @@ use Rattle.precoding.proofs.Ports.{on-own, on-other}
 use Rattle.plan.proofs.Listed.{and-left, and-right}
 use Rattle.places.specs.Counts.{cnt}
 use Rattle.places.specs.Places.{placesOf}
-use Rattle.places.proofs.Counts.{by-test, clash}
 use Rattle.places.proofs.Numbers.{first-row}
 use Rattle.grid.specs.Elements.{elementIn}
 use Rattle.grid.specs.Writing.{sends}
 use Rattle.compare.specs.declared.Seen.the-variants.{Weight, Differs}
 use Rattle.compare.specs.Comparing.{weightOf, weightIn, countBelow}
-use Rattle.compare.proofs.Comparing.{mark-one}
+use Rattle.compare.proofs.Comparing.{nonzero-one}
 use Rattle.compare.proofs.PortWeights.{port-weight}
 use Rattle.data.specs.declared.Area.{Area}
 use Rattle.data.specs.Areas.{areaAt, areaIndex, areaSends, AreaIn}
@@ -44,7 +44,7 @@ use Rattle.data_compare.proofs.Fitted.{Right, ownAt, otherAt, all-right
 -- ---- bytes that are not 0
 weight-three : (u : ℕ) (d : Pair) → (u ≡ 0 → ⊥) → (byteOf (d .re) ≡ 0 → ⊥) → (byteOf (d .im) ≡ 0 → ⊥) → weightOf (elementOf u d) ≡ 3
 unfolding weightOf elementOf
-weight-three u d n i j = rw (mark-one u n, mark-one (byteOf (d .re)) i, mark-one (byteOf (d .im)) j) refl
+weight-three u d n i j = rw (nonzero-one u n, nonzero-one (byteOf (d .re)) i, nonzero-one (byteOf (d .im)) j) refl
 
 minus-some : (z : ℤ) → natAbs z ≤ 7 → (byteOf z ≡ 0 → ⊥) → byteOf (negℤ z) ≡ 0 → ⊥
 minus-some (pos zero) l n e = n refl

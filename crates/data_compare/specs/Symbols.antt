@@ -35,7 +35,7 @@ unfoldable pub areaSent : Area → ℕ → (ℕ → Pair) → ℕ → Element
 areaSent a unit d e =
     let j = areaIndex a (e % placesOf (a .cell)) in placed (a .cell .ports) (j / 2 % 2) unit d j (e / placesOf (a .cell))
 
--- some q bits have each of the area's symbols, and every port with a term holds what these symbols give
+-- each of the area's symbols is a constellation point of q bits, and every port with a term holds what these symbols give
 pub record AreaHolds (a : Area) (q unit : ℕ) (g : List ℕ) : Type 0 where
   pub known : (j : ℕ) → j < areaCount a → isSymbol q (areaSymbol a g j) ≡ true
   pub holds : Holds (areaSends a) (areaSent a unit (areaSymbol a g)) g

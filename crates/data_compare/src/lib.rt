@@ -1,4 +1,4 @@
-// PBCH and the users in a grid, compared in place: whether each place holds a symbol that some bits have, and the other port its
+// PBCH and the users in a grid, compared in place: whether each place holds a constellation point, and the other port its
 // partner (TS 36.211 6.6, 6.3). The bits themselves are read later, when the whole grid is known to be some payload's.
 use base::Element;
 use compare::Seen;

@@ -12,7 +12,7 @@ use Rattle.base.proofs.Rows.{row-inside}
 use Rattle.gold.specs.Sequence.{binary}
 use Rattle.gold.proofs.Binary.{binary-same, binary-split, binary-lt}
 use Rattle.gold.proofs.Window.{halve}
-use Rattle.layout.specs.Choice.{if_then_else_}
+use Rattle.base.specs.Choice.{if_then_else_}
 use Rattle.data_read.specs.Gathering.{shifted}
 
 -- ---- powers

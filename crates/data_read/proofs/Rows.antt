@@ -6,13 +6,13 @@ use mathlib.Core.List.{List}
 use native.Mathlib.Nat.{add-zero, mul-le-mul-right, suc-mul}
 use native.Mathlib.Omega.{arith}
 use lib.ListN.{length}
+use Rattle.base.proofs.Tests.{by-test}
 use Rattle.base.proofs.Rows.{row-inside}
 use Rattle.gold.specs.declared.Registers.{Registers}
 use Rattle.gold.specs.Steps.{after}
 use Rattle.layout.specs.Owners.{symbols, carriers}
 use Rattle.payload.specs.Sections.{sectionBytes}
 use Rattle.places.specs.Places.{placesOf}
-use Rattle.places.proofs.Counts.{by-test}
 use Rattle.recovery.specs.Recovery.{sectionOf}
 use Rattle.data.specs.declared.Area.{Area}
 use Rattle.data.specs.declared.Row.{Row}
@@ -209,8 +209,8 @@ module _ {a : Area} {q : ℕ} {g : List ℕ} {t : ℕ} {w w′ : Gather} {part p
 
       pub area-read :
           {part″ : List ℕ} → Flushed w″ part′ part″
-          → (part″ ≡ sectionOf (areaBit a q g r) (q * areaCount a)) × ((n : ℕ) × (w″ .r ≡ after r n))
-      area-read f = (section-read read-all f, (8 * w″ .at, read-all .pair))
+          → part″ ≡ sectionOf (areaBit a q g r) (q * areaCount a)
+      area-read f = section-read read-all f
 
       pub area-size : {part″ : List ℕ} → Flushed w″ part′ part″ → length part″ ≡ length part
       area-size f = f .size ∙ all .size ∙ sym (b .size)

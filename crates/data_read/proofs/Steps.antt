@@ -7,6 +7,7 @@ use native.Mathlib.Omega.{arith}
 use lib.Bits.{bitXor, xor-lt}
 use lib.ListN.{length, set, length-set}
 use borrow.Author.Tests.{lt-ltb, le-ltb}
+use Rattle.base.proofs.Tests.{clash}
 use Rattle.base.specs.declared.Element.{Element}
 use Rattle.base.specs.Bytes.{signedOf, pairOf}
 use Rattle.base.proofs.Tables.{set-more}
@@ -18,7 +19,6 @@ use Rattle.modulation.specs.Symbols.{Order}
 use Rattle.modulation.specs.Demapping.{isLevel, demapOf}
 use Rattle.modulation.proofs.Constellation.{known-each}
 use Rattle.precoding.specs.Places.{ownPort}
-use Rattle.places.proofs.Counts.{clash}
 use Rattle.grid.specs.Elements.{elementIn}
 use Rattle.grid.proofs.Sending.{own-fits}
 use Rattle.recovery.specs.Recovery.{wordOf}

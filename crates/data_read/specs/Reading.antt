@@ -18,7 +18,7 @@ use Rattle.data_compare.specs.Symbols.{areaCount, areaSymbol}
 unfoldable pub areaBit : Area → ℕ → List ℕ → Registers → ℕ → ℕ
 areaBit a q g r i = (dig (wordOf (demapOf q (areaSymbol a g (i / q)))) (q - 1 - i % q) + outputs r i) % 2
 
--- what reading needs: an area whose symbols some bits have. With two ports or four its places go in pairs
+-- what reading needs: an area whose symbols are constellation points. With two ports or four its places go in pairs
 pub record SectionIn (a : Area) (q : ℕ) (g : List ℕ) : Type 0 where
   pub area : AreaIn a q 0 g
   pub known : (j : ℕ) → j < areaCount a → isSymbol q (areaSymbol a g j) ≡ true

@@ -5,9 +5,8 @@ use data::Row;
 use gold::Registers;
 ghost use mathlib.Core.Path.{_≡_};
 ghost use mathlib.Core.Bool.{false};
-ghost use Prim.Native.Nat.{ℕ, _+_, _*_, _≤_, _<_, _^_};
+ghost use Prim.Native.Nat.{_+_, _*_, _≤_, _<_, _^_};
 ghost use lib.ListN.{length};
-ghost use Rattle.gold.specs.Steps.{after};
 ghost use Rattle.layout.specs.Owners.{carriers};
 ghost use Rattle.payload.specs.Sections.{sectionBytes};
 ghost use Rattle.recovery.specs.Recovery.{sectionOf};
@@ -35,7 +34,7 @@ fn power(n: u32) -> u32
     16777216 >> (24 - n)
 }
 
-// The bits of the symbol at an element. Callers know that some bits have it.
+// The bits of the symbol at an element. Callers know that it is a constellation point.
 fn bits_at(grid: &[u8], e: usize, q: u32) -> u32
     requires { ⌜ SymbolIn q (now grid) e ⌝ }
     ensures { λ v. ⌜ (v ≡ bitsAt q (now (grid .entry)) e) × (v < 2 ^ q) ⌝ }
@@ -225,11 +224,11 @@ fn flush(w: Gather, part: &mut [u8])
     }
 }
 
-// The section of an area's bits, with symbols of q bits scrambled by what the register pair gives; the pair after the last whole 24
-// of them. Callers have compared the area: each symbol is one of the order's.
-pub fn read_area(r: Registers, a: Area, q: u32, grid: &[u8], part: &mut [u8]) -> Registers
+// The section of an area's bits, with symbols of q bits scrambled by what the register pair gives. Callers have compared the area: each
+// symbol is a constellation point of the order.
+pub fn read_area(r: Registers, a: Area, q: u32, grid: &[u8], part: &mut [u8])
     requires { ⌜ SectionIn a q (now grid) × (length (now part) ≡ sectionBytes (q * areaCount a)) ⌝ }
-    ensures { λ x. ⌜ (now (part .exit) ≡ sectionOf (areaBit a q (now (grid .entry)) r) (q * areaCount a)) × ((n : ℕ) × (x ≡ after r n)) ⌝ }
+    ensures { λ _. ⌜ now (part .exit) ≡ sectionOf (areaBit a q (now (grid .entry)) r) (q * areaCount a) ⌝ }
 {
     let mut w = Gather {
         r: r,
@@ -247,5 +246,4 @@ pub fn read_area(r: Registers, a: Area, q: u32, grid: &[u8], part: &mut [u8]) ->
     }
     let end = read_last(w, q, grid);
     flush(end, part);
-    end.r
 }

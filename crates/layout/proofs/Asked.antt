@@ -8,8 +8,9 @@ use lib.Dec.{ltb}
 use borrow.Author.Tests.{lt-ltb, ltb-true}
 use types.Run.{OneOf}
 use denote.Enum.Declared.{tagOf}
+use Rattle.base.proofs.Tests.{both}
 use Rattle.plan.specs.Lists.{oneOf}
-use Rattle.plan.specs.Check.{checkOf, numberOf as refusalNumber}
+use Rattle.plan.specs.Check.{checkOf, refusalNumber}
 use Rattle.plan.specs.declared.Cell.{Cell}
 use Rattle.plan.specs.declared.Plan.{Plan}
 use Rattle.plan.specs.declared.Refusal.{Refusal}
@@ -19,12 +20,11 @@ use Rattle.plan.specs.declared.Checked.the-variants.{Plan as accepted, Refused 
 use Rattle.plan.proofs.Checked.{the-type}
 use Rattle.plan.proofs.OneOf.{not-in}
 use Rattle.plan.proofs.Listed.{and-left, and-right}
-use Rattle.layout.specs.Owners.{numberOf, symbols, carriers, gridPlace, owns, ownerOf}
+use Rattle.layout.specs.Owners.{ownerNumber, symbols, carriers, gridPlace, owns, ownerOf}
 use Rattle.layout.specs.Chain.{refusalOf}
-use Rattle.layout.specs.Query.{inGrid, answerTo, ownerQueryOf, answerOf}
+use Rattle.layout.specs.Query.{inGrid, ownerQueryOf, ownerAnswer}
 use Rattle.layout.specs.declared.Owner.{Owner}
 use Rattle.layout.specs.declared.OwnerAnswer.the-variants.{Is, Refused}
-use Rattle.layout.proofs.Logic.{both}
 use Rattle.layout.proofs.OneOwner.{owner-is, owner-of}
 
 grid-parts : (c : Cell) (s k port : ℕ) → inGrid c s k port ≡ true → gridPlace c s k
@@ -38,23 +38,23 @@ grid-parts c s k port e =
 module _ (w : List ℕ) (s k port : ℕ) where
   -- the plan's refusal comes first, with its number
   pub query-refused : (r : Refusal) → checkOf w ≡ refused r → ownerQueryOf w s k port ≡ Refused r
-  unfolding ownerQueryOf answerTo
+  unfolding ownerQueryOf
   query-refused r e = rw e refl
 
-  pub refused-number : (r : Refusal) → checkOf w ≡ refused r → answerOf (ownerQueryOf w s k port) ≡ record { refusal = true; value = refusalNumber r }
-  refused-number r e = ap answerOf (query-refused r e)
+  pub refused-number : (r : Refusal) → checkOf w ≡ refused r → ownerAnswer (ownerQueryOf w s k port) ≡ record { refusal = true; value = refusalNumber r }
+  refused-number r e = ap ownerAnswer (query-refused r e)
 
   module _ (p : Plan) (ok : checkOf w ≡ accepted p) where
     -- then 8
     pub query-outside : inGrid (p .cell) s k port ≡ false → ownerQueryOf w s k port ≡ Refused Outside
-    unfolding ownerQueryOf answerTo
+    unfolding ownerQueryOf
     query-outside e = rw (ok, e) refl
 
-    pub outside-number : inGrid (p .cell) s k port ≡ false → answerOf (ownerQueryOf w s k port) ≡ record { refusal = true; value = 8 }
-    outside-number e = ap answerOf (query-outside e)
+    pub outside-number : inGrid (p .cell) s k port ≡ false → ownerAnswer (ownerQueryOf w s k port) ≡ record { refusal = true; value = 8 }
+    outside-number e = ap ownerAnswer (query-outside e)
 
     query-inside : inGrid (p .cell) s k port ≡ true → ownerQueryOf w s k port ≡ Is (ownerOf w p s k)
-    unfolding ownerQueryOf answerTo
+    unfolding ownerQueryOf
     query-inside e = rw (ok, e) refl
 
     module _ (in-s : s < symbols (p .cell)) (in-k : k < carriers (p .cell)) (in-port : port < p .cell .ports) where
@@ -66,14 +66,14 @@ module _ (w : List ℕ) (s k port : ℕ) where
       pub query-owner : (o : Owner) → owns w p o s k ≡ true → ownerQueryOf w s k port ≡ Is o
       query-owner o e = query-inside inside ∙ ap Is (owner-of w p ok s k in-s in-k ∙ owner-is w p ok s k in-s in-k o .0 e)
 
-      pub owner-number : (o : Owner) → owns w p o s k ≡ true → answerOf (ownerQueryOf w s k port) ≡ record { refusal = false; value = numberOf o }
-      owner-number o e = ap answerOf (query-owner o e)
+      pub owner-number : (o : Owner) → owns w p o s k ≡ true → ownerAnswer (ownerQueryOf w s k port) ≡ record { refusal = false; value = ownerNumber o }
+      owner-number o e = ap ownerAnswer (query-owner o e)
 
 -- "a place has the same owner on every port"
 pub same-on-every-port :
     (w : List ℕ) (p : Plan) → checkOf w ≡ accepted p → (s k a b : ℕ) → a < p .cell .ports → b < p .cell .ports
     → ownerQueryOf w s k a ≡ ownerQueryOf w s k b
-unfolding ownerQueryOf answerTo inGrid
+unfolding ownerQueryOf inGrid
 same-on-every-port w p ok s k a b la lb = rw (ok, lt-ltb _ _ la, lt-ltb _ _ lb) refl
 
 -- ---- the code's ways to the answer

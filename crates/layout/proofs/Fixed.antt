@@ -7,7 +7,8 @@ use mathlib.Core.Bool.{true, false, not, _&&_, _||_, and-false}
 use native.Mathlib.Omega.{arith}
 use lib.Dec.{leb, ltb, eqb}
 use borrow.Author.Tests.{eq-eqb, ne-eqb, lt-ltb, le-ltb, le-leb, eqb-true, eqb-false, ltb-true, ltb-false, leb-true, not-true}
-use Rattle.layout.specs.Choice.{if_then_else_}
+use Rattle.base.proofs.Tests.{by-test, clash, both, or-cases, or-left, or-right, is-not, on-if}
+use Rattle.base.specs.Choice.{if_then_else_}
 use Rattle.layout.specs.Rules.{slotLength, middle, inSlot, standsAt, crsOf, crs, crsOfFour, crsAny, centre, used, marked, pss, sss, heldBySync, pbchArea, pbch, heldByPbch, held, inGroup, groupOf, isFormat, pcfich, number, left, takes, unitHas, phich}
 use Rattle.layout.specs.Owners.{slotOfCell, fixedRule}
 use Rattle.layout.specs.Chain.{pilotIn, pilot, groupAt, controlAt, syncArea, fixedAt, isIdle}
@@ -19,7 +20,6 @@ use Rattle.layout.specs.declared.Mark.the-variants.{Primary, Secondary}
 use Rattle.layout.specs.declared.Owner.{Owner}
 use Rattle.layout.specs.declared.Owner.the-variants.{Crs, Sync, Pbch, Pcfich, Phich, User as UserOf, Held, Idle}
 use Rattle.plan.proofs.Listed.{and-left, and-right}
-use Rattle.layout.proofs.Logic.{by-test, clash, both, or-cases, or-left, or-right, is-not, on-if}
 use Rattle.layout.proofs.Pilot.{crs-is, four-is, any-is}
 use Rattle.layout.proofs.Groups.{number-small}
 use Rattle.layout.proofs.Units.{units-fit, unit-at, unit-sound}

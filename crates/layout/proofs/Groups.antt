@@ -6,9 +6,9 @@ use native.Mathlib.Omega.{arith}
 use native.Mathlib.Nat.{mod-lt, suc-mul, mul-le-mul-right, add-suc, add-zero}
 use lib.Dec.{ltb, eqb}
 use borrow.Author.Tests.{ne-eqb, lt-ltb, le-ltb, eqb-true, eqb-false, ltb-true, ltb-false}
-use Rattle.layout.specs.Choice.{one}
+use Rattle.base.proofs.Tests.{by-test}
+use Rattle.base.specs.Choice.{one}
 use Rattle.layout.specs.Rules.{formatGroup, isFormat, number, left}
-use Rattle.layout.proofs.Logic.{by-test}
 use Rattle.layout.proofs.Ring as ring
 
 one-small : (b : Bool) → one b ≤ 1

@@ -1,6 +1,5 @@
 -- Laws that the proofs cite. For the crates above: OneOwner (theorem A), Asked (the owner query), Few (ranges of an accepted plan), Known.
 -- The rest is about tests and lists, and about each part of the layout in turn.
-mod Logic
 pub mod Lists
 pub mod Pilot
 pub mod Ring

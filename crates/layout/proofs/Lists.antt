@@ -4,11 +4,11 @@ use mathlib.Core.Path.{_≡_, refl}
 use mathlib.Core.Bool.{Bool, true, false, not}
 use mathlib.Core.List.{List, [], _∷_, _++_}
 use native.Mathlib.Nat.{not-suc-le-zero, le-of-suc-le-suc}
+use Rattle.base.proofs.Tests.{by-test, clash, is-false}
 use Rattle.base.specs.Tables.{table}
 use Rattle.plan.specs.Lists.{noneOf}
 use Rattle.plan.proofs.Listed.{and-right}
-use Rattle.layout.specs.Choice.{firstOf}
-use Rattle.layout.proofs.Logic.{by-test, clash, is-false}
+use Rattle.base.specs.Choice.{firstOf}
 
 pub data In {A : Type 0} (a : A) : List A → Type 0 where
   here : {l : List A} → In a (a ∷ l)

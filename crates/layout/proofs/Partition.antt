@@ -8,6 +8,7 @@ use native.Mathlib.Omega.{arith}
 use lib.Dec.{leb, ltb}
 use lib.ListN.{length}
 use borrow.Author.Tests.{le-ltb, le-leb, ltb-true, ltb-false, leb-true}
+use Rattle.base.proofs.Tests.{by-test, clash, both, is-false, on-if}
 use Rattle.base.specs.Tables.{table}
 use Rattle.plan.specs.Lists.{noneOf, Every, Apart}
 use Rattle.plan.specs.Fields.{unitsOf}
@@ -18,14 +19,13 @@ use Rattle.plan.specs.declared.Frame.{Frame}
 use Rattle.plan.specs.declared.User.{User}
 use Rattle.plan.specs.declared.Plan.{Plan}
 use Rattle.plan.proofs.Listed.{and-left, and-right}
-use Rattle.layout.specs.Choice.{if_then_else_}
+use Rattle.base.specs.Choice.{if_then_else_}
 use Rattle.layout.specs.Rules.{slotOf, crs, crsOf, phich, inGroup, groupOf, unitHas}
 use Rattle.layout.specs.Owners.{slotOfCell, fixedRule, above, free, controlSymbols, blocksHave, userHas, userRule, rest, owns, owners, ownerOf}
 use Rattle.layout.specs.Chain.{fixedAt, isIdle, userFrom, ownerAt}
 use Rattle.layout.specs.declared.Mark.the-variants.{Primary, Secondary}
 use Rattle.layout.specs.declared.Owner.{Owner}
 use Rattle.layout.specs.declared.Owner.the-variants.{Crs, Sync, Pbch, Pcfich, Phich, User as UserOf, Held, Idle}
-use Rattle.layout.proofs.Logic.{by-test, clash, is-false, both, on-if}
 use Rattle.layout.proofs.Lists.{In, here, there, in-left, in-right, table-in, none-in, none-at, some-in, first-is}
 use Rattle.layout.proofs.Fixed.{Fit, fixed-at, fixed-ok}
 
@@ -169,9 +169,10 @@ module _ (w : List ℕ) (p : Plan) (s k : ℕ) (fit : Fit (p .cell) k) (disjoint
 
   -- an owner whose rule holds is the one that ownerAt names
   pub the-owner : (o : Owner) → owns w p o s k ≡ true → ownerAt w p s k ≡ o
-  unfolding owns
+  unfolding owns fixedRule
   the-owner (Crs q) e = fixed-owner (Crs q) e
-  the-owner (Sync m) e = fixed-owner (Sync m) e
+  the-owner (Sync Primary) e = fixed-owner (Sync Primary) e
+  the-owner (Sync Secondary) e = fixed-owner (Sync Secondary) e
   the-owner Pbch e = fixed-owner Pbch e
   the-owner Pcfich e = fixed-owner Pcfich e
   the-owner (Phich m) e = fixed-owner (Phich m) e
@@ -182,7 +183,8 @@ module _ (w : List ℕ) (p : Plan) (s k : ℕ) (fit : Fit (p .cell) k) (disjoint
   pub owns-fixed : (o : Owner) → fixedRule c f o s k ≡ true → owns w p o s k ≡ true
   unfolding owns fixedRule
   owns-fixed (Crs q) e = e
-  owns-fixed (Sync m) e = e
+  owns-fixed (Sync Primary) e = e
+  owns-fixed (Sync Secondary) e = e
   owns-fixed Pbch e = e
   owns-fixed Pcfich e = e
   owns-fixed (Phich m) e = e
@@ -206,9 +208,10 @@ module _ (w : List ℕ) (p : Plan) (s k : ℕ) (fit : Fit (p .cell) k) (disjoint
 
   -- an owner that has the place is one of the plan's owners
   pub in-owners : (o : Owner) → owns w p o s k ≡ true → In o (owners w p)
-  unfolding owns owners
+  unfolding owns fixedRule owners
   in-owners (Crs q) e = there (in-left _ (listed c f s k fit (Crs q) e))
-  in-owners (Sync m) e = there (in-left _ (listed c f s k fit (Sync m) e))
+  in-owners (Sync Primary) e = there (in-left _ (listed c f s k fit (Sync Primary) e))
+  in-owners (Sync Secondary) e = there (in-left _ (listed c f s k fit (Sync Secondary) e))
   in-owners Pbch e = there (in-left _ (listed c f s k fit Pbch e))
   in-owners Pcfich e = there (in-left _ (listed c f s k fit Pcfich e))
   in-owners (Phich m) e = there (in-left _ (listed c f s k fit (Phich m) e))

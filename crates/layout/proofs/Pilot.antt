@@ -5,9 +5,9 @@ use mathlib.Core.Bool.{Bool, true, false, _&&_, _||_, and-true, and-false, and-c
 use native.Mathlib.Omega.{arith}
 use lib.Dec.{ltb, eqb}
 use borrow.Author.Tests.{eq-eqb, ne-eqb, lt-ltb, le-ltb, eqb-true, eqb-false}
+use Rattle.base.proofs.Tests.{by-test, clash}
 use Rattle.layout.specs.Rules.{slotOf, inSlot, crsSymbol, shift, standsAt, crsOf, crs, crsOfFour, crsAny}
 use Rattle.layout.specs.Chain.{pilotIn, pilot, pickPort}
-use Rattle.layout.proofs.Logic.{by-test, clash}
 
 -- the symbols of a slot, as the reference signals see them
 data Kind : Type 0 where

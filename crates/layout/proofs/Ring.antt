@@ -6,8 +6,8 @@ use native.Mathlib.Omega.{arith}
 use native.Mathlib.Nat.{mod-lt, mod-eq-of-lt, mod-eq-sub-mod, mod-add-mod}
 use lib.Dec.{ltb}
 use borrow.Author.Tests.{ltb-true, ltb-false}
+use Rattle.base.proofs.Tests.{by-test}
 use Rattle.layout.specs.Chain.{past}
-use Rattle.layout.proofs.Logic.{by-test}
 
 once : (x h : ℕ) → h ≤ x → x < h + h → x % h ≡ x - h
 once x h l u = mod-eq-sub-mod l ∙ mod-eq-of-lt (omega arith)

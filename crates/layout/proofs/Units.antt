@@ -7,6 +7,7 @@ use native.Mathlib.Omega.{arith}
 use native.Mathlib.Nat.{mul-le-mul-right, add-assoc}
 use lib.Dec.{leb, ltb, eqb}
 use borrow.Author.Tests.{eq-eqb, lt-ltb, le-ltb, le-leb, eqb-true, ltb-true, leb-true}
+use Rattle.base.proofs.Tests.{or-cases, on-if}
 use Rattle.layout.specs.Rules.{left, unitNumber, takes}
 use Rattle.layout.specs.Chain.{unitIn, past}
 use Rattle.plan.specs.Fields.{unitsOf}
@@ -14,7 +15,6 @@ use Rattle.plan.specs.declared.Cell.{Cell}
 use Rattle.layout.specs.declared.Owner.{Owner}
 use Rattle.layout.specs.declared.Owner.the-variants.{Phich, Idle}
 use Rattle.plan.proofs.Listed.{and-left, and-right}
-use Rattle.layout.proofs.Logic.{or-cases, on-if}
 use Rattle.layout.proofs.Ring as ring
 
 -- the units fill at most a third of the numbers

@@ -11,6 +11,7 @@ use lib.ListN.{drop}
 use borrow.Author.Tests.{eq-eqb, ne-eqb, lt-ltb, le-ltb, le-leb, lt-leb, ltb-true, leb-true}
 use types.Run.{OneOf}
 use denote.Enum.Declared.{tagOf}
+use Rattle.base.proofs.Tests.{or-left, or-right}
 use Rattle.plan.specs.Lists.{oneOf}
 use Rattle.plan.specs.Commands.{userOf}
 use Rattle.plan.specs.Fields.{unitsOf}
@@ -22,7 +23,7 @@ use Rattle.plan.specs.declared.Plan.{Plan}
 use Rattle.plan.proofs.OneOf.{not-in}
 use Rattle.plan.proofs.Listed.{and-left, and-right}
 use Rattle.plan.proofs.RowLaws.{row-next}
-use Rattle.layout.specs.Choice.{one}
+use Rattle.base.specs.Choice.{one}
 use Rattle.layout.specs.Rules.{slotLength, slotOf, centre, used, marked, pbchArea, formatGroup, isFormat, number}
 use Rattle.layout.specs.Owners.{slotOfCell, controlSymbols, blocksHave}
 use Rattle.layout.specs.Chain.{pilot, unitIn, groupAt, controlAt, syncArea, fixedAt, userFrom, isIdle, ownerAt}
@@ -30,7 +31,6 @@ use Rattle.layout.specs.declared.Mark.the-variants.{Primary, Secondary}
 use Rattle.layout.specs.declared.Owner.{Owner}
 use Rattle.layout.specs.declared.Owner.the-variants.{Crs, Sync, Pbch, Pcfich, Phich, User as UserOf, Held, Idle}
 use Rattle.layout.proofs.Owner.{the-type}
-use Rattle.layout.proofs.Logic.{or-left, or-right}
 use Rattle.layout.proofs.Groups.{below, number-is}
 
 module _ (L N f s k : ℕ) (m : Bool) (em : m ≡ marked f) where

@@ -14,7 +14,7 @@ use Rattle.plan.specs.declared.Refusal.{Refusal}
 use Rattle.plan.specs.declared.Refusal.the-variants.{Unreadable}
 use Rattle.plan.specs.declared.Checked.{Checked}
 use Rattle.plan.specs.declared.Checked.the-variants.{Plan as accepted, Refused as refused}
-use Rattle.layout.specs.Choice.{if_then_else_}
+use Rattle.base.specs.Choice.{if_then_else_}
 use Rattle.layout.specs.Rules.{slotOf, inSlot, standsAt, marked, centre, used, pbchArea, isFormat, number, left}
 use Rattle.layout.specs.Owners.{slotOfCell, controlSymbols, blocksHave}
 use Rattle.layout.specs.declared.Mark.the-variants.{Primary, Secondary}

@@ -1,4 +1,3 @@
-pub mod Choice
 pub mod Rules
 pub mod Owners
 pub mod Query

@@ -14,23 +14,23 @@ use Rattle.plan.specs.declared.Cell.{Cell}
 use Rattle.plan.specs.declared.Frame.{Frame}
 use Rattle.plan.specs.declared.User.{User}
 use Rattle.plan.specs.declared.Plan.{Plan}
-use Rattle.layout.specs.Choice.{firstOf}
+use Rattle.base.specs.Choice.{firstOf}
 use Rattle.layout.specs.Rules.{slotLength, slotOf, crs, pss, sss, pbch, held, pcfich, phich}
 use Rattle.layout.specs.declared.Mark.the-variants.{Primary, Secondary}
 use Rattle.layout.specs.declared.Owner.{Owner}
 use Rattle.layout.specs.declared.Owner.the-variants.{Crs, Sync, Pbch, Pcfich, Phich, User as UserOf, Held, Idle}
 
 -- an owner's number: a reference signal's port; 16 PSS, 17 SSS, 32 PBCH, 33 PCFICH, 64 + unit, 256 + user, 512 held, 513 idle
-abbrev pub numberOf : Owner → ℕ
-numberOf (Crs q) = q
-numberOf (Sync Primary) = 16
-numberOf (Sync Secondary) = 17
-numberOf Pbch = 32
-numberOf Pcfich = 33
-numberOf (Phich m) = 64 + m
-numberOf (UserOf i) = 256 + i
-numberOf Held = 512
-numberOf Idle = 513
+abbrev pub ownerNumber : Owner → ℕ
+ownerNumber (Crs q) = q
+ownerNumber (Sync Primary) = 16
+ownerNumber (Sync Secondary) = 17
+ownerNumber Pbch = 32
+ownerNumber Pcfich = 33
+ownerNumber (Phich m) = 64 + m
+ownerNumber (UserOf i) = 256 + i
+ownerNumber Held = 512
+ownerNumber Idle = 513
 
 -- S and 12N, and document 01's place: "A place is a pair (s, k) of the grid"
 abbrev pub slotOfCell : Cell → ℕ
@@ -45,17 +45,22 @@ carriers c = 12 * c .blocks
 abbrev pub gridPlace : Cell → ℕ → ℕ → Type 0
 gridPlace c s k = (s < symbols c) × (k < carriers c)
 
--- the rule of each owner above the users
+-- THE RULES, each owner's by its own sentence: "Each owner's places are those that its own rule gives, idle's the rest". `user i` is the
+-- rule of user i and `others` the rest, both below
+abbrev pub rule : Cell → Frame → (ℕ → ℕ → ℕ → Bool) → (ℕ → ℕ → Bool) → Owner → ℕ → ℕ → Bool
+rule c f user others (Crs q) s k = crs (slotOfCell c) (c .identity) (c .ports) q s k
+rule c f user others (Sync Primary) s k = pss (slotOfCell c) (c .blocks) (f .subframe) s k
+rule c f user others (Sync Secondary) s k = sss (slotOfCell c) (c .blocks) (f .subframe) s k
+rule c f user others Pbch s k = pbch (slotOfCell c) (c .identity) (c .blocks) (f .subframe) s k
+rule c f user others Pcfich s k = pcfich (c .identity) (c .blocks) s k
+rule c f user others (Phich m) s k = phich (c .identity) (c .blocks) (unitsOf c) m s k
+rule c f user others Held s k = held (slotOfCell c) (c .identity) (c .blocks) (c .ports) (f .subframe) s k
+rule c f user others (UserOf i) s k = user i s k
+rule c f user others Idle s k = others s k
+
+-- the rules of the owners above the users, without users and the rest
 unfoldable pub fixedRule : Cell → Frame → Owner → ℕ → ℕ → Bool
-fixedRule c f (Crs q) s k = crs (slotOfCell c) (c .identity) (c .ports) q s k
-fixedRule c f (Sync Primary) s k = pss (slotOfCell c) (c .blocks) (f .subframe) s k
-fixedRule c f (Sync Secondary) s k = sss (slotOfCell c) (c .blocks) (f .subframe) s k
-fixedRule c f Pbch s k = pbch (slotOfCell c) (c .identity) (c .blocks) (f .subframe) s k
-fixedRule c f Pcfich s k = pcfich (c .identity) (c .blocks) s k
-fixedRule c f (Phich m) s k = phich (c .identity) (c .blocks) (unitsOf c) m s k
-fixedRule c f Held s k = held (slotOfCell c) (c .identity) (c .blocks) (c .ports) (f .subframe) s k
-fixedRule c f (UserOf i) s k = false
-fixedRule c f Idle s k = false
+fixedRule c f o s k = rule c f (λ (i t l : ℕ). false) (λ (t l : ℕ). false) o s k
 
 -- the owners above the users; "not owned above"
 unfoldable pub above : Cell → List Owner
@@ -87,16 +92,9 @@ unfoldable pub rest : List ℕ → Plan → ℕ → ℕ → Bool
 rest w p s k =
     free (p .cell) (p .frame) s k && noneOf (λ (i : ℕ). userRule w p i s k) (table (length (usersOf w p)) (λ (i : ℕ). i))
 
--- THE RULES: "Each owner's places are those that its own rule gives, idle's the rest"
+-- whether the owner has the place, by its rule
 unfoldable pub owns : List ℕ → Plan → Owner → ℕ → ℕ → Bool
-owns w p (Crs q) s k = fixedRule (p .cell) (p .frame) (Crs q) s k
-owns w p (Sync m) s k = fixedRule (p .cell) (p .frame) (Sync m) s k
-owns w p Pbch s k = fixedRule (p .cell) (p .frame) Pbch s k
-owns w p Pcfich s k = fixedRule (p .cell) (p .frame) Pcfich s k
-owns w p (Phich m) s k = fixedRule (p .cell) (p .frame) (Phich m) s k
-owns w p Held s k = fixedRule (p .cell) (p .frame) Held s k
-owns w p (UserOf i) s k = userRule w p i s k
-owns w p Idle s k = rest w p s k
+owns w p o s k = rule (p .cell) (p .frame) (userRule w p) (rest w p) o s k
 
 -- all owners of a plan
 unfoldable pub owners : List ℕ → Plan → List Owner

@@ -4,7 +4,7 @@
 use Prim.Native.Nat.{ℕ, zero, suc, _+_, _-_, _*_, _/_, _%_}
 use mathlib.Core.Bool.{Bool, not, _&&_, _||_}
 use lib.Dec.{leb, ltb, eqb}
-use Rattle.layout.specs.Choice.{if_then_else_}
+use Rattle.base.specs.Choice.{if_then_else_}
 
 -- Grid: "S = 14 symbols (extended 12), two slots of 7 (6) .. l counts in a slot, s in the subframe"
 unfoldable pub slotLength : ℕ → ℕ

@@ -7,9 +7,9 @@ ghost use lib.Dec.{leb, ltb};
 ghost use Rattle.plan.specs.Check.{checkOf};
 ghost use Rattle.plan.specs.Rows.{usersFrom};
 ghost use Rattle.plan.specs.declared.Checked.the-variants.{Plan as accepted};
-ghost use Rattle.layout.specs.Choice.{one};
+ghost use Rattle.base.specs.Choice.{one};
 ghost use Rattle.layout.specs.Rules.{slotLength, inSlot, middle, marked, pbchArea, standsAt, formatGroup, left};
-ghost use Rattle.layout.specs.Owners.{numberOf, gridPlace, controlSymbols, blocksHave, ownerOf};
+ghost use Rattle.layout.specs.Owners.{ownerNumber, gridPlace, controlSymbols, blocksHave, ownerOf};
 ghost use Rattle.layout.specs.Chain.{pickPort, pilot, unitIn, groupAt, controlAt, syncArea, fixedAt, userFrom, ownerAt, refusalOf};
 ghost use Rattle.layout.specs.Query.{inGrid, ownerQueryOf};
 use plan::Cell;
@@ -45,7 +45,7 @@ pub enum OwnerAnswer {
 
 // The owner's number.
 pub fn owner_number(o: Owner) -> u16
-    ensures { λ n. ⌜ n ≡ numberOf o ⌝ }
+    ensures { λ n. ⌜ n ≡ ownerNumber o ⌝ }
 {
     match o {
         Owner::Crs(port) => port as u16,

@@ -9,32 +9,31 @@ use mir.Syntax.{w64}
 use mir.Val.{SFits, toZ, ofZ}
 use mir.Facts.{toZ-ofZ, toZ-pos}
 use Rattle.base.proofs.Fits.{fits-abs, abs-neg, sub-zero}
-use Rattle.plan.specs.Check.{checkOf, numberOf}
+use Rattle.plan.specs.Answers.{Answer, given, refusedBy}
+use Rattle.plan.specs.Check.{refusalNumber, checkOf, refusedAs}
 use Rattle.plan.specs.declared.Plan.{Plan}
 use Rattle.plan.specs.declared.Refusal.{Refusal}
 use Rattle.plan.specs.declared.Checked.{Checked}
 use Rattle.plan.specs.declared.Checked.the-variants.{Plan as accepted, Refused as refused}
-use Rattle.layout.specs.Query.{Answer}
-use Rattle.build.specs.Build.{refusedBy}
-use Rattle.mapper.specs.Calls.{numberFrom, given, valueOf, checkedOf, inC}
+use Rattle.mapper.specs.Calls.{numberOf, numberAnswer, checkedAnswer, inC}
 use Rattle.mapper.specs.Sizes.{Small}
 use Rattle.mapper.specs.declared.Number.{Number}
 use Rattle.mapper.specs.declared.Number.the-variants.{Is, Refused}
 
 module _ (w : List ℕ) (a : Checked) (e : a ≡ checkOf w) where
   module _ (p : Plan) (is : a ≡ accepted p) where
-    pub number-is : (f : Plan → ℕ) (n : ℕ) → n ≡ f p → Is n ≡ numberFrom f (checkOf w)
-    number-is f n q = ap Is q ∙ ap (numberFrom f) (sym is ∙ e)
+    pub number-is : (f : Plan → ℕ) (n : ℕ) → n ≡ f p → given n ≡ numberOf f (checkOf w)
+    number-is f n q = ap given q ∙ ap (numberOf f) (sym is ∙ e)
 
-    pub check-is : checkedOf (checkOf w) ≡ given 0
-    check-is = ap checkedOf (sym e ∙ is)
+    pub check-is : checkedAnswer (checkOf w) ≡ given 0
+    check-is = ap checkedAnswer (sym e ∙ is)
 
   module _ (r : Refusal) (is : a ≡ refused r) where
-    pub number-refused : (f : Plan → ℕ) → Refused r ≡ numberFrom f (checkOf w)
-    number-refused f = ap (numberFrom f) (sym is ∙ e)
+    pub number-refused : (f : Plan → ℕ) → refusedAs r ≡ numberOf f (checkOf w)
+    number-refused f = ap (numberOf f) (sym is ∙ e)
 
-    pub check-refused : checkedOf (checkOf w) ≡ refusedBy (numberOf r)
-    check-refused = ap checkedOf (sym e ∙ is)
+    pub check-refused : checkedAnswer (checkOf w) ≡ refusedBy (refusalNumber r)
+    check-refused = ap checkedAnswer (sym e ∙ is)
 
 -- ---- a number for C, as it is or back from the bits of a call's i64
 back : (z : ℤ) → mag z < 2 ^ 63 → toZ w64 (ofZ w64 z) ≡ z
@@ -56,8 +55,8 @@ module _ (n : ℕ) (x : Answer) where
     pub minus-back : z ≡ negℤ (pos n) → x ≡ refusedBy n → toZ w64 (ofZ w64 z) ≡ inC x
     minus-back q e = back z fits ∙ q ∙ minus-is e
 
-pub number-back : (z : ℤ) → mag z < 2 ^ 63 → (n m : Number) → z ≡ inC (valueOf n) → n ≡ m → toZ w64 (ofZ w64 z) ≡ inC (valueOf m)
-number-back z fits n m q e = back z fits ∙ q ∙ ap (λ (x : Number). inC (valueOf x)) e
+pub number-back : (z : ℤ) → mag z < 2 ^ 63 → (n : Number) (a : Answer) → z ≡ inC (numberAnswer n) → numberAnswer n ≡ a → toZ w64 (ofZ w64 z) ≡ inC a
+number-back z fits n a q e = back z fits ∙ q ∙ ap inC e
 
 -- ---- minus a number below 2^63
 module _ (n : ℕ) (small : n < 2 ^ 63) where

@@ -5,7 +5,7 @@ use mathlib.Core.Bool.{not}
 use lib.Dec.{T}
 use lib.Ieee.{Float, nan, inf, fin, isNan}
 use lib.Ieee.Scale.{finite}
-use Rattle.sample.specs.Answer.{sampleOf, told}
+use Rattle.sample.specs.Answer.{sampleOf}
 use Rattle.sample.specs.Promise.{Sampled}
 use Rattle.sample.specs.declared.Point.{Point}
 use Rattle.sample.specs.declared.Sample.{Sample}
@@ -29,7 +29,7 @@ module _ (b i j : ℕ) (r : SampleAnswer) (sampled : Sampled b i j r) where
 
     module _ (p : Point) (e : s ≡ At p) where
       pub first-no-nan : T (not (isNan (p .re)))
-      first-no-nan = no-nan (p .re) (sampled .bounded (p .re) (p .im) (ap told (is ∙ ap element e)) .re .number)
+      first-no-nan = no-nan (p .re) (sampled .bounded p (is ∙ ap element e) .re .number)
 
       pub second-no-nan : T (not (isNan (p .im)))
-      second-no-nan = no-nan (p .im) (sampled .bounded (p .re) (p .im) (ap told (is ∙ ap element e)) .im .number)
+      second-no-nan = no-nan (p .im) (sampled .bounded p (is ∙ ap element e) .im .number)

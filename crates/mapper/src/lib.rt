@@ -16,16 +16,16 @@ ghost use mathlib.Core.Bool.{not};
 ghost use lib.Dec.{T};
 ghost use lib.Ieee.{binary32, isNan, toBits};
 ghost use lib.IntN.{pos, negℤ};
-ghost use Rattle.plan.specs.Check.{checkOf, numberOf};
+ghost use Rattle.plan.specs.Answers.{Answer};
+ghost use Rattle.plan.specs.Check.{refusalNumber, checkOf};
 ghost use Rattle.plan.specs.declared.Checked.the-variants.{Plan as accepted};
-ghost use Rattle.layout.specs.Query.{ownerQueryOf, answerOf as ownerAnswer};
+ghost use Rattle.layout.specs.Query.{ownerQueryOf, ownerAnswer};
 ghost use Rattle.sample.specs.Answer.{sampleOf};
 ghost use Rattle.sample.specs.Promise.{Sampled};
 ghost use Rattle.counted.specs.Gridcount.{gridcountOf};
-ghost use Rattle.build.specs.Build.{builtOf, gridAfter, valueOf as builtValue, answerOf as builtAnswer};
-ghost use Rattle.read.specs.Read.{readOf, payloadAfter, Reads, valueOf as readValue, answerOf as readAnswer};
-ghost use Rattle.two_builds.specs.Both.{bothOf, firstAfter, secondAfter, Separate};
-ghost use Rattle.mapper.specs.Calls.{kindElements, gridLengthOf, payloadLengthOf, countOf, valueOf, checkedOf, inC, kindOf, firstOf, secondOf};
+ghost use Rattle.build.specs.Build.{builtOf, gridAfter, builtAnswer};
+ghost use Rattle.read.specs.Read.{Reads, readAnswer};
+ghost use Rattle.mapper.specs.Calls.{kindElements, gridLengthOf, payloadLengthOf, kindCountOf, numberAnswer, checkedAnswer, sampleAnswer, inC};
 ghost use Rattle.mapper.specs.Sizes.{Small};
 
 // A length or a count, or the refusal.
@@ -43,7 +43,7 @@ pub fn check(plan: &[u8]) -> Checked
 
 // The length of a plan's grid.
 pub fn grid_length(plan: &[u8]) -> Number
-    ensures { λ r. ⌜ r ≡ gridLengthOf (now (plan .entry)) ⌝ }
+    ensures { λ r. ⌜ numberAnswer r ≡ gridLengthOf (now (plan .entry)) ⌝ }
 {
     match plan::check(plan) {
         Checked::Plan(p) => Number::Is(payload::grid_length(p)),
@@ -53,7 +53,7 @@ pub fn grid_length(plan: &[u8]) -> Number
 
 // The length of its payload.
 pub fn payload_length(plan: &[u8]) -> Number
-    ensures { λ r. ⌜ r ≡ payloadLengthOf (now (plan .entry)) ⌝ }
+    ensures { λ r. ⌜ numberAnswer r ≡ payloadLengthOf (now (plan .entry)) ⌝ }
 {
     match plan::check(plan) {
         Checked::Plan(p) => Number::Is(payload::payload_length(plan, p)),
@@ -75,7 +75,7 @@ fn count_of(plan: &[u8], p: Plan, kind: usize) -> usize
 
 // COUNT: the elements of a kind of owners, in the order of gridcount's lines.
 pub fn count(plan: &[u8], kind: usize) -> Number
-    ensures { λ r. ⌜ r ≡ countOf (now (plan .entry)) kind ⌝ }
+    ensures { λ r. ⌜ numberAnswer r ≡ kindCountOf (now (plan .entry)) kind ⌝ }
 {
     match plan::check(plan) {
         Checked::Plan(p) => Number::Is(count_of(plan, p, kind)),
@@ -107,8 +107,7 @@ pub fn sample_at(unit: u8, i: u8, j: u8) -> SampleAnswer
 // BUILD: the grid of a plan and a payload.
 pub fn build_grid(plan: &[u8], payload: &[u8], grid: &mut [u8]) -> Built
     ensures { λ r. ⌜
-        (r ≡ builtOf (now (plan .entry)) (now (payload .entry)) (now (grid .entry)))
-        × (builtValue r ≡ builtAnswer (now (plan .entry)) (now (payload .entry)) (now (grid .entry)))
+        (builtAnswer r ≡ builtOf (now (plan .entry)) (now (payload .entry)) (now (grid .entry)))
         × (now (grid .exit) ≡ gridAfter (now (plan .entry)) (now (payload .entry)) (now (grid .entry)))
         ⌝ }
 {
@@ -117,26 +116,9 @@ pub fn build_grid(plan: &[u8], payload: &[u8], grid: &mut [u8]) -> Built
 
 // READ: the payload of a grid.
 pub fn read_grid(plan: &[u8], grid: &[u8], payload: &mut [u8]) -> ReadBack
-    ensures { λ r. ⌜
-        (r ≡ readOf (now (plan .entry)) (now (grid .entry)) (now (payload .entry)))
-        × (readValue r ≡ readAnswer (now (plan .entry)) (now (grid .entry)) (now (payload .entry)))
-        × (now (payload .exit) ≡ payloadAfter (now (plan .entry)) (now (grid .entry)) (now (payload .entry)))
-        × Reads (now (plan .entry)) (now (grid .entry)) (now (payload .entry)) r (now (payload .exit))
-        ⌝ }
+    ensures { λ r. ⌜ Reads (now (plan .entry)) (now (grid .entry)) (now (payload .entry)) (readAnswer r) (now (payload .exit)) ⌝ }
 {
     read::read(plan, grid, payload)
-}
-
-// TWO BUILDS, for the regulator's second question.
-pub fn build_both(plan: &[u8], a: &[u8], b: &[u8], grid_a: &mut [u8], grid_b: &mut [u8]) -> Built
-    ensures { λ r. ⌜
-        (r ≡ bothOf (now (plan .entry)) (now (a .entry)) (now (b .entry)) (now («grid_a» .entry)) (now («grid_b» .entry)))
-        × (now («grid_a» .exit) ≡ firstAfter (now (plan .entry)) (now (a .entry)) (now (b .entry)) (now («grid_a» .entry)) (now («grid_b» .entry)))
-        × (now («grid_b» .exit) ≡ secondAfter (now (plan .entry)) (now (a .entry)) (now (b .entry)) (now («grid_a» .entry)) (now («grid_b» .entry)))
-        × Separate (now (plan .entry)) (now (a .entry)) (now (b .entry)) (now («grid_a» .entry)) (now («grid_b» .entry)) (now («grid_a» .exit)) (now («grid_b» .exit))
-        ⌝ }
-{
-    two_builds::build_both(plan, a, b, grid_a, grid_b)
 }
 
 // ---- for C
@@ -151,7 +133,7 @@ fn plus(n: usize) -> i64
 
 // Minus a refusal's number.
 fn minus(r: Refusal) -> i64
-    ensures { λ n. ⌜ n ≡ negℤ (pos (numberOf r)) ⌝ }
+    ensures { λ n. ⌜ n ≡ negℤ (pos (refusalNumber r)) ⌝ }
 {
     -(plan::number(r) as i64)
 }
@@ -166,7 +148,7 @@ fn bits(x: f32) -> u32
 
 fn number_in_c(n: Number) -> i64
     requires { ⌜ Small n ⌝ }
-    ensures { λ r. ⌜ r ≡ inC (valueOf n) ⌝ }
+    ensures { λ r. ⌜ r ≡ inC (numberAnswer n) ⌝ }
 {
     match n {
         Number::Is(v) => plus(v),
@@ -176,7 +158,7 @@ fn number_in_c(n: Number) -> i64
 
 #[no_mangle]
 pub extern "C" fn mapper_check(plan: &[u8]) -> i64
-    ensures { λ r. ⌜ r ≡ inC (checkedOf (checkOf (now (plan .entry)))) ⌝ }
+    ensures { λ r. ⌜ r ≡ inC (checkedAnswer (checkOf (now (plan .entry)))) ⌝ }
 {
     match plan::check(plan) {
         Checked::Plan(_) => 0,
@@ -186,28 +168,28 @@ pub extern "C" fn mapper_check(plan: &[u8]) -> i64
 
 #[no_mangle]
 pub extern "C" fn mapper_grid_len(plan: &[u8]) -> i64
-    ensures { λ r. ⌜ r ≡ inC (valueOf (gridLengthOf (now (plan .entry)))) ⌝ }
+    ensures { λ r. ⌜ r ≡ inC (gridLengthOf (now (plan .entry))) ⌝ }
 {
     number_in_c(grid_length(plan))
 }
 
 #[no_mangle]
 pub extern "C" fn mapper_payload_len(plan: &[u8]) -> i64
-    ensures { λ r. ⌜ r ≡ inC (valueOf (payloadLengthOf (now (plan .entry)))) ⌝ }
+    ensures { λ r. ⌜ r ≡ inC (payloadLengthOf (now (plan .entry))) ⌝ }
 {
     number_in_c(payload_length(plan))
 }
 
 #[no_mangle]
 pub extern "C" fn mapper_count(plan: &[u8], kind: usize) -> i64
-    ensures { λ r. ⌜ r ≡ inC (valueOf (countOf (now (plan .entry)) kind)) ⌝ }
+    ensures { λ r. ⌜ r ≡ inC (kindCountOf (now (plan .entry)) kind) ⌝ }
 {
     number_in_c(count(plan, kind))
 }
 
 #[no_mangle]
 pub extern "C" fn mapper_build(plan: &[u8], payload: &[u8], grid: &mut [u8]) -> i64
-    ensures { λ r. ⌜ (r ≡ inC (builtAnswer (now (plan .entry)) (now (payload .entry)) (now (grid .entry)))) × (now (grid .exit) ≡ gridAfter (now (plan .entry)) (now (payload .entry)) (now (grid .entry))) ⌝ }
+    ensures { λ r. ⌜ (r ≡ inC (builtOf (now (plan .entry)) (now (payload .entry)) (now (grid .entry)))) × (now (grid .exit) ≡ gridAfter (now (plan .entry)) (now (payload .entry)) (now (grid .entry))) ⌝ }
 {
     match build::build(plan, payload, grid) {
         Built::Elements(n) => plus(n),
@@ -217,11 +199,7 @@ pub extern "C" fn mapper_build(plan: &[u8], payload: &[u8], grid: &mut [u8]) -> 
 
 #[no_mangle]
 pub extern "C" fn mapper_read(plan: &[u8], grid: &[u8], payload: &mut [u8]) -> i64
-    ensures { λ r. ⌜
-        (r ≡ inC (readAnswer (now (plan .entry)) (now (grid .entry)) (now (payload .entry))))
-        × (now (payload .exit) ≡ payloadAfter (now (plan .entry)) (now (grid .entry)) (now (payload .entry)))
-        × Reads (now (plan .entry)) (now (grid .entry)) (now (payload .entry)) (readOf (now (plan .entry)) (now (grid .entry)) (now (payload .entry))) (now (payload .exit))
-        ⌝ }
+    ensures { λ r. ⌜ ((a : Answer) × (r ≡ inC a) × Reads (now (plan .entry)) (now (grid .entry)) (now (payload .entry)) a (now (payload .exit))) ⌝ }
 {
     match read::read(plan, grid, payload) {
         ReadBack::Elements(n) => plus(n),
@@ -242,7 +220,7 @@ pub extern "C" fn mapper_owner(plan: &[u8], s: usize, k: usize, port: usize) -> 
 // The kind of an element's sample: 0 silence, 1 phase, 2 a pair of f32.
 #[no_mangle]
 pub extern "C" fn mapper_sample_kind(unit: u8, i: u8, j: u8) -> i64
-    ensures { λ r. ⌜ r ≡ inC (kindOf (sampleOf unit i j)) ⌝ }
+    ensures { λ r. ⌜ r ≡ inC (sampleAnswer 0 (sampleOf unit i j)) ⌝ }
 {
     match sample::sample_at(unit, i, j) {
         SampleAnswer::Is(s) => match s {
@@ -257,7 +235,7 @@ pub extern "C" fn mapper_sample_kind(unit: u8, i: u8, j: u8) -> i64
 // The phase, or the bits of the f32 of I; 0 for silence.
 #[no_mangle]
 pub extern "C" fn mapper_sample_i(unit: u8, i: u8, j: u8) -> i64
-    ensures { λ r. ⌜ r ≡ inC (firstOf (sampleOf unit i j)) ⌝ }
+    ensures { λ r. ⌜ r ≡ inC (sampleAnswer 1 (sampleOf unit i j)) ⌝ }
 {
     match sample::sample_at(unit, i, j) {
         SampleAnswer::Is(s) => match s {
@@ -272,7 +250,7 @@ pub extern "C" fn mapper_sample_i(unit: u8, i: u8, j: u8) -> i64
 // The bits of the f32 of J; 0 for silence and for a phase.
 #[no_mangle]
 pub extern "C" fn mapper_sample_j(unit: u8, i: u8, j: u8) -> i64
-    ensures { λ r. ⌜ r ≡ inC (secondOf (sampleOf unit i j)) ⌝ }
+    ensures { λ r. ⌜ r ≡ inC (sampleAnswer 2 (sampleOf unit i j)) ⌝ }
 {
     match sample::sample_at(unit, i, j) {
         SampleAnswer::Is(s) => match s {

@@ -15,6 +15,6 @@ markOf n z = cond (isLevel n z) (number 4 (levelBits n z)) 255
 unfoldable pub marksOf : ℕ → ℕ
 marksOf n = number 256 (table 8 (λ (i : ℕ). markOf n (subℕ 7 (2 * i))))
 
--- some q bits have this symbol
+-- the symbol is a constellation point of q bits
 unfoldable pub isSymbol : ℕ → Pair → Bool
 isSymbol q d = isLevel (q / 2) (d .re) && isLevel (q / 2) (d .im)

@@ -132,7 +132,7 @@ fn mark(q: u32, b: u8) -> u32
     ((marks_for(q) >> at) % 256) as u32
 }
 
-// The bits of the symbol with the bytes i and j, levels that some bits have.
+// The bits of the symbol with the bytes i and j, of a constellation point.
 pub fn bits(q: u32, i: u8, j: u8) -> u32
     requires { ⌜ Order q × (isLevel (q / 2) (signedOf i) ≡ true) × (isLevel (q / 2) (signedOf j) ≡ true) ⌝ }
     ensures { λ r. ⌜ (demapOf q (record { re = signedOf i; im = signedOf j }) ≡ Word r) × (r < 2 ^ q) ⌝ }

@@ -23,7 +23,7 @@ use Rattle.plan.specs.declared.Checked.the-variants.{Plan as accepted}
 use Rattle.plan.proofs.OneOf.{among-holds}
 use Rattle.plan.proofs.Valid.{valid}
 use Rattle.plan.proofs.RowLaws.{row-next, row-zero}
-use Rattle.layout.specs.Choice.{if_then_else_}
+use Rattle.base.specs.Choice.{if_then_else_}
 use Rattle.layout.specs.Rules.{slotLength}
 use Rattle.layout.specs.Owners.{symbols}
 use Rattle.counts.specs.Users.{userElements}

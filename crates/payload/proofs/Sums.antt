@@ -10,7 +10,7 @@ use lib.Dec.{leb, ltb, eqb}
 use borrow.Author.Tests.{ltb-true, ltb-false, lt-ltb, le-ltb, le-leb, lt-leb, eq-eqb, eqb-true, eqb-false}
 use Rattle.base.specs.Tables.{table}
 use Rattle.plan.specs.Lists.{Among, Every}
-use Rattle.layout.specs.Choice.{if_then_else_, one}
+use Rattle.base.specs.Choice.{if_then_else_, one}
 use Rattle.payload.specs.Sections.{span}
 use Rattle.payload.specs.Bits.{tally, occurs}
 

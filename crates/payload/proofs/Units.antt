@@ -12,7 +12,7 @@ use Rattle.plan.specs.Fields.{unitsOf, groupsOf}
 use Rattle.plan.specs.Valid.{HiIn}
 use Rattle.plan.specs.declared.Cell.{Cell}
 use Rattle.plan.specs.declared.Hi.{Hi}
-use Rattle.layout.specs.Choice.{if_then_else_, one}
+use Rattle.base.specs.Choice.{if_then_else_, one}
 use Rattle.payload.specs.Bits.{tally, occurs, hasGroup, unitBits}
 use Rattle.payload.proofs.Sums.{sumBelow, sum-same, sum-add, sum-none, sum-one, occurs-nil, within, within-split, within-none, within-one}
 

@@ -15,7 +15,7 @@ use Rattle.plan.specs.declared.User.{User}
 use Rattle.plan.specs.declared.Plan.{Plan}
 use Rattle.plan.specs.declared.Refusal.{Refusal}
 use Rattle.plan.specs.declared.Refusal.the-variants.{GridLength, PayloadLength, SpareBit}
-use Rattle.layout.specs.Choice.{if_then_else_}
+use Rattle.base.specs.Choice.{if_then_else_}
 use Rattle.layout.specs.Owners.{symbols}
 use Rattle.counts.specs.Users.{userElements}
 use Rattle.payload.specs.Sections.{bytesOf, sparesFrom}

@@ -13,7 +13,7 @@ use Rattle.base.specs.Pairs.{nil, plus, turned}
 use Rattle.base.proofs.Pairs.{turned-turned, turned-nil}
 use Rattle.plan.specs.declared.Hi.{Hi}
 use Rattle.phich.specs.Spreading.{Length, signAt, plainChip, chipAt}
-use Rattle.phich.specs.Units.{mappingUnit, firstOf, has, chipNumber, partAt, addedAt, sumAt}
+use Rattle.phich.specs.Units.{mappingUnit, firstPlace, has, chipNumber, partAt, addedAt, sumAt}
 use Rattle.phich.specs.Recovery.{dot, along}
 use Rattle.phich.proofs.Correlation.{dot-plus, dot-nil, dot-turn, dot-turned, total-same, total-add, total-turn, total-zero}
 use Rattle.phich.proofs.Parts.{waveAt, part-wave}
@@ -71,14 +71,14 @@ module _ (l : ℕ) (c : ℕ → ℕ) where
 
 -- ---- one length
 module _ (l : ℕ) (ok : Length l) (c : ℕ → ℕ) where
-  slot-wave : (h : Hi) → h .sequence < 2 * l → (i : ℕ) → waveAt l (firstOf l h) (h .sequence) i ≡ slotWave l (slotOf l h) i
+  slot-wave : (h : Hi) → h .sequence < 2 * l → (i : ℕ) → waveAt l (firstPlace l h) (h .sequence) i ≡ slotWave l (slotOf l h) i
   unfolding slotWave
   slot-wave h w i = sym (ap₂ (λ (f q : ℕ). waveAt l f q i) (slot-first l ok h w) (slot-sequence l ok h w))
 
   part-dot : (g h : Hi) → g .sequence < 2 * l → h .sequence < 2 * l → (i : ℕ) → dot (partAt l c g 0 i) (partAt l c h 0 i) ≡ dot (slotWave l (slotOf l g) i) (slotWave l (slotOf l h) i)
   part-dot g h wg wh i =
       ap₂ dot (part-wave l ok c g 0 i) (part-wave l ok c h 0 i)
-      ∙ dot-turned (c (i / 4 * l + i % 4 % l)) (waveAt l (firstOf l g) (g .sequence) i) (waveAt l (firstOf l h) (h .sequence) i)
+      ∙ dot-turned (c (i / 4 * l + i % 4 % l)) (waveAt l (firstPlace l g) (g .sequence) i) (waveAt l (firstPlace l h) (h .sequence) i)
       ∙ ap₂ dot (slot-wave g wg i) (slot-wave h wh i)
 
   same-unit : (g : Hi) (m : ℕ) (h : Hi) → g .sequence < 2 * l → h .sequence < 2 * l → mappingUnit l h ≡ m → along l c g (addedAt l c m h 0) ≡ gram l (slotOf l g) (slotOf l h)

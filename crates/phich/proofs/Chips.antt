@@ -14,7 +14,7 @@ use Rattle.base.specs.Tables.{table}
 use Rattle.base.proofs.Tables.{table-length, table-at, filled}
 use Rattle.plan.specs.declared.Hi.{Hi}
 use Rattle.phich.specs.Spreading.{Length}
-use Rattle.phich.specs.Units.{mappingUnit, firstOf, partAt, addedAt, sumAt, unitSums}
+use Rattle.phich.specs.Units.{mappingUnit, firstPlace, partAt, addedAt, sumAt, unitSums}
 use Rattle.phich.specs.Recovery.{dot, along, bitIn}
 use Rattle.phich.proofs.Correlation.{total-same}
 use Rattle.phich.proofs.Lengths.{chip-lt}
@@ -28,7 +28,7 @@ module _ (l : ℕ) (ok : Length l) (c c′ : ℕ → ℕ) (same : (e : ℕ) → 
   part-chips : (h : Hi) (b i : ℕ) → i < 12 → partAt l c h b i ≡ partAt l c′ h b i
   part-chips h b i k =
       part-wave l ok c h b i
-      ∙ ap (λ (x : ℕ). turned x (turned b (waveAt l (firstOf l h) (h .sequence) i))) (same (i / 4 * l + i % 4 % l) (chip-lt l ok i (i % 4 % l) k (mod-lt (i % 4) (ok .0))))
+      ∙ ap (λ (x : ℕ). turned x (turned b (waveAt l (firstPlace l h) (h .sequence) i))) (same (i / 4 * l + i % 4 % l) (chip-lt l ok i (i % 4 % l) k (mod-lt (i % 4) (ok .0))))
       ∙ sym (part-wave l ok c′ h b i)
 
   sum-chips : (m : ℕ) (bit : ℕ → ℕ) (i : ℕ) → i < 12 → (hs : List Hi) (k : ℕ) → sumAt l c m bit i hs k ≡ sumAt l c′ m bit i hs k

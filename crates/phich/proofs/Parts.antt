@@ -17,7 +17,7 @@ use Rattle.base.proofs.Pairs.{turned-nil, turned-small}
 use Rattle.phich.specs.declared.SignPair.{SignPair}
 use Rattle.plan.specs.declared.Hi.{Hi}
 use Rattle.phich.specs.Spreading.{Length, «±0», normal, extended, sequences, signAt, plainChip, chipAt}
-use Rattle.phich.specs.Units.{firstOf, has, chipNumber, partAt}
+use Rattle.phich.specs.Units.{firstPlace, has, chipNumber, partAt}
 use Rattle.phich.proofs.Lengths.{chip-mod, place-mod}
 
 -- ---- by the group's places
@@ -30,19 +30,19 @@ unfolding partAt
 has-so l c h b i e = ap (λ (t : Bool). cond t (chipAt l c (h .sequence) b (chipNumber l h i)) nil) e
 
 module _ (l : ℕ) (c : ℕ → ℕ) (h : Hi) (b i : ℕ) where
-  pub part-below : i % 4 < firstOf l h → partAt l c h b i ≡ nil
+  pub part-below : i % 4 < firstPlace l h → partAt l c h b i ≡ nil
   unfolding has
-  part-below k = has-not l c h b i (ap (λ (t : Bool). t && ltb (i % 4) (firstOf l h + l)) (lt-leb (firstOf l h) (i % 4) k))
+  part-below k = has-not l c h b i (ap (λ (t : Bool). t && ltb (i % 4) (firstPlace l h + l)) (lt-leb (firstPlace l h) (i % 4) k))
 
-  pub part-above : firstOf l h ≤ i % 4 → l ≤ i % 4 - firstOf l h → partAt l c h b i ≡ nil
+  pub part-above : firstPlace l h ≤ i % 4 → l ≤ i % 4 - firstPlace l h → partAt l c h b i ≡ nil
   unfolding has
-  part-above j k = has-not l c h b i (ap₂ (λ (t u : Bool). t && u) (le-leb (firstOf l h) (i % 4) j) (le-ltb (i % 4) (firstOf l h + l) (omega arith)))
+  part-above j k = has-not l c h b i (ap₂ (λ (t u : Bool). t && u) (le-leb (firstPlace l h) (i % 4) j) (le-ltb (i % 4) (firstPlace l h + l) (omega arith)))
 
-  pub part-in : firstOf l h ≤ i % 4 → i % 4 - firstOf l h < l → partAt l c h b i ≡ turned (c (chipNumber l h i)) (turned b (plainChip (signAt l (h .sequence) (i % 4 - firstOf l h))))
+  pub part-in : firstPlace l h ≤ i % 4 → i % 4 - firstPlace l h < l → partAt l c h b i ≡ turned (c (chipNumber l h i)) (turned b (plainChip (signAt l (h .sequence) (i % 4 - firstPlace l h))))
   unfolding has chipAt
   part-in j k =
-      has-so l c h b i (ap₂ (λ (t u : Bool). t && u) (le-leb (firstOf l h) (i % 4) j) (lt-ltb (i % 4) (firstOf l h + l) (omega arith)))
-      ∙ ap (λ (n : ℕ). turned (c (chipNumber l h i)) (turned b (plainChip (signAt l (h .sequence) n)))) (chip-mod l (i / 4) (i % 4 - firstOf l h) k)
+      has-so l c h b i (ap₂ (λ (t u : Bool). t && u) (le-leb (firstPlace l h) (i % 4) j) (lt-ltb (i % 4) (firstPlace l h + l) (omega arith)))
+      ∙ ap (λ (n : ℕ). turned (c (chipNumber l h i)) (turned b (plainChip (signAt l (h .sequence) n)))) (chip-mod l (i / 4) (i % 4 - firstPlace l h) k)
 
 -- ---- the same scrambling bit for each group: a wave, without bit and scrambling, and its turns
 -- sequence q from the first place f on, at place i
@@ -54,15 +54,15 @@ inside f t l e =
     let y : T (leb f t && ltb t (f + l)) = subst T (sym e) tt in
     (leb→le f t (and-l (leb f t) (ltb t (f + l)) y), ltb→lt t (f + l) (and-r (leb f t) (ltb t (f + l)) y))
 
-pub part-wave : (l : ℕ) → Length l → (c : ℕ → ℕ) (h : Hi) (b i : ℕ) → partAt l c h b i ≡ turned (c (i / 4 * l + i % 4 % l)) (turned b (waveAt l (firstOf l h) (h .sequence) i))
-unfolding partAt has waveAt chipAt firstOf
-part-wave l ok c h b i = pick (leb (firstOf l h) (i % 4) && ltb (i % 4) (firstOf l h + l)) refl
+pub part-wave : (l : ℕ) → Length l → (c : ℕ → ℕ) (h : Hi) (b i : ℕ) → partAt l c h b i ≡ turned (c (i / 4 * l + i % 4 % l)) (turned b (waveAt l (firstPlace l h) (h .sequence) i))
+unfolding partAt has waveAt chipAt firstPlace
+part-wave l ok c h b i = pick (leb (firstPlace l h) (i % 4) && ltb (i % 4) (firstPlace l h + l)) refl
   where
-    pick : (t : Bool) → (leb (firstOf l h) (i % 4) && ltb (i % 4) (firstOf l h + l)) ≡ t → cond t (chipAt l c (h .sequence) b (chipNumber l h i)) nil ≡ turned (c (i / 4 * l + i % 4 % l)) (turned b (cond t (plainChip (signAt l (h .sequence) (i % 4 - firstOf l h))) nil))
+    pick : (t : Bool) → (leb (firstPlace l h) (i % 4) && ltb (i % 4) (firstPlace l h + l)) ≡ t → cond t (chipAt l c (h .sequence) b (chipNumber l h i)) nil ≡ turned (c (i / 4 * l + i % 4 % l)) (turned b (cond t (plainChip (signAt l (h .sequence) (i % 4 - firstPlace l h))) nil))
     pick true s =
-        let w = inside (firstOf l h) (i % 4) l s in
-        let m : i % 4 - firstOf l h ≡ i % 4 % l = place-mod l ok (h .group) (i % 4) (omega arith) (w .0) (w .1) in
-        ap₂ (λ (x y : ℕ). turned (c (i / 4 * l + x)) (turned b (plainChip (signAt l (h .sequence) y)))) m (chip-mod l (i / 4) (i % 4 - firstOf l h) (omega arith))
+        let w = inside (firstPlace l h) (i % 4) l s in
+        let m : i % 4 - firstPlace l h ≡ i % 4 % l = place-mod l ok (h .group) (i % 4) (omega arith) (w .0) (w .1) in
+        ap₂ (λ (x y : ℕ). turned (c (i / 4 * l + x)) (turned b (plainChip (signAt l (h .sequence) y)))) m (chip-mod l (i / 4) (i % 4 - firstPlace l h) (omega arith))
     pick false s = sym (ap (turned (c (i / 4 * l + i % 4 % l))) (turned-nil b) ∙ turned-nil (c (i / 4 * l + i % 4 % l)))
 
 -- ---- sizes: every entry of a table is 1, -1, j or -j, by one test over the tables

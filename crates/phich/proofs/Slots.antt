@@ -4,25 +4,25 @@ use mathlib.Core.Path.{_≡_, ap, ap₂}
 use native.Mathlib.Omega.{arith}
 use Rattle.plan.specs.declared.Hi.{Hi}
 use Rattle.phich.specs.Spreading.{Length}
-use Rattle.phich.specs.Units.{mappingUnit, firstOf}
+use Rattle.phich.specs.Units.{mappingUnit, firstPlace}
 use Rattle.phich.proofs.Lengths.{by-length}
 
 unfoldable pub slotOf : ℕ → Hi → ℕ
-slotOf l h = 2 * firstOf l h + h .sequence
+slotOf l h = 2 * firstPlace l h + h .sequence
 
 module _ (l : ℕ) (ok : Length l) (h : Hi) (w : h .sequence < 2 * l) where
   pub slot-lt : slotOf l h < 8
-  unfolding slotOf firstOf
+  unfolding slotOf firstPlace
   slot-lt = by-length (λ n. h .sequence < 2 * n → 2 * (h .group * n % 4) + h .sequence < 8) (λ x. omega arith) (λ x. omega arith) l ok w
 
   -- the first place and the sequence from the slot
-  pub slot-first : slotOf l h / (2 * l) * l ≡ firstOf l h
-  unfolding slotOf firstOf
+  pub slot-first : slotOf l h / (2 * l) * l ≡ firstPlace l h
+  unfolding slotOf firstPlace
   slot-first =
       by-length (λ n. h .sequence < 2 * n → (2 * (h .group * n % 4) + h .sequence) / (2 * n) * n ≡ h .group * n % 4) (λ x. omega arith) (λ x. omega arith) l ok w
 
   pub slot-sequence : slotOf l h % (2 * l) ≡ h .sequence
-  unfolding slotOf firstOf
+  unfolding slotOf firstPlace
   slot-sequence =
       by-length (λ n. h .sequence < 2 * n → (2 * (h .group * n % 4) + h .sequence) % (2 * n) ≡ h .sequence) (λ x. omega arith) (λ x. omega arith) l ok w
 
@@ -36,5 +36,5 @@ pair-same l ok g h =
     l ok
 
 pub same-hi : (l : ℕ) → Length l → (g h : Hi) → g .sequence < 2 * l → h .sequence < 2 * l → mappingUnit l g ≡ mappingUnit l h → slotOf l g ≡ slotOf l h → g ≡ h
-unfolding mappingUnit slotOf firstOf
+unfolding mappingUnit slotOf firstPlace
 same-hi l ok g h w v u s = let e = pair-same l ok g h w v u s in ap₂ (λ (x y : ℕ). record { group = x; sequence = y }) (e .0) (e .1)

@@ -20,7 +20,7 @@ use Rattle.plan.specs.declared.Hi.{Hi}
 use Rattle.plan.specs.Rows.{hisFrom}
 use Rattle.phich.specs.His.{hiNumber, Distinct}
 use Rattle.phich.specs.Spreading.{Length}
-use Rattle.phich.specs.Units.{mappingUnit, firstOf, partAt, addedAt, sumAt, unitSums, countIn, Within, Ready, SameHiBits}
+use Rattle.phich.specs.Units.{mappingUnit, firstPlace, partAt, addedAt, sumAt, unitSums, countIn, Within, Ready, SameHiBits}
 use Rattle.phich.specs.Recovery.{bitIn}
 use Rattle.phich.proofs.Parts.{part-small}
 use Rattle.phich.proofs.Along.{along-same}
@@ -36,12 +36,12 @@ pub unit-extended : (h : Hi) → mappingUnit 2 h ≡ h .group / 2
 unfolding mappingUnit
 unit-extended h = omega arith
 
-pub first-normal : (h : Hi) → firstOf 4 h ≡ 0
-unfolding firstOf
+pub first-normal : (h : Hi) → firstPlace 4 h ≡ 0
+unfolding firstPlace
 first-normal h = omega arith
 
-pub first-extended : (h : Hi) → firstOf 2 h ≡ 2 * (h .group % 2)
-unfolding firstOf
+pub first-extended : (h : Hi) → firstPlace 2 h ≡ 2 * (h .group % 2)
+unfolding firstPlace
 first-extended h = omega arith
 
 -- ---- payload bits

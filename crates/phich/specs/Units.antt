@@ -19,16 +19,16 @@ unfoldable pub mappingUnit : ℕ → Hi → ℕ
 mappingUnit l h = h .group * l / 4
 
 -- the first of its group's places in each quad: 0, and with the extended prefix 2 for an odd group
-unfoldable pub firstOf : ℕ → Hi → ℕ
-firstOf l h = h .group * l % 4
+unfoldable pub firstPlace : ℕ → Hi → ℕ
+firstPlace l h = h .group * l % 4
 
 -- A unit's places are 0 to 11: place i is place i % 4 of document 01's quad i / 4. Does h's group have it?
 unfoldable pub has : ℕ → Hi → ℕ → Bool
-has l h i = leb (firstOf l h) (i % 4) && ltb (i % 4) (firstOf l h + l)
+has l h i = leb (firstPlace l h) (i % 4) && ltb (i % 4) (firstPlace l h + l)
 
 -- the number of h's chip at place i: l of them stand in each quad
 abbrev pub chipNumber : ℕ → Hi → ℕ → ℕ
-chipNumber l h i = i / 4 * l + (i % 4 - firstOf l h)
+chipNumber l h i = i / 4 * l + (i % 4 - firstPlace l h)
 
 -- 6.9.2: chips at the places of the group, and 0 at the others; "[d(2i) d(2i+1) 0 0]" and "[0 0 d(2i) d(2i+1)]"
 unfoldable pub partAt : ℕ → (ℕ → ℕ) → Hi → ℕ → ℕ → Pair

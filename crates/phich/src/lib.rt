@@ -14,7 +14,7 @@ ghost use Rattle.base.specs.Pairs.{plus as plusOf};
 ghost use Rattle.base.specs.Bits.{bitAt};
 ghost use Rattle.plan.specs.Rows.{hisFrom};
 ghost use Rattle.phich.specs.Spreading.{Length, signAt, plainChip, wordBit};
-ghost use Rattle.phich.specs.Units.{mappingUnit, firstOf, partAt, unitSums, Ready};
+ghost use Rattle.phich.specs.Units.{mappingUnit, firstPlace, partAt, unitSums, Ready};
 ghost use Rattle.phich.specs.Recovery.{dot as dotOf, bitIn};
 ghost use Rattle.phich.specs.Loops.{withHi, Room};
 
@@ -85,9 +85,9 @@ pub fn unit_of(l: usize, h: Hi) -> usize
 }
 
 // The first of its group's places in each quad.
-fn first_of(l: usize, h: Hi) -> usize
+fn first_place(l: usize, h: Hi) -> usize
     requires { ⌜ l ≤ 4 ⌝ }
-    ensures { λ r. ⌜ r ≡ firstOf l h ⌝ }
+    ensures { λ r. ⌜ r ≡ firstPlace l h ⌝ }
 {
     let g = h.group;
     g as usize * l % 4
@@ -98,7 +98,7 @@ fn part_at(l: usize, w: u32, h: Hi, b: u8, i: usize) -> Pair
     requires { ⌜ Length l × (h .sequence < 2 * l) × (i < 12) ⌝ }
     ensures { λ r. ⌜ r ≡ partAt l (wordBit w) h b i ⌝ }
 {
-    let first = first_of(l, h);
+    let first = first_place(l, h);
     let t = i % 4;
     if t < first {
         return Pair { re: 0, im: 0 };

@@ -5,13 +5,14 @@ use mathlib.Core.Path.{_≡_, refl, sym, ap, _∙_}
 use mathlib.Core.Bool.{true, not}
 use native.Mathlib.Nat.{mod-lt, suc-mul, mul-le-mul-right}
 use native.Mathlib.Omega.{arith}
+use Rattle.base.proofs.Tests.{by-test}
 use Rattle.plan.proofs.Listed.{and-left, and-right}
 use Rattle.layout.specs.Rules.{formatGroup, isFormat, left, number, unitNumber, takes, unitHas}
 use Rattle.layout.proofs.Groups.{format-small, format-apart, number-is, below-all}
 use Rattle.layout.proofs.Units.{past-of-unit}
 use Rattle.places.specs.Counts.{cnt, nth}
 use Rattle.places.specs.Quads.{isLeft, unitGroup}
-use Rattle.places.proofs.Counts.{by-test, nth-of, nth-is}
+use Rattle.places.proofs.Counts.{nth-of, nth-is}
 use Rattle.places.proofs.Some.{isSome, some-in, in-some, all-apart}
 use Rattle.places.proofs.Quads.{Groups}
 

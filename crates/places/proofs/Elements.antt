@@ -6,7 +6,7 @@ use mathlib.Core.List.{List}
 use native.Mathlib.Nat.{suc-mul, zero-mul}
 use native.Mathlib.Omega.{arith}
 use Rattle.plan.specs.declared.Plan.{Plan}
-use Rattle.layout.specs.Choice.{one}
+use Rattle.base.specs.Choice.{one}
 use Rattle.layout.specs.Owners.{symbols, carriers, owns}
 use Rattle.layout.specs.declared.Owner.{Owner}
 use Rattle.counts.specs.Sums.{sumTo}

@@ -8,6 +8,7 @@ use native.Mathlib.Nat.{suc-mul, div-lt-iff-lt-mul}
 use native.Mathlib.Omega.{arith}
 use lib.Dec.{leb, ltb, eqb, eqb→eq}
 use borrow.Author.Tests.{le-leb, ne-eqb, leb-true, eqb-true}
+use Rattle.base.proofs.Tests.{by-test, clash}
 use Rattle.base.proofs.Computed.{below-at}
 use Rattle.plan.specs.Check.{checkOf}
 use Rattle.plan.specs.Rows.{usersOf}
@@ -17,7 +18,7 @@ use Rattle.plan.specs.declared.User.{User}
 use Rattle.plan.specs.declared.Plan.{Plan}
 use Rattle.plan.specs.declared.Checked.the-variants.{Plan as accepted}
 use Rattle.plan.proofs.Valid.{valid}
-use Rattle.layout.specs.Choice.{if_then_else_, one}
+use Rattle.base.specs.Choice.{if_then_else_, one}
 use Rattle.layout.specs.Rules.{slotOf, inSlot, crsSymbol, shift, standsAt, crsOf, crs, crsAny, crsOfFour, middle, centre, pbchArea, pbch}
 use Rattle.layout.specs.Owners.{symbols, carriers, slotOfCell, controlSymbols, blocksHave, userHas, userRule, free, fixedRule, owns}
 use Rattle.layout.specs.Chain.{syncArea}
@@ -26,7 +27,7 @@ use Rattle.layout.specs.declared.Owner.the-variants.{Crs, Pbch, User as UserOf}
 use Rattle.places.specs.Counts.{cnt}
 use Rattle.places.specs.Places.{placeNumber, symbolNumber, carrierOf, placesOf, ownsAt, placeCount, orderOf, ascending, indexBy, indexOf}
 use Rattle.places.specs.Halves.{without, openPlace, openOfFour, signals, inPbch, taken, openTo, before}
-use Rattle.places.proofs.Counts.{by-test, clash, cnt-none, cnt-empty, cnt-add, cnt-same, cnt-skip, cnt-all}
+use Rattle.places.proofs.Counts.{cnt-none, cnt-empty, cnt-add, cnt-same, cnt-skip, cnt-all}
 use Rattle.places.proofs.Numbers.{slot-length, owns-at, place-both, carrier-inside}
 use Rattle.places.proofs.Inserted.{one-small}
 use Rattle.places.proofs.Free.{free-late}

@@ -9,6 +9,7 @@ use native.Mathlib.Nat.{mod-lt, mod-eq-of-lt, div-eq-of-lt, div-add-mod', zero-m
 use native.Mathlib.Omega.{arith}
 use lib.Dec.{eqb, ltb}
 use borrow.Author.Tests.{eq-eqb, eqb-true, lt-ltb, le-ltb, ltb-true, ltb-false}
+use Rattle.base.proofs.Tests.{by-test}
 use Rattle.plan.specs.Check.{checkOf}
 use Rattle.plan.specs.Fields.{unitsOf}
 use Rattle.plan.specs.declared.Cell.{Cell}
@@ -24,7 +25,7 @@ use Rattle.layout.proofs.Units.{units-fit}
 use Rattle.places.specs.Counts.{Listed}
 use Rattle.places.specs.Quads.{keeps, quadPlace, unitGroup, quadsPlace, quadsIndex, InQuads}
 use Rattle.places.specs.Places.{placeNumber, symbolNumber, carrierOf, placesOf, ownsAt, placeCount, orderOf, placeBy, indexBy, placeOf, indexOf, PlacesListed}
-use Rattle.places.proofs.Counts.{by-test, listed-nth, listed-none, listed-count}
+use Rattle.places.proofs.Counts.{listed-nth, listed-none, listed-count}
 use Rattle.places.proofs.Quads.{Groups, quads-listed, quads-exactly, quads-at}
 use Rattle.places.proofs.Channels.{format-groups, unit-groups}
 use Rattle.places.proofs.Numbers.{first-row}

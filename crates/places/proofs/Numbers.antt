@@ -5,6 +5,7 @@ use mathlib.Core.List.{List}
 use native.Mathlib.Nat.{div-add-mod', mod-lt, div-lt-iff-lt-mul, mul-le-mul-right}
 use native.Mathlib.Omega.{arith}
 use lib.Dec.{eqb}
+use Rattle.base.proofs.Tests.{by-test}
 use Rattle.base.proofs.Rows.{at-div, at-mod, row-inside}
 use Rattle.plan.specs.declared.Cell.{Cell}
 use Rattle.plan.specs.declared.Plan.{Plan}
@@ -12,7 +13,6 @@ use Rattle.layout.specs.Rules.{slotLength}
 use Rattle.layout.specs.Owners.{symbols, carriers, owns}
 use Rattle.layout.specs.declared.Owner.{Owner}
 use Rattle.places.specs.Places.{placeNumber, symbolNumber, carrierOf, placesOf, ownsAt}
-use Rattle.places.proofs.Counts.{by-test}
 
 pub slot-length : (e : ℕ) → (6 ≤ slotLength e) × (slotLength e ≤ 7)
 unfolding slotLength

@@ -7,7 +7,7 @@ use native.Mathlib.Omega.{arith}
 use lib.Dec.{T, eqb, ltb, eqb→eq}
 use Rattle.base.proofs.Computed.{allBelow, below-at}
 use Rattle.plan.proofs.Listed.{and-left, and-right}
-use Rattle.layout.specs.Choice.{one}
+use Rattle.base.specs.Choice.{one}
 use Rattle.places.specs.Counts.{cnt, nth, which, Listed}
 use Rattle.places.specs.Quads.{keeps, quadPlace, quadIndex, quadsPlace, quadsIndex, InQuads}
 use Rattle.places.proofs.Counts.{cnt-lt, nth-of, nth-is, which-is}

@@ -8,7 +8,7 @@ use Rattle.plan.specs.Rows.{usersOf}
 use Rattle.plan.specs.declared.Cell.{Cell}
 use Rattle.plan.specs.declared.Frame.{Frame}
 use Rattle.plan.specs.declared.Plan.{Plan}
-use Rattle.layout.specs.Choice.{if_then_else_, one}
+use Rattle.base.specs.Choice.{if_then_else_, one}
 use Rattle.layout.specs.Rules.{slotOf, inSlot, crsAny, pbchArea}
 use Rattle.layout.specs.Owners.{slotOfCell, controlSymbols, userHas}
 use Rattle.layout.specs.Chain.{syncArea}

@@ -1,7 +1,7 @@
 -- For the inner contracts only: the groups of PCFICH that stand below a group left, found without a list of groups.
 use Prim.Native.Nat.{ℕ, _+_}
 use lib.Dec.{ltb}
-use Rattle.layout.specs.Choice.{one}
+use Rattle.base.specs.Choice.{one}
 
 -- how many of the groups a, b, c, d stand below t
 abbrev pub belowOf : ℕ → ℕ → ℕ → ℕ → ℕ → ℕ

@@ -3,7 +3,7 @@
 ghost use mathlib.Core.Path.{_≡_};
 ghost use Prim.Native.Nat.{ℕ, _+_, _≤_, _<_};
 ghost use lib.Dec.{ltb};
-ghost use Rattle.layout.specs.Choice.{one};
+ghost use Rattle.base.specs.Choice.{one};
 ghost use Rattle.layout.specs.Rules.{formatGroup, left, unitNumber};
 ghost use Rattle.places.specs.Quads.{unitGroup, quadPlace};
 ghost use Rattle.places.specs.Steps.{stepOf};

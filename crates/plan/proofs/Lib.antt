@@ -1,9 +1,9 @@
--- Laws that the proofs cite. For the crates above: Valid, Counts, RowLaws. About lists alone: OneOf, Listed, Few.
+-- Laws that the proofs cite. For the crates above: Valid, Counts, RowLaws, Entries, Reading. About lists alone: OneOf, Listed, Few.
 pub mod OneOf
 pub mod Listed
 pub mod Few
-mod Entries
-mod Reading
+pub mod Entries
+pub mod Reading
 pub mod RowLaws
 mod FieldLaws
 mod FaultLaws
@@ -12,3 +12,4 @@ mod Opening
 pub mod Valid
 pub mod Counts
 pub mod Known
+pub mod Answers

@@ -5,13 +5,15 @@ use mathlib.Core.Bool.{Bool, true, false, not, cond, _||_}
 use mathlib.Core.List.{List, [], _∷_, _++_}
 use lib.ListN.{length}
 use lib.Dec.{eqb}
+use Rattle.plan.specs.Answers.{Answer, refusedBy}
 use Rattle.plan.specs.Lists.{noneOf}
-use Rattle.plan.specs.Commands.{commands}
+use Rattle.plan.specs.Commands.{cellOf, frameOf, commands}
 use Rattle.plan.specs.Fields.{cellOk, frameOk, hiOk, samePair, userOk, clash}
 use Rattle.plan.specs.declared.Cell.{Cell}
 use Rattle.plan.specs.declared.Frame.{Frame}
 use Rattle.plan.specs.declared.Hi.{Hi}
 use Rattle.plan.specs.declared.User.{User}
+use Rattle.plan.specs.declared.Row.{Row}
 use Rattle.plan.specs.declared.Plan.{Plan}
 use Rattle.plan.specs.declared.Command.{Command}
 use Rattle.plan.specs.declared.Command.the-variants.{Cell as cell, Frame as frame, Hi as hi, User as user, End as end, Broken as broken}
@@ -27,19 +29,19 @@ use Rattle.plan.specs.declared.Checked.the-variants.{Plan as accepted, R
 -- 6 USER field; 7 RNTI or block used before"; and of the calls above the plan check: "8 element query with k, s or port outside the
 -- grid", "10 grid not 36×N×S×P bytes; 11 payload length wrong; 12 a spare bit set (build only); 13 grid made by no payload (read
 -- only)". 9 is the sample call's own
-abbrev pub numberOf : Refusal → ℕ
-numberOf Unreadable = 1
-numberOf Order = 2
-numberOf CellField = 3
-numberOf FrameField = 4
-numberOf HiField = 5
-numberOf UserField = 6
-numberOf Used = 7
-numberOf Outside = 8
-numberOf GridLength = 10
-numberOf PayloadLength = 11
-numberOf SpareBit = 12
-numberOf NoPayload = 13
+abbrev pub refusalNumber : Refusal → ℕ
+refusalNumber Unreadable = 1
+refusalNumber Order = 2
+refusalNumber CellField = 3
+refusalNumber FrameField = 4
+refusalNumber HiField = 5
+refusalNumber UserField = 6
+refusalNumber Used = 7
+refusalNumber Outside = 8
+refusalNumber GridLength = 10
+refusalNumber PayloadLength = 11
+refusalNumber SpareBit = 12
+refusalNumber NoPayload = 13
 
 -- what the commands so far have given. stage 0: none, 1: CELL, 2: FRAME and any HIs, 3: a USER, 4: END.
 -- start: the bytes of CELL and FRAME
@@ -52,15 +54,7 @@ pub record State : Type 0 where
   pub users : List User
 
 unfoldable pub begin : State
-begin =
-    record {
-      stage = 0;
-      cell = record { identity = 0; blocks = 0; prefix = 0; ports = 0; sixths = 0 };
-      frame = record { number = 0; subframe = 0; cfi = 0 };
-      start = 0;
-      his = [];
-      users = [];
-    }
+begin = record { stage = 0; cell = cellOf []; frame = frameOf []; start = 0; his = []; users = [] }
 
 -- `need t r f`: refusal r unless t holds, and then f
 abbrev pub need : Bool → Refusal → Fault → Fault
@@ -99,12 +93,9 @@ after st broken = st
 -- the plan of a state: an HI is 3 bytes
 unfoldable pub planOf : State → Plan
 planOf st =
-    record {
-      cell = st .cell;
-      frame = st .frame;
-      his = record { at = st .start; count = length (st .his) };
-      users = record { at = st .start + 3 * length (st .his); count = length (st .users) };
-    }
+    let his : Row = record { at = st .start; count = length (st .his) } in
+    let users : Row = record { at = his .at + 3 * his .count; count = length (st .users) } in
+    record { cell = st .cell; frame = st .frame; his = his; users = users }
 
 -- the rest is looked at only where there is no fault
 abbrev pub unless : Fault → Checked → Checked
@@ -119,7 +110,16 @@ run st (x ∷ xs) = unless (fault st x) (run (after st x) xs)
 unfoldable pub checkOf : List ℕ → Checked
 checkOf w = run begin (commands w)
 
+-- a refusal in document 01's numbers
+abbrev pub refusedAs : Refusal → Answer
+refusedAs r = refusedBy (refusalNumber r)
+
+-- a call's answer to an accepted plan; the plan's refusal comes before every other check
+abbrev pub unlessRefused : {A : Type 0} → (Refusal → A) → (Plan → A) → Checked → A
+unlessRefused refusal answer (accepted p) = answer p
+unlessRefused refusal answer (refused r) = refusal r
+
 -- the answer as a number: 0, or the refusal's
 abbrev pub verdictOf : Checked → ℕ
 verdictOf (accepted p) = 0
-verdictOf (refused r) = numberOf r
+verdictOf (refused r) = refusalNumber r

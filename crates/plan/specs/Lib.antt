@@ -5,3 +5,4 @@ pub mod Check
 pub mod Rows
 pub mod Valid
 pub mod Loops
+pub mod Answers

@@ -1,4 +1,4 @@
--- What the promises cite: what holds of an accepted plan. proofs/Valid.antt concludes it from the plan check's answer alone.
+-- For laws: what holds of an accepted plan. proofs/Valid.antt concludes it from the plan check's answer alone.
 use Prim.Native.Nat.{ℕ, _+_, _*_, _≤_, _<_}
 use mathlib.Core.Path.{_≡_}
 use mathlib.Core.List.{List, [], _∷_}

@@ -7,7 +7,7 @@ ghost use lib.Dec.{eqb};
 ghost use Rattle.plan.specs.Lists.{oneOf, noneOf};
 ghost use Rattle.plan.specs.Commands.{byte, cellOf, frameOf, hiOf, userOf, entryFor, commandOf, commands};
 ghost use Rattle.plan.specs.Fields.{cellOk, frameOk, unitsOf, groupsOf, sequencesOf, hiOk, samePair, userOk, clash};
-ghost use Rattle.plan.specs.Check.{numberOf, need, hiFault, userFault, after, run, checkOf};
+ghost use Rattle.plan.specs.Check.{refusalNumber, need, hiFault, userFault, after, run, checkOf};
 ghost use Rattle.plan.specs.Rows.{nextOf, hisFrom, usersFrom};
 ghost use Rattle.plan.specs.Loops.{celled, bodyState};
 ghost use Rattle.plan.specs.declared.Refusal.the-variants.{Order as outOfOrder};
@@ -44,7 +44,7 @@ pub struct User {
 }
 
 // A command with its operands. Broken: an unknown command, or the plan ends before its operands.
-enum Command {
+pub enum Command {
     Cell(Cell),
     Frame(Frame),
     Hi(Hi),
@@ -69,7 +69,7 @@ pub enum Refusal {
     NoPayload,
 }
 
-enum Fault {
+pub enum Fault {
     Nothing,
     Is(Refusal),
 }
@@ -93,17 +93,17 @@ pub enum Checked {
 }
 
 // The values of a cell's blocks, ports and sixths, and of a user's order.
-const WIDTHS: [u8; 5] = [15, 25, 50, 75, 100];
+pub const WIDTHS: [u8; 5] = [15, 25, 50, 75, 100];
 
-const PORT_COUNTS: [u8; 3] = [1, 2, 4];
+pub const PORT_COUNTS: [u8; 3] = [1, 2, 4];
 
-const SIXTH_COUNTS: [u8; 4] = [1, 3, 6, 12];
+pub const SIXTH_COUNTS: [u8; 4] = [1, 3, 6, 12];
 
-const ORDERS: [u8; 3] = [2, 4, 6];
+pub const ORDERS: [u8; 3] = [2, 4, 6];
 
 // The refusal's number in document 01.
 pub fn number(r: Refusal) -> u8
-    ensures { λ n. ⌜ n ≡ numberOf r ⌝ }
+    ensures { λ n. ⌜ n ≡ refusalNumber r ⌝ }
 {
     match r {
         Refusal::Unreadable => 1,
@@ -128,7 +128,7 @@ fn word(upper: u8, lower: u8) -> u16
 }
 
 // Byte i from a position on, 0 past the plan's end.
-fn byte_at(plan: &[u8], at: usize, i: usize) -> u8
+pub fn byte_at(plan: &[u8], at: usize, i: usize) -> u8
     ensures { λ r. ⌜ r ≡ byte (drop at (now (plan .entry))) i ⌝ }
 {
     if plan.len() <= at {
@@ -140,7 +140,8 @@ fn byte_at(plan: &[u8], at: usize, i: usize) -> u8
     plan[at + i]
 }
 
-fn cell_at(plan: &[u8], at: usize) -> Cell
+// The CELL at a position.
+pub fn cell_at(plan: &[u8], at: usize) -> Cell
     ensures { λ r. ⌜ r ≡ cellOf (drop at (now (plan .entry))) ⌝ }
 {
     Cell {
@@ -218,7 +219,7 @@ pub fn next_at(plan: &[u8], at: usize) -> usize
 }
 
 // The command at a position, Broken past the end.
-fn command_at(plan: &[u8], at: usize) -> Command
+pub fn command_at(plan: &[u8], at: usize) -> Command
     ensures { λ r. ⌜ r ≡ commandOf (drop at (now (plan .entry))) ⌝ }
 {
     if plan.len() <= at {
@@ -247,7 +248,7 @@ fn command_at(plan: &[u8], at: usize) -> Command
 }
 
 // Whether n is one of the list.
-fn one_of(n: u8, list: &[u8]) -> bool
+pub fn one_of(n: u8, list: &[u8]) -> bool
     ensures { λ r. ⌜ r ≡ oneOf n (now (list .entry)) ⌝ }
 {
     let mut i = 0;
@@ -371,7 +372,7 @@ fn clashes(u: User, v: User) -> bool
 }
 
 // Whether the pair h is none of the count HIs from position start on.
-fn fresh_pair(plan: &[u8], start: usize, count: usize, h: Hi) -> bool
+pub fn fresh_pair(plan: &[u8], start: usize, count: usize, h: Hi) -> bool
     ensures { λ r. ⌜ r ≡ noneOf (samePair h) (hisFrom (drop start (now (plan .entry))) count) ⌝ }
 {
     let mut at = start;
@@ -387,7 +388,7 @@ fn fresh_pair(plan: &[u8], start: usize, count: usize, h: Hi) -> bool
 }
 
 // Whether u shares nothing with the count USERs from position start on.
-fn fresh_user(plan: &[u8], start: usize, count: usize, u: User) -> bool
+pub fn fresh_user(plan: &[u8], start: usize, count: usize, u: User) -> bool
     ensures { λ r. ⌜ r ≡ noneOf (clash u) (usersFrom (drop start (now (plan .entry))) count) ⌝ }
 {
     let mut at = start;
@@ -435,10 +436,20 @@ fn user_fault(plan: &[u8], cell: Cell, start: usize, count: usize, u: User) -> F
     }
 }
 
-// After END, whose byte stands before position next: the plan, unless a byte follows.
-fn finish(plan: &[u8], cell: Cell, frame: Frame, his: Row, users: Row, next: usize) -> Checked
-    requires { ⌜ users .at ≡ his .at + 3 * his .count ⌝ }
-    ensures { λ r. ⌜ r ≡ run (after (bodyState (now (plan .entry)) cell frame (his .at) (his .count) (users .at) (users .count)) endCommand) (commands (drop next (now (plan .entry)))) ⌝ }
+// After END, whose byte stands before position next: the plan, unless a byte follows. The HIs stand from position start on, the USERs from
+// position mid on.
+fn finish(
+    plan: &[u8],
+    cell: Cell,
+    frame: Frame,
+    start: usize,
+    his: usize,
+    mid: usize,
+    users: usize,
+    next: usize,
+) -> Checked
+    requires { ⌜ mid ≡ start + 3 * his ⌝ }
+    ensures { λ r. ⌜ r ≡ run (after (bodyState (now (plan .entry)) cell frame start his mid users) endCommand) (commands (drop next (now (plan .entry)))) ⌝ }
 {
     if next < plan.len() {
         return Checked::Refused(Refusal::Order);
@@ -446,8 +457,14 @@ fn finish(plan: &[u8], cell: Cell, frame: Frame, his: Row, users: Row, next: usi
     Checked::Plan(Plan {
         cell: cell,
         frame: frame,
-        his: his,
-        users: users,
+        his: Row {
+            at: start,
+            count: his,
+        },
+        users: Row {
+            at: mid,
+            count: users,
+        },
     })
 }
 
@@ -468,41 +485,18 @@ fn body(plan: &[u8], cell: Cell, frame: Frame, start: usize) -> Checked
                     mid = mid + 3;
                     at = next_at(plan, at);
                 }
-                Fault::Is(r) => {
-                    return Checked::Refused(r);
-                }
+                Fault::Is(r) => return Checked::Refused(r),
             },
             Command::User(u) => match user_fault(plan, cell, mid, users, u) {
                 Fault::Nothing => {
                     users = users + 1;
                     at = next_at(plan, at);
                 }
-                Fault::Is(r) => {
-                    return Checked::Refused(r);
-                }
+                Fault::Is(r) => return Checked::Refused(r),
             },
-            Command::End => {
-                return finish(
-                    plan,
-                    cell,
-                    frame,
-                    Row {
-                        at: start,
-                        count: his,
-                    },
-                    Row {
-                        at: mid,
-                        count: users,
-                    },
-                    at + 1,
-                );
-            }
-            Command::Broken => {
-                return Checked::Refused(Refusal::Unreadable);
-            }
-            _ => {
-                return Checked::Refused(Refusal::Order);
-            }
+            Command::End => return finish(plan, cell, frame, start, his, mid, users, at + 1),
+            Command::Broken => return Checked::Refused(Refusal::Unreadable),
+            _ => return Checked::Refused(Refusal::Order),
         }
     }
 }

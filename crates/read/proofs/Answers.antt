@@ -1,27 +1,26 @@
--- read's ways to its answer: the plan's refusal, 10, 11, 13, or the count and the payload; and what every answer means (`Reads`).
--- Assumes nothing.
+-- read's ways to its answer: the plan's refusal, 10, 11, 13, or the count and the payload; each keeps the promise. Assumes nothing.
 use Prim.Native.Nat.{ℕ}
-use mathlib.Core.Path.{_≡_, refl, sym, ap, _∙_}
+use mathlib.Core.Path.{_≡_, refl, sym, ap, _∙_, subst}
 use mathlib.Core.Bool.{Bool, true, false}
-use mathlib.Core.Logic.{_↔_}
+use mathlib.Core.Logic.{_⊎_, inl, inr}
 use mathlib.Core.List.{List, [], _∷_}
-use lib.Dec.{eqb}
 use lib.ListN.{length}
 use types.Run.{OneOf}
 use denote.Enum.Declared.{tagOf}
-use borrow.Author.Tests.{eqb-true, eqb-false}
+use Rattle.base.proofs.Tests.{clash}
 use Rattle.plan.specs.Lists.{oneOf}
-use Rattle.plan.specs.Check.{checkOf}
+use Rattle.plan.specs.Answers.{Answer, given, refusedBy}
+use Rattle.plan.specs.Check.{checkOf, refusedAs}
 use Rattle.plan.specs.declared.Plan.{Plan}
 use Rattle.plan.specs.declared.Refusal.{Refusal}
 use Rattle.plan.specs.declared.Refusal.the-variants.{GridLength, PayloadLength, NoPayload}
 use Rattle.plan.specs.declared.Checked.{Checked}
 use Rattle.plan.specs.declared.Checked.the-variants.{Plan as accepted, Refused as refused}
+use Rattle.plan.proofs.Answers.{no-number}
 use Rattle.plan.proofs.Checked.{the-type}
 use Rattle.plan.proofs.OneOf.{not-in}
 use Rattle.layout.specs.Chain.{refusalOf}
-use Rattle.places.proofs.Counts.{by-test, clash}
-use Rattle.payload.specs.Payload.{gridLength, payloadLength, AcceptedPayload, unlessLengths}
+use Rattle.payload.specs.Payload.{gridLength, payloadLength, AcceptedPayload}
 use Rattle.payload.proofs.Refusals.{grid-refused, payload-refused, lengths-right}
 use Rattle.subframe.specs.Grid.{gridOf}
 use Rattle.subframe.proofs.Bytes.{grid-size}
@@ -32,127 +31,108 @@ use Rattle.recovery.proofs.Grids.{exact}
 use Rattle.build.specs.Build.{pdschElements}
 use Rattle.build.proofs.Answers.{plan-room}
 use Rattle.verify.specs.Made.{Given, Made}
-use Rattle.read.specs.Read.{isMade, answerFrom, readOf, payloadAfter, valueOf, numberedFrom, answerOf, Reads}
+use Rattle.read.specs.Read.{ReadUnder, Reads}
 use Rattle.read.specs.Reading.{Readable}
-use Rattle.read.specs.declared.ReadBack.{ReadBack}
-use Rattle.read.specs.declared.ReadBack.the-variants.{Elements, Refused}
-use Rattle.read.proofs.Made.{made-true, made-false}
 
--- the answer has document 01's numbers
-numbered-from : (w : List ℕ) (a : Checked) (grid payload : List ℕ) → valueOf (answerFrom w a grid payload) ≡ numberedFrom w a grid payload
-unfolding unlessLengths
-numbered-from w (accepted p) grid payload =
-    by-test (eqb (length grid) (gridLength p))
-    (λ a. by-test (eqb (length payload) (payloadLength w p))
-    (λ b. by-test (isMade w p grid) (λ d. rw (a, b, d) refl) (λ d. rw (a, b, d) refl))
-    (λ b. rw (a, b) refl))
-    (λ a. rw a refl)
-numbered-from w (refused r) grid payload = refl
+-- ---- cases that exclude each other
+isPlan : Checked → Bool
+isPlan (accepted p) = true
+isPlan (refused r) = false
 
-numbered-is : (w grid payload : List ℕ) → valueOf (readOf w grid payload) ≡ answerOf w grid payload
-unfolding readOf answerOf
-numbered-is w grid payload = numbered-from w (checkOf w) grid payload
+pub no-plan : {r : Refusal} {p : Plan} {X : Type 0} → refused r ≡ accepted p → X
+unfolding isPlan
+no-plan e = clash {b = true} refl (ap isPlan (sym e))
 
--- an answer is a count or a refusal
-isCount : ReadBack → Bool
-isCount (Elements n) = true
-isCount (Refused r) = false
+-- the plan and the refusal of an answer of the plan check
+planIn : Plan → Checked → Plan
+planIn p (accepted q) = q
+planIn p (refused r) = p
 
+pub same-plan : {p q : Plan} → accepted p ≡ accepted q → p ≡ q
+unfolding planIn
+same-plan {p = p} e = ap (planIn p) e
+
+refusalIn : Refusal → Checked → Refusal
+refusalIn r (accepted q) = r
+refusalIn r (refused x) = x
+
+pub same-refusal : {x y : Refusal} → refused x ≡ refused y → x ≡ y
+unfolding refusalIn
+same-refusal {x = x} e = ap (refusalIn x) e
+
+-- ---- THE WAYS
 module _ (w grid payload : List ℕ) where
-  -- ---- readOf and payloadAfter by the cases of the plan and the buffers
-  module _ (p : Plan) (ok : checkOf w ≡ accepted p) where
-    of-grid : (length grid ≡ gridLength p → ⊥) → (readOf w grid payload ≡ Refused GridLength) × (payloadAfter w grid payload ≡ payload)
-    unfolding readOf payloadAfter
-    of-grid k = (rw ok (grid-refused Refused w p grid payload _ k), rw ok (grid-refused (λ (r : Refusal). payload) w p grid payload _ k))
-
-    module _ (right : length grid ≡ gridLength p) where
-      of-payload : (length payload ≡ payloadLength w p → ⊥) → (readOf w grid payload ≡ Refused PayloadLength) × (payloadAfter w grid payload ≡ payload)
-      unfolding readOf payloadAfter
-      of-payload k =
-          (rw ok (payload-refused Refused w p grid payload _ right k), rw ok (payload-refused (λ (r : Refusal). payload) w p grid payload _ right k))
-
-      module _ (size : length payload ≡ payloadLength w p) where
-        of-none : isMade w p grid ≡ false → (readOf w grid payload ≡ Refused NoPayload) × (payloadAfter w grid payload ≡ payload)
-        unfolding readOf payloadAfter
-        of-none e =
-            (rw (ok, e) (lengths-right Refused w p grid payload _ right size), rw (ok, e) (lengths-right (λ (r : Refusal). payload) w p grid payload _ right size))
-
-        of-made :
-            isMade w p grid ≡ true → (readOf w grid payload ≡ Elements (pdschElements w p)) × (payloadAfter w grid payload ≡ payloadIn w p grid)
-        unfolding readOf payloadAfter
-        of-made e =
-            (rw (ok, e) (lengths-right Refused w p grid payload _ right size), rw (ok, e) (lengths-right (λ (r : Refusal). payload) w p grid payload _ right size))
-
-    -- ---- what the answer means
-    made-by : (A : List ℕ) → AcceptedPayload w p A → gridOf w p A ≡ grid → isMade w p grid ≡ true
-    made-by A a e = made-true w p grid .1 (exact w p ok grid .0 (A, a, e))
-
-    no-count : {r : Refusal} {n : ℕ} {X : Type 0} → readOf w grid payload ≡ Refused r → readOf w grid payload ≡ Elements n → X
-    unfolding isCount
-    no-count e f = clash (ap isCount f) (ap isCount e)
-
-    returned-is : (n : ℕ) → readOf w grid payload ≡ Elements n → AcceptedPayload w p (payloadAfter w grid payload) × (gridOf w p (payloadAfter w grid payload) ≡ grid)
-    returned-is n e =
-        by-test (eqb (length grid) (gridLength p))
-        (λ a. let right = eqb-true (length grid) (gridLength p) a in
-        by-test (eqb (length payload) (payloadLength w p))
-        (λ b. let size = eqb-true (length payload) (payloadLength w p) b in
-        by-test (isMade w p grid)
-        (λ d. rw (of-made right size d .1) (accepted-in w p grid, made-true w p grid .0 d))
-        (λ d. no-count (of-none right size d .0) e))
-        (λ b. no-count (of-payload right (eqb-false (length payload) (payloadLength w p) b) .0) e))
-        (λ a. no-count (of-grid (eqb-false (length grid) (gridLength p) a) .0) e)
-
-    none-is :
-        length grid ≡ gridLength p → length payload ≡ payloadLength w p
-        → (readOf w grid payload ≡ Refused NoPayload) ↔ ((A : List ℕ) → AcceptedPayload w p A → gridOf w p A ≡ grid → ⊥)
-    none-is right size = (
-      (λ e A a m. no-count e (of-made right size (made-by A a m) .0)),
-      (λ h. of-none right size (made-false w p grid (λ e. h (payloadIn w p grid) (accepted-in w p grid) e)) .0),
-    )
-
-  reads : Reads w grid payload (readOf w grid payload) (payloadAfter w grid payload)
-  reads =
+  pub way-refused : (a : Checked) → a ≡ checkOf w → OneOf (1 ∷ []) (tagOf the-type a) → (r : Refusal) → r ≡ refusalOf a → Reads w grid payload (refusedAs r) payload
+  unfolding oneOf
+  way-refused (accepted p) e h r q = absurd (not-in (1 ∷ []) 0 h refl)
+  way-refused (refused x) e h r q =
       record {
-        back = λ p A ok a small e size.
-            let right : length grid ≡ gridLength p = ap length (sym e) ∙ grid-size w p A in
-            let h = of-made p ok right size (made-by p ok A a e) in
-            (h .0, h .1 ∙ ap (payloadIn w p) (sym e) ∙ recovered w p ok A a small);
-        none = λ p ok right size. none-is p ok right size;
-        returned = λ p n ok e. returned-is p ok n e;
+        first = λ y f. ap refusedAs (q ∙ same-refusal (e ∙ f));
+        under = λ p f. no-plan (e ∙ f);
+        kept = λ y f. refl;
       }
 
-  -- ---- THE WAYS
-  abbrev Answered : ReadBack → List ℕ → Type 0
-  Answered r after =
-      (r ≡ readOf w grid payload) × (valueOf r ≡ answerOf w grid payload) × (after ≡ payloadAfter w grid payload) × Reads w grid payload r after
-
-  answered : {r : ReadBack} {after : List ℕ} → r ≡ readOf w grid payload → after ≡ payloadAfter w grid payload → Answered r after
-  answered e f = (e, ap valueOf e ∙ numbered-is w grid payload, f, rw (e, f) reads)
-
-  pub way-refused : (a : Checked) → a ≡ checkOf w → OneOf (1 ∷ []) (tagOf the-type a) → (r : Refusal) → r ≡ refusalOf a → Answered (Refused r) payload
-  unfolding oneOf readOf payloadAfter
-  way-refused (accepted p) e h r q = absurd (not-in (1 ∷ []) 0 h refl)
-  way-refused (refused x) e h r q = answered (ap Refused q ∙ rw (← e) refl) (rw (← e) refl)
-
   module _ (p : Plan) (ok : checkOf w ≡ accepted p) where
-    pub way-grid : (n : ℕ) → n ≡ gridLength p → (length grid ≡ n → ⊥) → Answered (Refused GridLength) payload
-    way-grid n e h = let k = of-grid p ok (λ x. h (x ∙ sym e)) in answered (sym (k .0)) (sym (k .1))
+    -- the plan check answers with one plan
+    under-one : {a : Answer} {after : List ℕ} → ReadUnder w p grid payload a after → ((n : ℕ) → a ≡ refusedBy n → after ≡ payload) → Reads w grid payload a after
+    under-one {a = a} {after = after} u k =
+        record {
+          first = λ x e. no-plan (sym e ∙ ok);
+          under = λ q e. subst (λ (y : Plan). ReadUnder w y grid payload a after) (same-plan (sym ok ∙ e)) u;
+          kept = k;
+        }
+
+    pub way-grid : (n : ℕ) → n ≡ gridLength p → (length grid ≡ n → ⊥) → Reads w grid payload (refusedAs GridLength) payload
+    way-grid n e h =
+        let k : length grid ≡ gridLength p → ⊥ = λ x. h (x ∙ sym e) in
+        under-one
+        (record {
+          answer = inl (sym (grid-refused refusedAs w p grid payload _ k));
+          none = λ right size. absurd (k right);
+          returned = λ m f. no-number f;
+          back = λ A a small f size. absurd (k (ap length (sym f) ∙ grid-size w p A));
+        })
+        (λ x f. refl)
 
     module _ (right : length grid ≡ gridLength p) where
-      pub way-payload : (n : ℕ) → n ≡ payloadLength w p → (length payload ≡ n → ⊥) → Answered (Refused PayloadLength) payload
-      way-payload n e h = let k = of-payload p ok right (λ x. h (x ∙ sym e)) in answered (sym (k .0)) (sym (k .1))
+      pub way-payload : (n : ℕ) → n ≡ payloadLength w p → (length payload ≡ n → ⊥) → Reads w grid payload (refusedAs PayloadLength) payload
+      way-payload n e h =
+          let k : length payload ≡ payloadLength w p → ⊥ = λ x. h (x ∙ sym e) in
+          under-one
+          (record {
+            answer = inl (sym (payload-refused refusedAs w p grid payload _ right k));
+            none = λ _ size. absurd (k size);
+            returned = λ m f. no-number f;
+            back = λ A a small f size. absurd (k size);
+          })
+          (λ x f. refl)
 
       pub way-given : Given w p grid
       way-given = record { answer = ok; room = plan-room w p ok grid right }
 
       module _ (size : length payload ≡ payloadLength w p) (b : Bool) (m : Made w p grid b) where
-        pub way-none : b ≡ false → Answered (Refused NoPayload) payload
-        way-none h = let k = of-none p ok right size (made-false w p grid (m .not-made h)) in answered (sym (k .0)) (sym (k .1))
+        pub way-none : b ≡ false → Reads w grid payload (refusedAs NoPayload) payload
+        way-none h =
+            let no : (A : List ℕ) → AcceptedPayload w p A → gridOf w p A ≡ grid → ⊥ = λ A a e. m .not-made h (exact w p ok grid .0 (A, a, e)) in
+            under-one
+            (record {
+              answer = inr (sym (lengths-right refusedAs w p grid payload _ right size));
+              none = λ _ _. ((λ e. no), (λ k. refl));
+              returned = λ n f. no-number f;
+              back = λ A a small f _. absurd (no A a f);
+            })
+            (λ x f. refl)
 
         pub way-readable : b ≡ true → Readable w p grid payload
         way-readable h = record { answer = ok; room = plan-room w p ok grid right; made = m .made h; size = size }
 
-        pub way-read : b ≡ true → (n : ℕ) → n ≡ pdschElements w p → (after : List ℕ) → after ≡ payloadIn w p grid → Answered (Elements n) after
+        pub way-read : b ≡ true → (n : ℕ) → n ≡ pdschElements w p → (after : List ℕ) → after ≡ payloadIn w p grid → Reads w grid payload (given n) after
         way-read h n en after ea =
-            let k = of-made p ok right size (made-true w p grid .1 (m .made h)) in answered (ap Elements en ∙ sym (k .0)) (ea ∙ sym (k .1))
+            under-one
+            (record {
+              answer = inl (ap given en ∙ sym (lengths-right refusedAs w p grid payload _ right size));
+              none = λ _ _. ((λ e. no-number (sym e)), (λ k. absurd (k (payloadIn w p grid) (accepted-in w p grid) (m .made h))));
+              returned = λ i f. rw ea (accepted-in w p grid, m .made h);
+              back = λ A a small f _. (ap given en, ea ∙ ap (payloadIn w p) (sym f) ∙ recovered w p ok A a small);
+            })
+            (λ x f. no-number (sym f))

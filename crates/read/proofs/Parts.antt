@@ -13,7 +13,7 @@ use Rattle.gold.specs.Sequence.{binary}
 use Rattle.plan.specs.Rows.{usersOf}
 use Rattle.plan.specs.declared.User.{User}
 use Rattle.plan.specs.declared.Plan.{Plan}
-use Rattle.layout.specs.Choice.{if_then_else_}
+use Rattle.base.specs.Choice.{if_then_else_}
 use Rattle.payload.specs.Sections.{sectionBytes, bytesOf, startOf}
 use Rattle.payload.specs.Payload.{pbchBits, userBits, heads, userSections, payloadLength, usersStart}
 use Rattle.payload.proofs.Sections.{userStart, user-start}

@@ -34,7 +34,7 @@ use Rattle.data_read.proofs.AreaBits.{pbch-count, user-count, pbch-section, use
 use Rattle.control.specs.Reading.{ackFrom, ReadIn}
 use Rattle.control.proofs.ReadingOwners.{acks-are, read-in}
 use Rattle.channels.specs.declared.Channel.the-variants.{Pbch as PbchChannel, Phich as PhichChannel, User as UserChannel}
-use Rattle.channels.specs.Channels.{initOf, firstOf, Among}
+use Rattle.channels.specs.Channels.{initOf, firstBit, Among}
 use Rattle.build.proofs.Slices.{From, from-first, from-user, from-next, start-room, user-valid, user-ready, start-next, heads-room}
 use Rattle.verify.specs.Made.{Given}
 use Rattle.verify.proofs.Known.{pbch-known, pbch-even, user-known, user-even}
@@ -94,9 +94,9 @@ module _ (w : List ℕ) (p : Plan) (g : List ℕ) {before : List ℕ} (start : R
           )
 
       pub pbch-read :
-          (r : Registers) → r ≡ pairAt (initOf p PbchChannel) (firstOf p PbchChannel) → (ys : List ℕ) → ys ≡ sectionOf (areaBit a 2 g r) (2 * areaCount a)
+          (r : Registers) → r ≡ pairAt (initOf p PbchChannel) (firstBit p PbchChannel) → (ys : List ℕ) → ys ≡ sectionOf (areaBit a 2 g r) (2 * areaCount a)
           → ReadTo w p g (sectionBytes (pbchBits (p .cell) (p .frame))) (putMid 0 (end - 0) before ys)
-      unfolding initOf firstOf
+      unfolding initOf firstBit
       pbch-read r er ys ey =
           let room = heads-room w p ok before end (usersStart p) ee refl in
           subst (λ (n : ℕ). ReadTo w p g n (putMid 0 (end - 0) before ys)) ee
@@ -121,10 +121,10 @@ module _ (w : List ℕ) (p : Plan) (g : List ℕ) {before : List ℕ} (start : R
 
     pub acks-read :
         ReadTo w p g (sectionBytes (pbchBits (p .cell) (p .frame))) before
-        → (r : Registers) → r ≡ pairAt (initOf p (PhichChannel 0)) (firstOf p (PhichChannel 0))
+        → (r : Registers) → r ≡ pairAt (initOf p (PhichChannel 0)) (firstBit p (PhichChannel 0))
         → (ys : List ℕ) → ys ≡ sectionOf (ackFrom (p .cell) r (hisFrom (drop (p .his .at) w) (p .his .count)) g) (p .his .count)
         → ReadTo w p g (usersStart p) (putMid from (end - from) before ys)
-    unfolding initOf firstOf hisOf
+    unfolding initOf firstBit hisOf
     acks-read so r er ys ey =
         let room = heads-room w p ok before from end ef ee in
         subst (λ (n : ℕ). ReadTo w p g n (putMid from (end - from) before ys)) ee
@@ -189,9 +189,9 @@ module _ (w : List ℕ) (p : Plan) (g : List ℕ) {before : List ℕ} (start : R
             ))
 
         pub going-next :
-            (r : Registers) → r ≡ pairAt (initOf p (UserChannel u)) (firstOf p (UserChannel u)) → (ys : List ℕ) → ys ≡ sectionOf (areaBit a (u .order) g r) (u .order * areaCount a)
+            (r : Registers) → r ≡ pairAt (initOf p (UserChannel u)) (firstBit p (UserChannel u)) → (ys : List ℕ) → ys ≡ sectionOf (areaBit a (u .order) g r) (u .order * areaCount a)
             → (to : ℕ) → to ≡ nextOf w at → Going w p g to end (i + 1) (putMid from (end - from) payload ys)
-        unfolding initOf firstOf
+        unfolding initOf firstBit
         going-next r er ys ey to et =
             record {
               most = omega arith;

@@ -6,6 +6,7 @@ use native.Mathlib.Omega.{arith}
 use borrow.Author.Tests.{ltb-true, ltb-false}
 use lib.Dec.{ltb}
 use lib.ListN.{length, length-append, List·getD-eq-default}
+use Rattle.base.proofs.Tests.{by-test}
 use Rattle.base.specs.Bits.{bitAt}
 use Rattle.base.specs.Tables.{table}
 use Rattle.plan.specs.Lists.{Every}
@@ -16,7 +17,6 @@ use Rattle.plan.specs.declared.Checked.the-variants.{Plan as accepted-plan}
 use Rattle.plan.proofs.Valid.{valid}
 use Rattle.layout.specs.declared.Owner.{Owner}
 use Rattle.layout.specs.declared.Owner.the-variants.{Crs, Sync, Pbch, Pcfich, Phich, User as UserOf, Held, Idle}
-use Rattle.counts.proofs.Logic.{by-test}
 use Rattle.payload.specs.Sections.{startOf, span, sectionBits}
 use Rattle.payload.specs.Payload.{pbchBits, userBits, heads, userSections, sections, payloadLength, AcceptedPayload}
 use Rattle.payload.specs.Bits.{ownerBits}

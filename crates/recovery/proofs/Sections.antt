@@ -16,7 +16,7 @@ use Rattle.base.proofs.Tables.{table-at, table-length}
 use Rattle.gold.specs.Sequence.{binary}
 use Rattle.gold.proofs.Binary.{binary-lt, binary-digit}
 use Rattle.plan.specs.Lists.{Every}
-use Rattle.layout.specs.Choice.{if_then_else_}
+use Rattle.base.specs.Choice.{if_then_else_}
 use Rattle.payload.specs.Sections.{sectionBytes, bytesOf, startOf, span, spareAt, sparesFrom}
 use Rattle.subframe.proofs.OwnerBits.{at-every, span-length, span-at}
 use Rattle.recovery.specs.Recovery.{sectionOf}

@@ -1,4 +1,4 @@
--- What the promises cite: the payload that a grid is built from, read bit by bit where each bit's symbol stands. w is a plan's bytes, p the
+-- For inner contracts and laws only: the payload that a grid is built from, read bit by bit where each bit's symbol stands. w is a plan's bytes, p the
 -- plan that the plan check answers with, g a grid. proofs/: read from the grid of an accepted payload, it is that payload.
 use Prim.Native.Nat.{ℕ, suc, _+_, _-_, _*_, _/_, _%_}
 use mathlib.Core.List.{List, [], _∷_, _++_}
@@ -19,7 +19,7 @@ use Rattle.phich.specs.Recovery.{bitIn}
 use Rattle.plan.specs.Rows.{hisOf, usersOf}
 use Rattle.plan.specs.declared.User.{User}
 use Rattle.plan.specs.declared.Plan.{Plan}
-use Rattle.layout.specs.Choice.{if_then_else_}
+use Rattle.base.specs.Choice.{if_then_else_}
 use Rattle.layout.specs.declared.Owner.{Owner}
 use Rattle.layout.specs.declared.Owner.the-variants.{Pbch, Phich, User as UserOf}
 use Rattle.places.specs.Places.{placesOf, placeOf}

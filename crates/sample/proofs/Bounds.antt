@@ -2,7 +2,7 @@
 -- Assumes nothing.
 use mathlib.Core.Path.{_≡_, refl, sym, ap, _∙_}
 use mathlib.Core.Bool.{Bool, true, false, _&&_, Bool·beq}
-use Prim.Native.Nat.{ℕ, suc, _*_, _^_, _≤_, _<_, suc-le-suc}
+use Prim.Native.Nat.{ℕ, suc, _+_, _-_, _*_, _^_, _≤_, _<_, suc-le-suc}
 use native.Mathlib.Nat.{le-of-eq, mul-one}
 use native.Mathlib.Omega.{arith}
 use lib.Dec.{T, leb, leb→le}
@@ -20,9 +20,9 @@ use Rattle.sample.specs.declared.Row.{Row}
 use Rattle.sample.specs.declared.Scale.the-variants.{Levels}
 use Rattle.sample.specs.Units.{rows, scaleOf}
 use Rattle.sample.specs.Answer.{partOf}
-use Rattle.sample.specs.Bound.{low, high, Within, Close}
+use Rattle.sample.specs.Bound.{Within, Close}
 use Rattle.sample.specs.Promise.{Exact}
-use Rattle.sample.proofs.Squares.{double, most-by, least-by}
+use Rattle.sample.proofs.Squares.{square, double, most-by, least-by}
 use Rattle.sample.proofs.Table.{found}
 
 -- ---- a level is an f32 exactly
@@ -35,6 +35,12 @@ pub exactly : (z : ℤ) → SFits w8 z → Exact z (ofInt binary32 z)
 exactly z f = record { value = refl; exact = whole z (omega (arith, abs8 z f)) }
 
 -- ---- the test of one sample, w / d in size, and what it says
+abbrev low : ℤ → ℕ
+low z = (2 ^ 22 - 1) ^ 2 * natAbs z ^ 2
+
+abbrev high : ℤ → ℕ
+high z = (2 ^ 22 + 1) ^ 2 * natAbs z ^ 2
+
 abbrev sized : ℕ → ℤ → ℕ → ℕ → Bool
 sized u z w d = leb (low z * (d * d)) (2 ^ 44 * u * (w * w)) && leb (2 ^ 44 * u * (w * w)) (high z * (d * d))
 
@@ -55,8 +61,8 @@ within u z s w d a t p e h v =
     let m = leb (2 ^ 44 * u * (w * w)) (high z * (d * d)) in
     record {
       sign = e;
-      least = rw (double t) (least-by (2 ^ 44 * u) (low z) a d w (2 ^ t) p (le-of-eq v) (leb→le (low z * (d * d)) (2 ^ 44 * u * (w * w)) (and-l l m h)));
-      most = rw (double t) (most-by (2 ^ 44 * u) (high z) a d w (2 ^ t) p (le-of-eq (sym v)) (leb→le (2 ^ 44 * u * (w * w)) (high z * (d * d)) (and-r l m h)));
+      least = rw (double t, square a) (least-by (2 ^ 44 * u) (low z) a d w (2 ^ t) p (le-of-eq v) (leb→le (low z * (d * d)) (2 ^ 44 * u * (w * w)) (and-l l m h)));
+      most = rw (double t, square a) (most-by (2 ^ 44 * u) (high z) a d w (2 ^ t) p (le-of-eq (sym v)) (leb→le (2 ^ 44 * u * (w * w)) (high z * (d * d)) (and-r l m h)));
     }
 
 written : (s : Bool) (m : ℕ) (e : ℤ) → (r : Bool) × (a : ℕ) × (t : ℕ) × HasValue (fin s m e) r a (2 ^ t)

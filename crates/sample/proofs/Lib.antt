@@ -3,4 +3,5 @@ pub mod Squares
 pub mod Bounds
 pub mod Nearness
 pub mod Answers
+pub mod Refusals
 pub mod Readings

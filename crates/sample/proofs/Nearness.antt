@@ -20,7 +20,7 @@ use Rattle.sample.specs.declared.Scale.the-variants.{Levels}
 use Rattle.sample.specs.Units.{rows, scaleOf, gainOf}
 use Rattle.sample.specs.Bound.{NoNearer, Nearest}
 use Rattle.sample.specs.Promise.{Gained}
-use Rattle.sample.proofs.Squares.{double, most-by, least-by, same-by, less-by}
+use Rattle.sample.proofs.Squares.{square, double, most-by, least-by, same-by, less-by}
 use Rattle.sample.proofs.Table.{found}
 
 either : (a b : ℕ) → (a ≤ b) ⊎ (b < a)
@@ -131,8 +131,8 @@ none-nearer u M k m e h (fin s n d) f a b t v w =
     let is = same-by (m * up e) (down e) a (2 ^ t) M (2 ^ k) (down-pos e) (v .1) (eqb→eq (m * up e * 2 ^ k) (M * down e) (and-l t1 (t2 && (t3 && t4)) h)) in
     let s = split in
     record {
-      below = λ l. rw (double t) (most-by u 4 (a + b) (2 ^ k) (top M) (2 ^ t) (pow-pos k) (under M (2 ^ t) (2 ^ k) a b (pow-pos t) (pow-pos k) is s l) (leb→le (u * (top M * top M)) (4 * (2 ^ k * 2 ^ k)) (and-l t3 t4 h3)));
-      above = λ l. rw (double t) (least-by u 4 (a + b) (2 ^ k) (2 * M + 1) (2 ^ t) (pow-pos k) (over M (2 ^ t) (2 ^ k) a b (pow-pos t) (pow-pos k) is s (leb→le (2 ^ 23) M (and-l t2 (t3 && t4) h2)) l) (leb→le (4 * (2 ^ k * 2 ^ k)) (u * ((2 * M + 1) * (2 * M + 1))) (and-r t3 t4 h3)));
+      below = λ l. rw (double t, square (a + b)) (most-by u 4 (a + b) (2 ^ k) (top M) (2 ^ t) (pow-pos k) (under M (2 ^ t) (2 ^ k) a b (pow-pos t) (pow-pos k) is s l) (leb→le (u * (top M * top M)) (4 * (2 ^ k * 2 ^ k)) (and-l t3 t4 h3)));
+      above = λ l. rw (double t, square (a + b)) (least-by u 4 (a + b) (2 ^ k) (2 * M + 1) (2 ^ t) (pow-pos k) (over M (2 ^ t) (2 ^ k) a b (pow-pos t) (pow-pos k) is s (leb→le (2 ^ 23) M (and-l t2 (t3 && t4) h2)) l) (leb→le (4 * (2 ^ k * 2 ^ k)) (u * ((2 * M + 1) * (2 * M + 1))) (and-r t3 t4 h3)));
     }
   where
     split : Split b (2 ^ t) (2 ^ k)

@@ -11,18 +11,12 @@ use lib.Ieee.Positive.{positive}
 use lib.Ieee.Scale.{finite}
 use Rattle.base.specs.Signs.{negative}
 
--- "For level I and exact sample a/2^t (a whole, with the sign of I): (2^22−1)²I²2^(2t) ≤ 2^44·u·a² ≤ (2^22+1)²I²2^(2t)"
-abbrev pub low : ℤ → ℕ
-low z = (2 ^ 22 - 1) * (2 ^ 22 - 1) * (natAbs z * natAbs z)
-
-abbrev pub high : ℤ → ℕ
-high z = (2 ^ 22 + 1) * (2 ^ 22 + 1) * (natAbs z * natAbs z)
-
--- a is the size of the sample's whole number, and s its sign
+-- "For level I and exact sample a/2^t (a whole, with the sign of I): (2^22−1)²I²2^(2t) ≤ 2^44·u·a² ≤ (2^22+1)²I²2^(2t)";
+-- z is the level I, s the sign and a the size of the sample's whole number
 pub record Within (u : ℕ) (z : ℤ) (s : Bool) (a t : ℕ) : Type 0 where
   pub sign : s ≡ negative z
-  pub least : low z * 2 ^ (2 * t) ≤ 2 ^ 44 * u * (a * a)
-  pub most : 2 ^ 44 * u * (a * a) ≤ high z * 2 ^ (2 * t)
+  pub least : (2 ^ 22 - 1) ^ 2 * natAbs z ^ 2 * 2 ^ (2 * t) ≤ 2 ^ 44 * u * a ^ 2
+  pub most : 2 ^ 44 * u * a ^ 2 ≤ (2 ^ 22 + 1) ^ 2 * natAbs z ^ 2 * 2 ^ (2 * t)
 
 -- the float x is finite, is some a / 2 ^ t, and however it is written so, that is within the bound
 pub record Close (u : ℕ) (z : ℤ) (x : Float) : Type 0 where
@@ -33,8 +27,8 @@ pub record Close (u : ℕ) (z : ℤ) (x : Float) : Type 0 where
 -- "the gain is the f32 nearest 1/√u, shown by whole-number squares". With g = a / 2 ^ t and y = b / 2 ^ t, y is not nearer to 1 / √u than g:
 -- where y is below g, their middle is at most 1 / √u, and where it is above, at least.
 pub record NoNearer (u a b t : ℕ) : Type 0 where
-  pub below : b < a → u * ((a + b) * (a + b)) ≤ 4 * 2 ^ (2 * t)
-  pub above : a < b → 4 * 2 ^ (2 * t) ≤ u * ((a + b) * (a + b))
+  pub below : b < a → u * (a + b) ^ 2 ≤ 4 * 2 ^ (2 * t)
+  pub above : a < b → 4 * 2 ^ (2 * t) ≤ u * (a + b) ^ 2
 
 -- g is finite and above 0, and no f32 that is 0 or more lies nearer to 1 / √u. (One below 0 is further than 0.)
 pub record Nearest (u : ℕ) (g : Float) : Type 0 where

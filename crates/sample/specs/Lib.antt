@@ -2,3 +2,4 @@ pub mod Units
 pub mod Answer
 pub mod Bound
 pub mod Promise
+pub mod Refusal

@@ -1,19 +1,20 @@
--- What the calls promise, a record each. `Exact` is of an inner call, the others of public ones. Quoted words are document 01's, under the heading named.
+-- What the promises cite: the promises themselves, a record each. `Sampled`, with `Levelled`, is the contract of the public call, `sample_at` here and in `mapper`;
+-- `Gained` is that of `gain`, which is public in this crate only, and `Exact` that of an inner function. Quoted words are document 01's, under the heading named.
 use Prim.Native.Nat.{ℕ}
 use mathlib.Core.Path.{_≡_}
-use mathlib.Core.Bool.{not}
-use mathlib.Core.List.{[], _∷_}
-use lib.Dec.{T}
 use lib.IntN.{ℤ, natAbs}
 use lib.Ieee.{Float, binary32, ofInt}
 use lib.Ieee.Exact.{HasValue}
 use Rattle.base.specs.Bytes.{signedOf}
 use Rattle.base.specs.Signs.{negative}
+use Rattle.sample.specs.declared.Point.{Point}
 use Rattle.sample.specs.declared.Row.{Row}
+use Rattle.sample.specs.declared.Sample.the-variants.{At}
 use Rattle.sample.specs.declared.SampleAnswer.{SampleAnswer}
+use Rattle.sample.specs.declared.SampleAnswer.the-variants.{Is}
 use Rattle.sample.specs.declared.Scale.the-variants.{Levels}
 use Rattle.sample.specs.Units.{scaleOf, gainOf}
-use Rattle.sample.specs.Answer.{sampleOf, refusal, sample, told, noElement}
+use Rattle.sample.specs.Answer.{sampleOf}
 use Rattle.sample.specs.Bound.{Close, Nearest}
 
 -- Samples: "A level becomes f32 exactly": the whole number, with its sign
@@ -33,9 +34,7 @@ pub record Levelled (b : ℕ) (i j : ℤ) (x y : Float) : Type 0 where
   pub re : Close (row .unit) i x
   pub im : Close (row .unit) j y
 
--- The answer is `sampleOf`'s. It is refusal 9 exactly where the three bytes are no element, and a pair of f32 is always within the bound.
+-- The answer is `sampleOf`'s, and a pair of f32 is always within the bound.
 pub record Sampled (b i j : ℕ) (r : SampleAnswer) : Type 0 where
   pub answer : r ≡ sampleOf b i j
-  pub refused : T (noElement b (signedOf i) (signedOf j)) → told r ≡ refusal 9
-  pub accepted : T (not (noElement b (signedOf i) (signedOf j))) → (n : ℕ) → told r ≡ refusal n → ⊥
-  pub bounded : (x y : Float) → told r ≡ sample 2 [] (x ∷ y ∷ []) → Levelled b (signedOf i) (signedOf j) x y
+  pub bounded : (p : Point) → r ≡ Is (At p) → Levelled b (signedOf i) (signedOf j) (p .re) (p .im)

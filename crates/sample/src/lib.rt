@@ -20,7 +20,7 @@ pub enum Sample {
     At(Point),
 }
 
-// Refused is refusal 9; `told` of specs/Answer.antt gives document 01's number and values of each case.
+// Refused is document 01's refusal 9.
 pub enum SampleAnswer {
     Is(Sample),
     Refused,
@@ -168,7 +168,7 @@ fn phase(i: u8, j: u8) -> SampleAnswer
 }
 
 fn scaled(s: Scale, i: u8, j: u8) -> SampleAnswer
-    ensures { λ r. ⌜ r ≡ scaledOf s i j ⌝ }
+    ensures { λ r. ⌜ r ≡ scaledOf s (signedOf i) (signedOf j) ⌝ }
 {
     match s {
         Scale::Levels(row) => {

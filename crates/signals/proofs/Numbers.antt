@@ -9,13 +9,15 @@ use lib.Dec.{leb, ltb, eqb}
 use lib.IntN.{ℤ, pos}
 use lib.ListN.{length}
 use borrow.Author.Tests.{leb-true, le-leb, ltb-true, lt-ltb, eqb-true, eq-eqb}
+use Rattle.base.proofs.Tests.{both, same-test}
 use Rattle.base.proofs.Rows.{at-div, at-mod, row-inside}
 use Rattle.base.specs.Bytes.{elementOf}
 use Rattle.gold.specs.declared.Registers.{Registers}
 use Rattle.gold.specs.Steps.{after}
 use Rattle.sync.specs.declared.Sss.{Sss}
 use Rattle.sync.specs.Pss.{pssPhase}
-use Rattle.sync.specs.Sss.{sssOf, levelIn, sssLevel}
+use Rattle.sync.specs.Sss.{sssLevel}
+use Rattle.sync.specs.Inner.{sssOf, levelIn}
 use Rattle.sync.proofs.Signals.{level-is}
 use Rattle.plan.specs.Valid.{CellIn}
 use Rattle.plan.specs.declared.Cell.{Cell}
@@ -23,7 +25,6 @@ use Rattle.plan.specs.declared.Frame.{Frame}
 use Rattle.plan.proofs.Listed.{and-left, and-right}
 use Rattle.layout.specs.Rules.{slotOf, inSlot, standsAt, shift, middle}
 use Rattle.layout.specs.Owners.{slotOfCell, symbols, carriers}
-use Rattle.counts.proofs.Logic.{both, same-test}
 use Rattle.counts.proofs.Ranges.{big}
 use Rattle.places.specs.Places.{symbolNumber, carrierOf, placesOf}
 use Rattle.places.proofs.Numbers.{slot-length}

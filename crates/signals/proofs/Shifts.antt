@@ -5,7 +5,7 @@ use mathlib.Core.Bool.{true, false}
 use native.Mathlib.Omega.{arith}
 use lib.Dec.{eqb}
 use borrow.Author.Tests.{lt-ltb, le-ltb, eq-eqb, eqb-true}
-use Rattle.counts.proofs.Logic.{same-test}
+use Rattle.base.proofs.Tests.{same-test}
 use Rattle.plan.specs.declared.Cell.{Cell}
 use Rattle.layout.specs.Rules.{slotOf, inSlot, shift}
 use Rattle.layout.specs.Owners.{slotOfCell}

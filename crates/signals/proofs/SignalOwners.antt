@@ -9,6 +9,7 @@ use native.Mathlib.Omega.{arith}
 use lib.Dec.{eqb, ltb}
 use lib.IntN.{pos}
 use borrow.Author.Tests.{eq-eqb, eqb-true, lt-ltb}
+use Rattle.base.proofs.Tests.{both}
 use Rattle.base.specs.Signs.{turn}
 use Rattle.base.specs.Bytes.{elementOf}
 use Rattle.base.proofs.Pairs.{pair-of}
@@ -26,7 +27,6 @@ use Rattle.layout.specs.Rules.{slotOf, inSlot, crsSymbol, shift, standsAt, crsO
 use Rattle.layout.specs.Owners.{slotOfCell, fixedRule, owns}
 use Rattle.layout.specs.declared.Mark.the-variants.{Primary, Secondary}
 use Rattle.layout.specs.declared.Owner.the-variants.{Crs, Sync}
-use Rattle.counts.proofs.Logic.{both}
 use Rattle.counts.proofs.Ranges.{big}
 use Rattle.places.specs.Places.{symbolNumber, carrierOf, placesOf}
 use Rattle.subframe.specs.Elements.{crsElement, pssElement, sssElement}

@@ -7,8 +7,8 @@ use native.Mathlib.Decide.{decLe}
 use native.Mathlib.Omega.{arith}
 use lib.Dec.{leb, ltb, eqb}
 use borrow.Author.Tests.{leb-true, le-leb, ltb-true, lt-ltb, eqb-true, eq-eqb}
+use Rattle.base.proofs.Tests.{both, is-false, same-test}
 use Rattle.plan.proofs.Listed.{and-left, and-right}
-use Rattle.counts.proofs.Logic.{both, is-false, same-test}
 use Rattle.signals.specs.Rows.{everySixth, inRow}
 
 or-cases : (a b : Bool) → a || b ≡ true → (a ≡ true) ⊎ (b ≡ true)

@@ -18,7 +18,7 @@ use Rattle.gold.proofs.Laws.{after-none}
 use Rattle.crs.specs.Crs.{wordValue}
 use Rattle.sync.specs.declared.Sss.{Sss}
 use Rattle.sync.specs.Pss.{pssPhase}
-use Rattle.sync.specs.Sss.{levelIn}
+use Rattle.sync.specs.Inner.{levelIn}
 use Rattle.grid.specs.Writing.{Written}
 use Rattle.grid.proofs.Writing.{none, same, over}
 use Rattle.signals.specs.Rows.{everySixth, wordSent, pairSent, inRow, phaseSent, levelSent}

@@ -24,7 +24,7 @@ use Rattle.crs.specs.Crs.{wordValue}
 use Rattle.crs.proofs.Values.{held}
 use Rattle.sync.specs.declared.Sss.{Sss}
 use Rattle.sync.specs.Pss.{pssPhase}
-use Rattle.sync.specs.Sss.{bitIn, levelIn}
+use Rattle.sync.specs.Inner.{bitIn, levelIn}
 use Rattle.signals.specs.Signals.{crsFrom}
 use Rattle.signals.specs.Rows.{everySixth, valueIn, wordSent, pairSent, phaseSent, levelSent}
 use Rattle.signals.proofs.Stretches.{sixth-of}

@@ -10,7 +10,7 @@ use Rattle.gold.specs.declared.Registers.{Registers}
 use Rattle.crs.specs.Crs.{wordValue}
 use Rattle.sync.specs.declared.Sss.{Sss}
 use Rattle.sync.specs.Pss.{pssPhase}
-use Rattle.sync.specs.Sss.{levelIn}
+use Rattle.sync.specs.Inner.{levelIn}
 use Rattle.plan.specs.Valid.{CellIn}
 use Rattle.plan.specs.declared.Cell.{Cell}
 use Rattle.layout.specs.Owners.{symbols}

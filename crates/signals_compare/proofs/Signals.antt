@@ -7,7 +7,7 @@ use native.Mathlib.Omega.{arith}
 use lib.ListN.{length}
 use Rattle.gold.specs.declared.Registers.{Registers}
 use Rattle.sync.specs.declared.Sss.{Sss}
-use Rattle.sync.specs.Sss.{sssOf}
+use Rattle.sync.specs.Inner.{sssOf}
 use Rattle.plan.specs.Valid.{CellIn}
 use Rattle.plan.specs.declared.Cell.{Cell}
 use Rattle.plan.specs.declared.Frame.{Frame}

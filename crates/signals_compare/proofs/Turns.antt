@@ -20,7 +20,7 @@ use Rattle.gold.proofs.Laws.{after-none}
 use Rattle.crs.specs.Crs.{wordValue}
 use Rattle.sync.specs.declared.Sss.{Sss}
 use Rattle.sync.specs.Pss.{pssPhase}
-use Rattle.sync.specs.Sss.{levelIn}
+use Rattle.sync.specs.Inner.{levelIn}
 use Rattle.grid.specs.Elements.{elementIn}
 use Rattle.compare.specs.declared.Seen.{Seen}
 use Rattle.compare.specs.declared.Seen.the-variants.{Weight}

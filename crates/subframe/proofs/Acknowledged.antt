@@ -17,7 +17,7 @@ use Rattle.plan.specs.declared.Hi.{Hi}
 use Rattle.plan.specs.declared.Plan.{Plan}
 use Rattle.plan.specs.declared.Checked.the-variants.{Plan as accepted}
 use Rattle.plan.proofs.Valid.{valid}
-use Rattle.layout.specs.Choice.{if_then_else_}
+use Rattle.base.specs.Choice.{if_then_else_}
 use Rattle.phich.specs.His.{Fresh, Distinct}
 use Rattle.phich.specs.Spreading.{Length}
 use Rattle.phich.specs.Units.{Within, Ready}

@@ -12,6 +12,7 @@ use borrow.Author.Tests.{eq-eqb, ne-eqb, eqb-true, eqb-false}
 use lib.Dec.{eqb}
 use lib.ListN.{length, getD}
 use lib.Seq.{ext-getD}
+use Rattle.base.proofs.Tests.{by-test, on-if}
 use Rattle.base.specs.declared.Pair.{Pair}
 use Rattle.base.specs.Bits.{bitAt}
 use Rattle.base.specs.Pairs.{nil, Small}
@@ -31,9 +32,8 @@ use Rattle.plan.specs.declared.Cell.{Cell}
 use Rattle.plan.specs.declared.Hi.{Hi}
 use Rattle.plan.specs.declared.Plan.{Plan}
 use Rattle.plan.specs.declared.Checked.the-variants.{Plan as accepted}
-use Rattle.layout.specs.Choice.{if_then_else_}
+use Rattle.base.specs.Choice.{if_then_else_}
 use Rattle.layout.specs.declared.Owner.the-variants.{Phich}
-use Rattle.counts.proofs.Logic.{by-test, on-if}
 use Rattle.places.specs.Places.{placeNumber, symbolNumber, carrierOf, placeCount, placeOf, indexOf}
 use Rattle.places.proofs.Listing.{phich-count}
 use Rattle.payload.specs.Payload.{sections}

@@ -25,7 +25,7 @@ use Rattle.plan.specs.declared.Cell.{Cell}
 use Rattle.plan.specs.declared.Frame.{Frame}
 use Rattle.plan.specs.declared.User.{User}
 use Rattle.plan.specs.declared.Plan.{Plan}
-use Rattle.layout.specs.Choice.{if_then_else_}
+use Rattle.base.specs.Choice.{if_then_else_}
 use Rattle.layout.specs.Rules.{slotOf, inSlot}
 use Rattle.layout.specs.Owners.{slotOfCell, ownerOf}
 use Rattle.layout.specs.declared.Mark.the-variants.{Primary, Secondary}

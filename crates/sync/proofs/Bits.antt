@@ -8,14 +8,13 @@ use lib.Arith.{digits-lt}
 use lib.Bits.{bitXor, xor-lt}
 use lib.Pow.{pow-pos, split, high, low, shr-lt}
 use Rattle.base.specs.Digits.{dig, dig-xor, dig-shr, dig-mod}
-use Rattle.sync.specs.Sss.{word}
-use Rattle.sync.specs.Inner.{Holds, aroundOf}
+use Rattle.sync.specs.Inner.{Holds, lowFirst, aroundOf}
 
--- ---- a word is the number of its bits
-word-lt : (f : ℕ → ℕ) → ((i : ℕ) → f i < 2) → (n : ℕ) → word f n < 2 ^ n
-unfolding word
-word-lt f two zero = omega arith
-word-lt f two (suc n) = omega (arith, digits-lt {c = 2 ^ n} (two n) (word-lt f two n), pow-suc 2 n)
+-- ---- a word from its bits, the lowest first
+low-first-lt : (f : ℕ → ℕ) → ((i : ℕ) → f i < 2) → (n : ℕ) → lowFirst f n < 2 ^ n
+unfolding lowFirst
+low-first-lt f two zero = omega arith
+low-first-lt f two (suc n) = omega (arith, digits-lt {c = 2 ^ n} (two n) (low-first-lt f two n), pow-suc 2 n)
 
 top-bit : (b k : ℕ) {r : ℕ} → b < 2 → r < 2 ^ k → dig (b * 2 ^ k + r) k ≡ b
 unfolding dig
@@ -25,29 +24,29 @@ top-is : (n w : ℕ) → w < 2 ^ suc n → w / 2 ^ n ≡ dig w n
 unfolding dig
 top-is n w h = let g : suc n ≡ 1 + n = omega arith in omega (arith, shr-lt {n = w} 1 n (rw g at h))
 
-pub word-bit : (f : ℕ → ℕ) → ((i : ℕ) → f i < 2) → (n i : ℕ) → i < n → dig (word f n) i ≡ f i
-unfolding word
-word-bit f two zero i h = absurd (omega arith)
-word-bit f two (suc n) i h = pick (ℕ-discrete i n) (word-bit f two n i)
+pub low-first-bit : (f : ℕ → ℕ) → ((i : ℕ) → f i < 2) → (n i : ℕ) → i < n → dig (lowFirst f n) i ≡ f i
+unfolding lowFirst
+low-first-bit f two zero i h = absurd (omega arith)
+low-first-bit f two (suc n) i h = pick (ℕ-discrete i n) (low-first-bit f two n i)
   where
-    pick : Dec (i ≡ n) → (i < n → dig (word f n) i ≡ f i) → dig (f n * 2 ^ n + word f n) i ≡ f i
-    pick (yes e) earlier = rw e (top-bit (f n) n (two n) (word-lt f two n))
+    pick : Dec (i ≡ n) → (i < n → dig (lowFirst f n) i ≡ f i) → dig (f n * 2 ^ n + lowFirst f n) i ≡ f i
+    pick (yes e) earlier = rw e (top-bit (f n) n (two n) (low-first-lt f two n))
     pick (no e) earlier =
-        sym (dig-mod (f n * 2 ^ n + word f n) n i (omega arith))
-        ∙ ap (λ (z : ℕ). dig z i) (low (f n) n (word-lt f two n))
+        sym (dig-mod (f n * 2 ^ n + lowFirst f n) n i (omega arith))
+        ∙ ap (λ (z : ℕ). dig z i) (low (f n) n (low-first-lt f two n))
         ∙ earlier (omega arith)
 
-word-of : (f : ℕ → ℕ) (n w : ℕ) → w < 2 ^ n → ((i : ℕ) → i < n → dig w i ≡ f i) → w ≡ word f n
-unfolding word
-word-of f zero w h e = omega arith
-word-of f (suc n) w h e =
+low-first-of : (f : ℕ → ℕ) (n w : ℕ) → w < 2 ^ n → ((i : ℕ) → i < n → dig w i ≡ f i) → w ≡ lowFirst f n
+unfolding lowFirst
+low-first-of f zero w h e = omega arith
+low-first-of f (suc n) w h e =
     sym (split w n)
     ∙ ap₂ (λ (x y : ℕ). x * 2 ^ n + y)
     (top-is n w h ∙ e n (omega arith))
-    (word-of f n (w % 2 ^ n) (mod-lt w (pow-pos n)) (λ i less. dig-mod w n i less ∙ e i (omega arith)))
+    (low-first-of f n (w % 2 ^ n) (mod-lt w (pow-pos n)) (λ i less. dig-mod w n i less ∙ e i (omega arith)))
 
-pub word-is : {x : ℕ → ℕ} {w : ℕ} → Holds x w → w ≡ word x 31
-word-is {x} {w} h = word-of x 31 w (h .small) (h .bit)
+pub low-first-is : {x : ℕ → ℕ} {w : ℕ} → Holds x w → w ≡ lowFirst x 31
+low-first-is {x} {w} h = low-first-of x 31 w (h .small) (h .bit)
 
 -- ---- what a word holds
 pub holds-same : {x y : ℕ → ℕ} {w : ℕ} → ((i : ℕ) → x i ≡ y i) → Holds x w → Holds y w

@@ -5,7 +5,8 @@ use mathlib.Core.Bool.{Bool, _&&_}
 use lib.Dec.{T, ltb, eqb, eqb→eq, ltb→lt}
 use lib.Ieee.Fits.{and-l, and-r}
 use Rattle.base.proofs.Computed.{below-at}
-use Rattle.sync.specs.Sss.{qPrime, qOf, eOf, m0Of, m1Of, indicesOf}
+use Rattle.sync.specs.Sss.{qPrime, qOf, eOf, m0Of, m1Of}
+use Rattle.sync.specs.Inner.{indicesOf}
 use Rattle.sync.specs.declared.Indices.{Indices}
 
 -- D from its indices a < b: m' = 31q + a and D = m' - q(q+1)/2, where q = b - a - 1

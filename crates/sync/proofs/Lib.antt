@@ -1,4 +1,5 @@
 pub mod Triangles
+pub mod Phases
 pub mod Bits
 pub mod Recurrence
 pub mod Signals

@@ -4,7 +4,7 @@ use mathlib.Core.Path.{_≡_, refl, sym, ap, _∙_}
 use native.Mathlib.Decide.{ℕ-discrete}
 use native.Mathlib.Omega.{arith}
 use Rattle.base.specs.Digits.{dig, dig-shr, dig-mod}
-use Rattle.sync.specs.Sss.{sBit, cBit, zBit}
+use Rattle.sync.specs.Sss.{goingOn, sBit, cBit, zBit}
 use Rattle.sync.specs.Inner.{Holds, Sequences, pushedOf}
 
 -- after i turns bit j is x(i + j - 26), where that is a place of the sequence
@@ -66,36 +66,58 @@ parity4 a b c d p q r s e f g h = more (a + b + c) (p + q + r) d s (more (a + b)
     more : (a p b q : ℕ) → a % 2 ≡ p % 2 → b % 2 ≡ q → (a + b) % 2 ≡ (p + q) % 2
     more a p b q e f = omega arith
 
--- ---- the recurrences, at i + 5
-five : (x : ℕ → ℕ) (i : ℕ) → x (suc (suc (suc (suc (suc i))))) ≡ x (i + 5)
-five x i = ap x (omega arith)
+-- ---- 36.211's recurrences hold
+next : (rule : ℕ → ℕ → ℕ → ℕ → ℕ → ℕ) (a b c d e i : ℕ) → let x = goingOn rule a b c d e in
+    x (suc (suc (suc (suc (suc i))))) ≡ rule (x i) (x (suc i)) (x (suc (suc i))) (x (suc (suc (suc i)))) (x (suc (suc (suc (suc i)))))
+unfolding goingOn
+next rule a b c d e zero = refl
+next rule a b c d e (suc i) = next rule b c d e (rule a b c d e) i
 
-s-next : (i w : ℕ) → Run sBit i w → (w / 2 ^ 28 + w / 2 ^ 26) % 2 ≡ sBit (i + 5)
+goes-on : (rule : ℕ → ℕ → ℕ → ℕ → ℕ → ℕ) (a b c d e i : ℕ) → let x = goingOn rule a b c d e in
+    x (i + 5) ≡ rule (x i) (x (i + 1)) (x (i + 2)) (x (i + 3)) (x (i + 4))
+goes-on rule a b c d e i =
+    let e1 : i + 1 ≡ suc i = omega arith in
+    let e2 : i + 2 ≡ suc (suc i) = omega arith in
+    let e3 : i + 3 ≡ suc (suc (suc i)) = omega arith in
+    let e4 : i + 4 ≡ suc (suc (suc (suc i))) = omega arith in
+    let e5 : i + 5 ≡ suc (suc (suc (suc (suc i)))) = omega arith in
+    rw (e1, e2, e3, e4, e5) (next rule a b c d e i)
+
+pub s-recurrence : (i : ℕ) → sBit (i + 5) ≡ (sBit (i + 2) + sBit i) % 2
 unfolding sBit
+s-recurrence i = goes-on _ 0 0 0 0 1 i
+
+pub c-recurrence : (i : ℕ) → cBit (i + 5) ≡ (cBit (i + 3) + cBit i) % 2
+unfolding cBit
+c-recurrence i = goes-on _ 0 0 0 0 1 i
+
+pub z-recurrence : (i : ℕ) → zBit (i + 5) ≡ (zBit (i + 4) + zBit (i + 2) + zBit (i + 1) + zBit i) % 2
+unfolding zBit
+z-recurrence i = goes-on _ 0 0 0 0 1 i
+
+-- ---- and are what comes in
+s-next : (i w : ℕ) → Run sBit i w → (w / 2 ^ 28 + w / 2 ^ 26) % 2 ≡ sBit (i + 5)
 s-next i w t =
-    parity2 (w / 2 ^ 28) (w / 2 ^ 26) (sBit (suc (suc i))) (sBit i)
-    (tap sBit i w 2 (suc (suc i)) t (omega arith) (omega arith))
+    parity2 (w / 2 ^ 28) (w / 2 ^ 26) (sBit (i + 2)) (sBit i)
+    (tap sBit i w 2 (i + 2) t (omega arith) refl)
     (tap sBit i w 0 i t (omega arith) (omega arith))
-    ∙ five sBit i
+    ∙ sym (s-recurrence i)
 
 c-next : (i w : ℕ) → Run cBit i w → (w / 2 ^ 29 + w / 2 ^ 26) % 2 ≡ cBit (i + 5)
-unfolding cBit
 c-next i w t =
-    parity2 (w / 2 ^ 29) (w / 2 ^ 26) (cBit (suc (suc (suc i)))) (cBit i)
-    (tap cBit i w 3 (suc (suc (suc i))) t (omega arith) (omega arith))
+    parity2 (w / 2 ^ 29) (w / 2 ^ 26) (cBit (i + 3)) (cBit i)
+    (tap cBit i w 3 (i + 3) t (omega arith) refl)
     (tap cBit i w 0 i t (omega arith) (omega arith))
-    ∙ five cBit i
+    ∙ sym (c-recurrence i)
 
 z-next : (i w : ℕ) → Run zBit i w → (w / 2 ^ 30 + w / 2 ^ 28 + w / 2 ^ 27 + w / 2 ^ 26) % 2 ≡ zBit (i + 5)
-unfolding zBit
 z-next i w t =
-    parity4 (w / 2 ^ 30) (w / 2 ^ 28) (w / 2 ^ 27) (w / 2 ^ 26)
-    (zBit (suc (suc (suc (suc i))))) (zBit (suc (suc i))) (zBit (suc i)) (zBit i)
-    (tap zBit i w 4 (suc (suc (suc (suc i)))) t (omega arith) (omega arith))
-    (tap zBit i w 2 (suc (suc i)) t (omega arith) (omega arith))
-    (tap zBit i w 1 (suc i) t (omega arith) (omega arith))
+    parity4 (w / 2 ^ 30) (w / 2 ^ 28) (w / 2 ^ 27) (w / 2 ^ 26) (zBit (i + 4)) (zBit (i + 2)) (zBit (i + 1)) (zBit i)
+    (tap zBit i w 4 (i + 4) t (omega arith) refl)
+    (tap zBit i w 2 (i + 2) t (omega arith) refl)
+    (tap zBit i w 1 (i + 1) t (omega arith) refl)
     (tap zBit i w 0 i t (omega arith) (omega arith))
-    ∙ five zBit i
+    ∙ sym (z-recurrence i)
 
 -- ---- the loop: all three words after i turns
 pub record Filled (i s c z : ℕ) : Type 0 where
@@ -105,7 +127,7 @@ pub record Filled (i s c z : ℕ) : Type 0 where
   pub z-run : Run zBit i z
 
 pub filled-none : Filled 0 (2 ^ 30) (2 ^ 30) (2 ^ 30)
-unfolding sBit cBit zBit
+unfolding goingOn sBit cBit zBit
 filled-none =
     record {
       turns = omega arith;

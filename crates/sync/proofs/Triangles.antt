@@ -10,7 +10,8 @@ use lib.Dec.{leb, leb→le}
 use lib.ListN.{getD}
 use Rattle.base.proofs.Computed.{every-at}
 use Rattle.sync.specs.Pss.{pssRoot, pssT, pssPhase}
-use Rattle.sync.specs.Sss.{qPrime, qOf, eOf, m0Of, m1Of, indicesOf}
+use Rattle.sync.specs.Sss.{qPrime, qOf, eOf, m0Of, m1Of}
+use Rattle.sync.specs.Inner.{indicesOf}
 use Rattle.sync.specs.declared.Indices.{Indices}
 
 pub product-le : (n k : ℕ) → n ≤ k → n * (n + 1) ≤ k * (k + 1)

@@ -2,8 +2,7 @@
 ghost use mathlib.Core.Path.{_≡_};
 ghost use Prim.Native.Nat.{_+_, _*_, _/_, _%_, _^_, _<_, _≤_};
 ghost use Rattle.sync.specs.Pss.{pssRoot, pssT, pssPhase};
-ghost use Rattle.sync.specs.Sss.{indicesOf, sssOf, bitIn, levelIn};
-ghost use Rattle.sync.specs.Inner.{Sequences, pushedOf, aroundOf, signsOf};
+ghost use Rattle.sync.specs.Inner.{Sequences, pushedOf, aroundOf, signsOf, indicesOf, sssOf, bitIn, levelIn};
 
 // Table 6.11.1.1-1: the root index u of each C mod 3.
 const ROOTS: [u64; 3] = [25, 29, 34];

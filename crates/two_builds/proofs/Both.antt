@@ -9,7 +9,8 @@ use types.Run.{OneOf}
 use denote.Enum.Declared.{tagOf}
 use borrow.Author.Tests.{eq-eqb, ne-eqb}
 use Rattle.plan.specs.Lists.{oneOf}
-use Rattle.plan.specs.Check.{checkOf}
+use Rattle.plan.specs.Answers.{Answer, given}
+use Rattle.plan.specs.Check.{checkOf, refusedAs}
 use Rattle.plan.specs.declared.Plan.{Plan}
 use Rattle.plan.specs.declared.Refusal.{Refusal}
 use Rattle.plan.specs.declared.Refusal.the-variants.{GridLength, PayloadLength, SpareBit}
@@ -22,12 +23,12 @@ use Rattle.payload.specs.Payload.{gridLength, payloadLength, spareClear, Accept
 use Rattle.payload.proofs.Refusals.{accepted-payload, payload-clear}
 use Rattle.subframe.specs.Grid.{gridOf}
 use Rattle.subframe.proofs.TwoBuilds.{two-builds}
-use Rattle.build.specs.Build.{pdschElements}
+use Rattle.build.specs.Build.{pdschElements, builtAnswer}
 use Rattle.build.specs.Senders.{Ready}
 use Rattle.build.specs.declared.Built.{Built}
 use Rattle.build.specs.declared.Built.the-variants.{Elements, Refused}
 use Rattle.build.proofs.Answers.{plan-room}
-use Rattle.two_builds.specs.Both.{unlessBoth, bothOf, firstAfter, secondAfter, Separate}
+use Rattle.two_builds.specs.Both.{unlessBoth, bothBuilt, firstAfter, secondAfter, Separate}
 
 -- ---- each refusal by what it says of the four buffers
 module _ {R : Type 0} (refusal : Refusal → R) (w : List ℕ) (p : Plan) (A B g h : List ℕ) (answer : R) where
@@ -71,15 +72,15 @@ module _ {R : Type 0} (refusal : Refusal → R) (w : List ℕ) (p : Plan) (A B g
 -- ---- the ways
 module _ (w A B g h : List ℕ) where
   abbrev Answered : Built → List ℕ → List ℕ → Type 0
-  Answered r g′ h′ = (r ≡ bothOf w A B g h) × (g′ ≡ firstAfter w A B g h) × (h′ ≡ secondAfter w A B g h) × Separate w A B g h g′ h′
+  Answered r g′ h′ = (builtAnswer r ≡ bothBuilt w A B g h) × (g′ ≡ firstAfter w A B g h) × (h′ ≡ secondAfter w A B g h) × Separate w A B g h g′ h′
 
   module _ (p : Plan) (ok : checkOf w ≡ accepted p) (a : AcceptedPayload w p A) (b : AcceptedPayload w p B) (eg : length g ≡ gridLength p) (eh : length h ≡ gridLength p) where
     all-right : {R : Type 0} (refusal : Refusal → R) (answer : R) → unlessBoth refusal w p A B g h answer ≡ answer
     all-right refusal answer = both-right refusal w p A B g h answer eg eh (a .size) (b .size) (payload-clear w p A a) (payload-clear w p B b)
 
-    answer-is : bothOf w A B g h ≡ Elements (pdschElements w p)
-    unfolding bothOf
-    answer-is = rw ok (all-right Refused _)
+    answer-is : bothBuilt w A B g h ≡ given (pdschElements w p)
+    unfolding bothBuilt
+    answer-is = rw ok (all-right refusedAs _)
 
     first-is : firstAfter w A B g h ≡ gridOf w p A
     unfolding firstAfter
@@ -93,18 +94,18 @@ module _ (w A B g h : List ℕ) where
   separate : Separate w A B g h (firstAfter w A B g h) (secondAfter w A B g h)
   separate = record { apart = λ p ok a b eg eh. rw (first-is p ok a b eg eh, second-is p ok a b eg eh) (two-builds w p ok A B) }
 
-  answered : (r : Built) (g′ h′ : List ℕ) → r ≡ bothOf w A B g h → g′ ≡ firstAfter w A B g h → h′ ≡ secondAfter w A B g h → Answered r g′ h′
+  answered : (r : Built) (g′ h′ : List ℕ) → builtAnswer r ≡ bothBuilt w A B g h → g′ ≡ firstAfter w A B g h → h′ ≡ secondAfter w A B g h → Answered r g′ h′
   answered r g′ h′ er e₁ e₂ = (er, e₁, e₂, rw (e₁, e₂) separate)
 
   pub way-refused : (a : Checked) → a ≡ checkOf w → OneOf (1 ∷ []) (tagOf the-type a) → (r : Refusal) → r ≡ refusalOf a → Answered (Refused r) g h
-  unfolding oneOf bothOf firstAfter secondAfter
+  unfolding oneOf bothBuilt firstAfter secondAfter
   way-refused (accepted p) e k r q = absurd (not-in (1 ∷ []) 0 k refl)
-  way-refused (refused x) e k r q = answered (Refused r) g h (ap Refused q ∙ rw (← e) refl) (rw (← e) refl) (rw (← e) refl)
+  way-refused (refused x) e k r q = answered (Refused r) g h (ap refusedAs q ∙ rw (← e) refl) (rw (← e) refl) (rw (← e) refl)
 
   module _ (p : Plan) (ok : checkOf w ≡ accepted p) where
     refused-by : (x : Refusal) → ((R : Type 0) (refusal : Refusal → R) (answer : R) → unlessBoth refusal w p A B g h answer ≡ refusal x) → Answered (Refused x) g h
-    unfolding bothOf firstAfter secondAfter
-    refused-by x u = answered (Refused x) g h (rw ok (sym (u Built Refused _))) (rw ok (sym (u (List ℕ) (λ (r : Refusal). g) _))) (rw ok (sym (u (List ℕ) (λ (r : Refusal). h) _)))
+    unfolding bothBuilt firstAfter secondAfter
+    refused-by x u = answered (Refused x) g h (rw ok (sym (u Answer refusedAs _))) (rw ok (sym (u (List ℕ) (λ (r : Refusal). g) _))) (rw ok (sym (u (List ℕ) (λ (r : Refusal). h) _)))
 
     module _ (n : ℕ) (en : n ≡ gridLength p) where
       pub way-first-grid : (length g ≡ n → ⊥) → Answered (Refused GridLength) g h
@@ -150,6 +151,6 @@ module _ (w A B g h : List ℕ) where
                   pub way-both : (c : ℕ) → c ≡ pdschElements w p → (g′ : List ℕ) → g′ ≡ gridOf w p A → (h′ : List ℕ) → h′ ≡ gridOf w p B → Answered (Elements c) g′ h′
                   way-both c ec g′ e₁ h′ e₂ =
                       answered (Elements c) g′ h′
-                      (ap Elements ec ∙ sym (answer-is p ok first-accepted second-accepted (eg ∙ en) (eh ∙ en)))
+                      (ap given ec ∙ sym (answer-is p ok first-accepted second-accepted (eg ∙ en) (eh ∙ en)))
                       (e₁ ∙ sym (first-is p ok first-accepted second-accepted (eg ∙ en) (eh ∙ en)))
                       (e₂ ∙ sym (second-is p ok first-accepted second-accepted (eg ∙ en) (eh ∙ en)))

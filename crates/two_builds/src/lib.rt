@@ -3,12 +3,13 @@ use build::Built;
 use plan::Checked;
 use plan::Refusal;
 ghost use mathlib.Core.Path.{_≡_};
-ghost use Rattle.two_builds.specs.Both.{bothOf, firstAfter, secondAfter, Separate};
+ghost use Rattle.build.specs.Build.{builtAnswer};
+ghost use Rattle.two_builds.specs.Both.{bothBuilt, firstAfter, secondAfter, Separate};
 
 // BUILD BOTH: the grids of one plan and two payloads. Neither grid is written unless all that is lent is right.
 pub fn build_both(plan: &[u8], a: &[u8], b: &[u8], grid_a: &mut [u8], grid_b: &mut [u8]) -> Built
     ensures { λ r. ⌜
-        (r ≡ bothOf (now (plan .entry)) (now (a .entry)) (now (b .entry)) (now («grid_a» .entry)) (now («grid_b» .entry)))
+        (builtAnswer r ≡ bothBuilt (now (plan .entry)) (now (a .entry)) (now (b .entry)) (now («grid_a» .entry)) (now («grid_b» .entry)))
         × (now («grid_a» .exit) ≡ firstAfter (now (plan .entry)) (now (a .entry)) (now (b .entry)) (now («grid_a» .entry)) (now («grid_b» .entry)))
         × (now («grid_b» .exit) ≡ secondAfter (now (plan .entry)) (now (a .entry)) (now (b .entry)) (now («grid_a» .entry)) (now («grid_b» .entry)))
         × Separate (now (plan .entry)) (now (a .entry)) (now (b .entry)) (now («grid_a» .entry)) (now («grid_b» .entry)) (now («grid_a» .exit)) (now («grid_b» .exit))

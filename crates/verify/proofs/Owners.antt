@@ -8,6 +8,7 @@ use native.Mathlib.Nat.{div-lt-iff-lt-mul}
 use native.Mathlib.Omega.{arith}
 use lib.Dec.{eqb}
 use lib.ListN.{length}
+use Rattle.base.proofs.Tests.{clash}
 use Rattle.plan.specs.Check.{checkOf}
 use Rattle.plan.specs.Fields.{unitsOf}
 use Rattle.plan.specs.Rows.{usersOf}
@@ -20,7 +21,6 @@ use Rattle.layout.specs.declared.Owner.{Owner}
 use Rattle.layout.specs.declared.Owner.the-variants.{Crs, Sync, Pbch, Pcfich, Phich, User as UserOf, Held, Idle}
 use Rattle.layout.proofs.OneOwner.{one-owner}
 use Rattle.places.specs.Places.{symbolNumber, carrierOf, placesOf, ownsAt, indexOf}
-use Rattle.places.proofs.Counts.{clash}
 use Rattle.grid.specs.Writing.{sends, Room}
 use Rattle.signals.specs.Signals.{crsSends, markSends}
 use Rattle.signals.proofs.SignalOwners.{crs-sends, pss-sends, sss-sends}

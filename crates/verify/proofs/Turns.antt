@@ -43,7 +43,7 @@ use Rattle.control.proofs.ControlOwners.{phich-in}
 use Rattle.control_compare.specs.Again.{sumsAgain}
 use Rattle.control_compare.proofs.AgainOwners.{unit-value}
 use Rattle.channels.specs.declared.Channel.the-variants.{Crs, Pcfich as PcfichChannel, Phich as PhichChannel}
-use Rattle.channels.specs.Channels.{initOf, firstOf, Among}
+use Rattle.channels.specs.Channels.{initOf, firstBit, Among}
 use Rattle.build.specs.Senders.{someBelow, ownerSends, crsIn, crsPorts, crsRows, marksSend, pbchSends, unitsSend, usersSend, allSend}
 use Rattle.build.proofs.Some.{some-none, some-more}
 use Rattle.build.proofs.SignalValues.{crs-numbered, pss-numbered, sss-numbered}
@@ -126,10 +126,10 @@ module _ (w : List ℕ) (p : Plan) {g : List ℕ} (given : Given w p g) where
       crs-pass h = turn-pass (crsIn p s) q so-far (λ e. rw h refl)
 
       pub crs-more :
-          {x t : Seen} (y : ℕ) (r₀ : Registers) → y ≡ s → r₀ ≡ pairAt (initOf p (Crs s q)) (firstOf p (Crs s q)) → t ≡ bothOf r x
+          {x t : Seen} (y : ℕ) (r₀ : Registers) → y ≡ s → r₀ ≡ pairAt (initOf p (Crs s q)) (firstBit p (Crs s q)) → t ≡ bothOf r x
           → crsSymbol (slotOfCell (p .cell)) q (inSlot (slotOfCell (p .cell)) s) ≡ true → q < p .cell .ports
           → Compared (crsSends (p .cell) y q) (crsSent (p .cell) r₀) g x → Compared (crsPorts p s (q + 1)) (due w p g) g t
-      unfolding crsPorts crsIn initOf firstOf
+      unfolding crsPorts crsIn initOf firstBit
       crs-more {x = x} y r₀ ey er et h l c =
           turn-more (crsIn p s) q so-far (λ i e k. ports-apart w p ok (given .room) s i q e k l)
           (subst (λ (z : Registers). Compared (crsSends (p .cell) s q) (crsSent (p .cell) z) g x) er
@@ -201,9 +201,9 @@ module _ (w : List ℕ) (p : Plan) {g : List ℕ} (given : Given w p g) where
   pcfich-starts = (valid w p ok .cell, valid w p ok .frame, tt)
 
   pub pcfich-compared :
-      {r : Seen} (r₀ : Registers) → r₀ ≡ pairAt (initOf p PcfichChannel) (firstOf p PcfichChannel)
+      {r : Seen} (r₀ : Registers) → r₀ ≡ pairAt (initOf p PcfichChannel) (firstBit p PcfichChannel)
       → Compared (pcfichSends (p .cell)) (pcfichSent (p .cell) (p .frame .cfi) r₀) g r → Compared (ownerSends w p Pcfich) (due w p g) g r
-  unfolding initOf firstOf
+  unfolding initOf firstBit
   pcfich-compared {r} r₀ er c =
       same (λ e. pcfich-owned w p ok A (given .room) e) (λ e k. pcfich-numbered w p ok A (given .room) e k)
       (subst (λ (z : Registers). Compared (pcfichSends (p .cell)) (pcfichSent (p .cell) (p .frame .cfi) z) g r) er c)
@@ -218,10 +218,10 @@ module _ (w : List ℕ) (p : Plan) {g : List ℕ} (given : Given w p g) where
         unit-value w p ok g m e in-m h (b .port) ∙ sym (numbered w p ok A (Phich m) e (b .owned))
 
     pub unit-compared :
-        {r : Seen} (x : ℕ) (r₀ : Registers) → x ≡ m → r₀ ≡ pairAt (initOf p (PhichChannel m)) (firstOf p (PhichChannel m))
+        {r : Seen} (x : ℕ) (r₀ : Registers) → x ≡ m → r₀ ≡ pairAt (initOf p (PhichChannel m)) (firstBit p (PhichChannel m))
         → Compared (phichSends (p .cell) x) (unitSent (p .cell) x (sumsAgain (p .cell) x r₀ (hisFrom (drop (p .his .at) w) (p .his .count)) g)) g r
         → Compared (ownerSends w p (Phich m)) (due w p g) g r
-    unfolding initOf firstOf hisOf
+    unfolding initOf firstBit hisOf
     unit-compared {r} x r₀ ex er c =
         same (λ e. phich-owned w p ok A (given .room) m in-m e) unit-due
         (subst (λ (z : Registers). Compared (phichSends (p .cell) m) (unitSent (p .cell) m (sumsAgain (p .cell) m z (hisOf w p) g)) g r) er

@@ -8,12 +8,12 @@ use native.Mathlib.Omega.{arith}
 use borrow.Author.Tests.{eqb-true, eq-eqb}
 use lib.Dec.{eqb}
 use lib.ListN.{length}
+use Rattle.base.proofs.Tests.{by-test, clash}
 use Rattle.plan.specs.declared.Plan.{Plan}
 use Rattle.places.specs.Places.{placesOf}
-use Rattle.places.proofs.Counts.{by-test, clash}
 use Rattle.compare.specs.declared.Seen.{Seen}
 use Rattle.compare.specs.declared.Seen.the-variants.{Weight, Differs}
-use Rattle.compare.specs.Comparing.{Holds, marks, Compared}
+use Rattle.compare.specs.Comparing.{Holds, nonzeros, Compared}
 use Rattle.compare.proofs.Comparing.{rest-silent, silent-rest}
 use Rattle.subframe.specs.Grid.{gridOf}
 use Rattle.recovery.specs.Recovery.{payloadIn}
@@ -37,7 +37,7 @@ module _ (w : List ℕ) (p : Plan) (g : List ℕ) (given : Given w p g) where
   made-holds m = record { elements = λ e k. made-element w p g m e (all-in w p (given .answer) (given .room) e k) }
 
   module _ {n : ℕ} (c : Compared (allSend w p) (due w p g) g (Weight n)) where
-    weight-made : n ≡ marks g → gridOf w p (payloadIn w p g) ≡ g
+    weight-made : n ≡ nonzeros g → gridOf w p (payloadIn w p g) ≡ g
     weight-made h =
         made-grid w p g (given .room)
         (λ e l.
@@ -46,7 +46,7 @@ module _ (w : List ℕ) (p : Plan) (g : List ℕ) (given : Given w p g) where
         rest-silent (allSend w p) g whole (sym (c .found .1) ∙ h) e (rw size l) k
         ∙ sym (quiet w p (given .answer) (payloadIn w p g) e l k)))
 
-    made-weight : gridOf w p (payloadIn w p g) ≡ g → n ≡ marks g
+    made-weight : gridOf w p (payloadIn w p g) ≡ g → n ≡ nonzeros g
     made-weight m =
         c .found .1
         ∙ silent-rest (allSend w p) g whole
@@ -57,7 +57,7 @@ module _ (w : List ℕ) (p : Plan) (g : List ℕ) (given : Given w p g) where
 
   -- ---- the answer, by what was seen
   pub answer-weight :
-      {s : Seen} {n m : ℕ} → s ≡ Weight n → m ≡ marks g → Compared (allSend w p) (due w p g) g s → Made w p g (eqb n m)
+      {s : Seen} {n m : ℕ} → s ≡ Weight n → m ≡ nonzeros g → Compared (allSend w p) (due w p g) g s → Made w p g (eqb n m)
   answer-weight {n = n} {m = m} es em c =
       let k : Compared (allSend w p) (due w p g) g (Weight n) = subst (Compared (allSend w p) (due w p g) g) es c in
       record {

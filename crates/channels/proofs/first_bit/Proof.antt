@@ -3,7 +3,7 @@ use native.Mathlib.Omega.{arith}
 use mathlib.Core.Path.{sym, ap, _∙_}
 use Prim.Native.Nat.{ℕ, _-_, _*_}
 use Rattle.plan.proofs.Counts.{blocks-most}
-use Rattle.channels.specs.Channels.{firstOf}
+use Rattle.channels.specs.Channels.{firstBit}
 use borrow.Author.Needs.{needs}
 use Rattle.channels.proofs.first_bit.Statement.{statement}
 use Rattle.channels.proofs.first_bit.Tie as tie
@@ -36,24 +36,24 @@ enum-told-5 : tie.Need-enum-told-5
 enum-told-5 c = search needs
 
 returns : tie.Need-returns
-unfolding firstOf
-returns c = ap (λ (x : ℕ). 2 * (110 - x)) (c .wide .ensures) ∙ sym (ap (firstOf (c .before .before .before .before .before .args .p)) (c .before .enum-told .given .1))
+unfolding firstBit
+returns c = ap (λ (x : ℕ). 2 * (110 - x)) (c .wide .ensures) ∙ sym (ap (firstBit (c .before .before .before .before .before .args .p)) (c .before .enum-told .given .1))
 
 returns-2 : tie.Need-returns-2
-unfolding firstOf
-returns-2 c = c .pbch-first .ensures ∙ sym (ap (firstOf (c .before .before .before .before .before .args .p)) (c .before .enum-told2 .given .1))
+unfolding firstBit
+returns-2 c = c .pbch-first .ensures ∙ sym (ap (firstBit (c .before .before .before .before .before .args .p)) (c .before .enum-told2 .given .1))
 
 returns-3 : tie.Need-returns-3
-unfolding firstOf
-returns-3 c = sym (ap (firstOf (c .before .before .before .before .args .p)) (c .enum-told3 .given .1))
+unfolding firstBit
+returns-3 c = sym (ap (firstBit (c .before .before .before .before .args .p)) (c .enum-told3 .given .1))
 
 returns-4 : tie.Need-returns-4
-unfolding firstOf
-returns-4 c = sym (ap (firstOf (c .before .before .before .before .args .p)) (c .enum-told4 .given .1))
+unfolding firstBit
+returns-4 c = sym (ap (firstBit (c .before .before .before .before .args .p)) (c .enum-told4 .given .1))
 
 returns-5 : tie.Need-returns-5
-unfolding firstOf
-returns-5 c = sym (ap (firstOf (c .before .before .before .before .args .p)) (c .enum-told5 .given .1))
+unfolding firstBit
+returns-5 c = sym (ap (firstBit (c .before .before .before .before .args .p)) (c .enum-told5 .given .1))
 
 pub first-bit-spec : {M : Type 1} → statement M
 first-bit-spec =

@@ -53,7 +53,7 @@ use Rattle.plan.specs.declared.Plan.{Plan}
 use Rattle.plan.proofs.Plan as P
 use Rattle.plan.proofs.Plan.Laws as P′
 use Rattle.grid.specs.Writing.{Written}
-use Rattle.channels.specs.Channels.{initOf, firstOf, sendsOf, sentOf, ChannelIn}
+use Rattle.channels.specs.Channels.{initOf, firstBit, sendsOf, sentOf, ChannelIn}
 use Rattle.channels.specs.declared.Channel.{Channel}
 use Rattle.channels.proofs.Channel as E
 use Rattle.channels.proofs.Channel.Laws as E′
@@ -95,8 +95,8 @@ module _ {M : Type 1} (𝓤 : URA M) (H : Heap 𝓤) (A : Atoms 𝓤) (at-mem : 
   abbrev Lent : Contract 𝓤
   Lent = tripleOf 𝓤 H A lent.signature (lent.spec 𝓤 H A at-mem run)
 
-  begin-of : (p : Plan) (ch : Channel) (r : Registers) → ent 𝓤 (ensured 𝓤 H A begin.ended (begin.clauses 𝓤 H A at-mem run) tt (p, (ch, tt)) tt r) (fact 𝓤 (r ≡ pairAt (initOf p ch) (firstOf p ch)))
-  begin-of p ch r = exE 𝓤 _ (λ ws. snd∗ 𝓤 (sem 𝓤 H A (lasts begin.ended tt (p, (ch, tt)) ws)) (fact 𝓤 (r ≡ pairAt (initOf p ch) (firstOf p ch))))
+  begin-of : (p : Plan) (ch : Channel) (r : Registers) → ent 𝓤 (ensured 𝓤 H A begin.ended (begin.clauses 𝓤 H A at-mem run) tt (p, (ch, tt)) tt r) (fact 𝓤 (r ≡ pairAt (initOf p ch) (firstBit p ch)))
+  begin-of p ch r = exE 𝓤 _ (λ ws. snd∗ 𝓤 (sem 𝓤 H A (lasts begin.ended tt (p, (ch, tt)) ws)) (fact 𝓤 (r ≡ pairAt (initOf p ch) (firstBit p ch))))
 
 module _ {M : Type 1} (𝓤 : URA M) (H : Heap 𝓤) (A : Atoms 𝓤) (W : Given 𝓤 H A) (at-mem : Memory → SProp 𝓤) (run : Routine → Fun 𝓤)
     (κ₁ κ₂ κ₃ : Lft) (q₁ q₂ q₃ : Share) (p : Plan) (ch : Channel) (w bs : RefT (List ℕ)) (b′ o′ : ℕ) (γ′ : GName) (g : List ℕ)
@@ -129,7 +129,7 @@ module _ {M : Type 1} (𝓤 : URA M) (H : Heap 𝓤) (A : Atoms 𝓤) (W : Given
   at = (pv ∷ [], (ev ∷ [], (wv ∷ [], (bv ∷ [], (s ∷ [], tt)))))
 
   abbrev first : Registers
-  first = pairAt (initOf p ch) (firstOf p ch)
+  first = pairAt (initOf p ch) (firstBit p ch)
 
   -- what is said of the grid, filled with the pair r
   abbrev Says : Registers → List ℕ → Type 0

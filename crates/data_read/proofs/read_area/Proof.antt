@@ -36,10 +36,10 @@ flush-requires : tie.Need-flush-requires Inv-loop μ-loop
 flush-requires c κs = area-flush (c .before .before .before .loop .s) (c .before .before .before .loop .inv .1) (c .before .before .loop-test .left) (area-starts (c .before .before .before .before .before .before .args .r) (c .before .before .before .before .before .before .pre .0) (c .before .before .before .before .before .before .pre .1)) (c .before .read-last .ensures)
 
 same-length : tie.Need-same-length Inv-loop μ-loop
-same-length c = area-size (c .before .before .before .before .before .before .before .loop .s) (c .before .before .before .before .before .before .before .loop .inv .1) (c .before .before .before .before .before .before .loop-test .left) (area-starts (c .before .before .before .before .before .before .before .before .before .before .args .r) (c .before .before .before .before .before .before .before .before .before .before .pre .0) (c .before .before .before .before .before .before .before .before .before .before .pre .1)) (c .before .before .before .before .before .read-last .ensures) (c .before .before .before .flush .ensures)
+same-length c = area-size (c .before .before .before .before .before .before .loop .s) (c .before .before .before .before .before .before .loop .inv .1) (c .before .before .before .before .before .loop-test .left) (area-starts (c .before .before .before .before .before .before .before .before .before .args .r) (c .before .before .before .before .before .before .before .before .before .pre .0) (c .before .before .before .before .before .before .before .before .before .pre .1)) (c .before .before .before .before .read-last .ensures) (c .before .before .flush .ensures)
 
 returns : tie.Need-returns Inv-loop μ-loop
-returns c = area-read (c .before .before .before .before .before .before .before .loop .s) (c .before .before .before .before .before .before .before .loop .inv .1) (c .before .before .before .before .before .before .loop-test .left) (area-starts (c .before .before .before .before .before .before .before .before .before .before .args .r) (c .before .before .before .before .before .before .before .before .before .before .pre .0) (c .before .before .before .before .before .before .before .before .before .before .pre .1)) (c .before .before .before .before .before .read-last .ensures) (c .before .before .before .flush .ensures)
+returns c = area-read (c .before .before .before .before .before .before .loop .s) (c .before .before .before .before .before .before .loop .inv .1) (c .before .before .before .before .before .loop-test .left) (area-starts (c .before .before .before .before .before .before .before .before .before .args .r) (c .before .before .before .before .before .before .before .before .before .pre .0) (c .before .before .before .before .before .before .before .before .before .pre .1)) (c .before .before .before .before .read-last .ensures) (c .before .before .flush .ensures)
 
 pub read-area-spec : {M : Type 1} → statement M
 read-area-spec =

@@ -2,7 +2,7 @@
 use native.Mathlib.Omega.{arith}
 use mathlib.Core.Path.{sym, ap}
 use borrow.Author.Needs.{needs}
-use Rattle.layout.specs.Owners.{numberOf}
+use Rattle.layout.specs.Owners.{ownerNumber}
 use Rattle.layout.proofs.owner_number.Statement.{statement}
 use Rattle.layout.proofs.owner_number.Tie as tie
 
@@ -67,10 +67,10 @@ returns-5 : tie.Need-returns-5
 returns-5 c = search needs
 
 returns-6 : tie.Need-returns-6
-returns-6 c = sym (ap numberOf (c .before .o3 .given .1))
+returns-6 c = sym (ap ownerNumber (c .before .o3 .given .1))
 
 returns-7 : tie.Need-returns-7
-returns-7 c = sym (ap numberOf (c .before .o4 .given .1))
+returns-7 c = sym (ap ownerNumber (c .before .o4 .given .1))
 
 returns-8 : tie.Need-returns-8
 returns-8 c = search needs

@@ -1,6 +1,6 @@
 -- `mapper::count` meets its contract: by the plan check. Assumes nothing.
 use Rattle.mapper.proofs.Numbers.{number-is, number-refused}
-use Rattle.mapper.specs.Calls.{countOf, kindElements}
+use Rattle.mapper.specs.Calls.{kindCountOf, kindElements}
 use mathlib.Core.Path.{sym, _∙_}
 use borrow.Author.Needs.{needs}
 use Rattle.mapper.proofs.count.Statement.{statement}
@@ -19,11 +19,11 @@ enum-known-r : tie.Need-enum-known-r
 enum-known-r c = search needs
 
 returns : tie.Need-returns
-unfolding countOf
+unfolding kindCountOf
 returns c = number-is (c .before .before .before .before .before .before .args .plan .now) _ (c .before .before .before .before .check .ensures) _ (c .before .before .p .given .1) (kindElements (c .before .before .before .before .before .before .args .plan .now) (c .before .before .before .before .before .before .args .kind)) _ (c .count-of .ensures)
 
 returns-2 : tie.Need-returns-2
-unfolding countOf
+unfolding kindCountOf
 returns-2 c = number-refused (c .before .before .before .before .before .args .plan .now) _ (c .before .before .before .check .ensures) _ (c .before .r .given .1) (kindElements (c .before .before .before .before .before .args .plan .now) (c .before .before .before .before .before .args .kind))
 
 pub count-spec : {M : Type 1} → statement M

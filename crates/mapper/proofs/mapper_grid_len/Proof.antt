@@ -9,10 +9,10 @@ grid-length-requires : tie.Need-grid-length-requires
 grid-length-requires c κs = search needs
 
 number-in-c-requires : tie.Need-number-in-c-requires
-number-in-c-requires c κs = grid-fits (c .before .before .args .plan .now) _ (c .grid-length .ensures)
+number-in-c-requires c κs = grid-fits (c .before .before .args .plan .now) (c .grid-length .result) (c .grid-length .ensures)
 
 returns : tie.Need-returns
-returns c = number-back (c .number-in-c .result) (c .number-in-c .ok) _ _ (c .number-in-c .ensures) (c .before .grid-length .ensures)
+returns c = number-back (c .number-in-c .result) (c .number-in-c .ok) (c .before .grid-length .result) _ (c .number-in-c .ensures) (c .before .grid-length .ensures)
 
 pub mapper-grid-len-spec : {M : Type 1} → statement M
 mapper-grid-len-spec = tie.close (tie.spec grid-length-requires number-in-c-requires returns)

@@ -1,8 +1,8 @@
 -- `mapper::mapper_owner` meets its contract: the owner's number, or minus the refusal's. Assumes nothing.
 use Rattle.mapper.proofs.Numbers.{plus-back, minus-back}
 use mathlib.Core.Path.{sym, ap, _∙_}
-use Rattle.layout.specs.Query.{answerOf}
-use Rattle.mapper.specs.Calls.{given}
+use Rattle.layout.specs.Query.{ownerAnswer}
+use Rattle.plan.specs.Answers.{given}
 use borrow.Author.Needs.{needs}
 use Rattle.mapper.proofs.mapper_owner.Statement.{statement}
 use Rattle.mapper.proofs.mapper_owner.Tie as tie
@@ -29,10 +29,10 @@ minus-requires : tie.Need-minus-requires
 minus-requires c κs = search needs
 
 returns : tie.Need-returns
-returns c = plus-back _ _ (c .plus .result) (c .plus .ok) (c .plus .ensures) (ap answerOf (sym (c .before .before .before .before .before .owner-query .ensures) ∙ c .before .before .before .o .given .1) ∙ ap given (sym (c .before .owner-number .ensures)))
+returns c = plus-back _ _ (c .plus .result) (c .plus .ok) (c .plus .ensures) (ap ownerAnswer (sym (c .before .before .before .before .before .owner-query .ensures) ∙ c .before .before .before .o .given .1) ∙ ap given (sym (c .before .owner-number .ensures)))
 
 returns-2 : tie.Need-returns-2
-returns-2 c = minus-back _ _ (c .minus .result) (c .minus .ok) (c .minus .ensures) (ap answerOf (sym (c .before .before .before .before .owner-query .ensures) ∙ c .before .before .r .given .1))
+returns-2 c = minus-back _ _ (c .minus .result) (c .minus .ok) (c .minus .ensures) (ap ownerAnswer (sym (c .before .before .before .before .owner-query .ensures) ∙ c .before .before .r .given .1))
 
 pub mapper-owner-spec : {M : Type 1} → statement M
 mapper-owner-spec =

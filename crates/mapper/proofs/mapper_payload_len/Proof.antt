@@ -10,10 +10,10 @@ payload-length-requires : tie.Need-payload-length-requires
 payload-length-requires c κs = search needs
 
 number-in-c-requires : tie.Need-number-in-c-requires
-number-in-c-requires c κs = payload-fits (c .before .before .args .plan .now) _ (omega arith) (c .payload-length .ensures)
+number-in-c-requires c κs = payload-fits (c .before .before .args .plan .now) (c .payload-length .result) (omega arith) (c .payload-length .ensures)
 
 returns : tie.Need-returns
-returns c = number-back (c .number-in-c .result) (c .number-in-c .ok) _ _ (c .number-in-c .ensures) (c .before .payload-length .ensures)
+returns c = number-back (c .number-in-c .result) (c .number-in-c .ok) (c .before .payload-length .result) _ (c .number-in-c .ensures) (c .before .payload-length .ensures)
 
 pub mapper-payload-len-spec : {M : Type 1} → statement M
 mapper-payload-len-spec = tie.close (tie.spec payload-length-requires number-in-c-requires returns)

@@ -2,7 +2,8 @@
 use Rattle.mapper.proofs.Numbers.{plus-is, plus-back, minus-is}
 use Rattle.mapper.proofs.Samples.{is-refused, is-sample, first-no-nan}
 use mathlib.Core.Path.{ap, sym, _∙_}
-use Rattle.mapper.specs.Calls.{given, firstOf}
+use Rattle.mapper.specs.Calls.{sampleAnswer}
+use Rattle.plan.specs.Answers.{given}
 use borrow.Author.Needs.{needs}
 use Rattle.mapper.proofs.mapper_sample_i.Statement.{statement}
 use Rattle.mapper.proofs.mapper_sample_i.Tie as tie
@@ -41,16 +42,16 @@ enum-told-2 : tie.Need-enum-told-2
 enum-told-2 c = search needs
 
 returns : tie.Need-returns
-returns c = plus-is 0 _ (ap firstOf (is-sample (c .before .before .before .before .before .before .args .unit) (c .before .before .before .before .before .before .args .i) (c .before .before .before .before .before .before .args .j) _ (c .before .before .before .before .before .sample-at .ensures) _ (c .before .before .before .s .given .1) _ (c .enum-told .given .1)))
+returns c = plus-is 0 _ (ap (sampleAnswer 1) (is-sample (c .before .before .before .before .before .before .args .unit) (c .before .before .before .before .before .before .args .i) (c .before .before .before .before .before .before .args .j) _ (c .before .before .before .before .before .sample-at .ensures) _ (c .before .before .before .s .given .1) _ (c .enum-told .given .1)))
 
 returns-2 : tie.Need-returns-2
-returns-2 c = plus-back _ _ (c .plus .result) (c .plus .ok) (c .plus .ensures) (ap firstOf (is-sample (c .before .before .before .before .before .before .before .before .args .unit) (c .before .before .before .before .before .before .before .before .args .i) (c .before .before .before .before .before .before .before .before .args .j) _ (c .before .before .before .before .before .before .before .sample-at .ensures) _ (c .before .before .before .before .before .s .given .1) _ (c .before .before .s2 .given .1)))
+returns-2 c = plus-back _ _ (c .plus .result) (c .plus .ok) (c .plus .ensures) (ap (sampleAnswer 1) (is-sample (c .before .before .before .before .before .before .before .before .args .unit) (c .before .before .before .before .before .before .before .before .args .i) (c .before .before .before .before .before .before .before .before .args .j) _ (c .before .before .before .before .before .before .before .sample-at .ensures) _ (c .before .before .before .before .before .s .given .1) _ (c .before .before .s2 .given .1)))
 
 returns-3 : tie.Need-returns-3
-returns-3 c = plus-back _ _ (c .plus2 .result) (c .plus2 .ok) (c .plus2 .ensures) (ap firstOf (is-sample (c .before .before .before .before .before .before .before .before .before .args .unit) (c .before .before .before .before .before .before .before .before .before .args .i) (c .before .before .before .before .before .before .before .before .before .args .j) _ (c .before .before .before .before .before .before .before .before .sample-at .ensures) _ (c .before .before .before .before .before .before .s .given .1) _ (c .before .before .before .s3 .given .1)) ∙ ap given (sym (c .before .bits .ensures)))
+returns-3 c = plus-back _ _ (c .plus2 .result) (c .plus2 .ok) (c .plus2 .ensures) (ap (sampleAnswer 1) (is-sample (c .before .before .before .before .before .before .before .before .before .args .unit) (c .before .before .before .before .before .before .before .before .before .args .i) (c .before .before .before .before .before .before .before .before .before .args .j) _ (c .before .before .before .before .before .before .before .before .sample-at .ensures) _ (c .before .before .before .before .before .before .s .given .1) _ (c .before .before .before .s3 .given .1)) ∙ ap given (sym (c .before .bits .ensures)))
 
 returns-4 : tie.Need-returns-4
-returns-4 c = minus-is 9 _ (ap firstOf (is-refused (c .before .before .before .args .unit) (c .before .before .before .args .i) (c .before .before .before .args .j) _ (c .before .before .sample-at .ensures) (c .enum-told2 .given .1)))
+returns-4 c = minus-is 9 _ (ap (sampleAnswer 1) (is-refused (c .before .before .before .args .unit) (c .before .before .before .args .i) (c .before .before .before .args .j) _ (c .before .before .sample-at .ensures) (c .enum-told2 .given .1)))
 
 pub mapper-sample-i-spec : {M : Type 1} → statement M
 mapper-sample-i-spec =

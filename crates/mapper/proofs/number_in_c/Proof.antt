@@ -1,7 +1,7 @@
 -- `mapper::number_in_c` meets its contract: the number, or minus the refusal's. Assumes nothing.
 use Rattle.mapper.proofs.Numbers.{plus-back, minus-back, small-is}
 use mathlib.Core.Path.{ap}
-use Rattle.mapper.specs.Calls.{valueOf}
+use Rattle.mapper.specs.Calls.{numberAnswer}
 use borrow.Author.Needs.{needs}
 use Rattle.mapper.proofs.number_in_c.Statement.{statement}
 use Rattle.mapper.proofs.number_in_c.Tie as tie
@@ -19,10 +19,10 @@ minus-requires : tie.Need-minus-requires
 minus-requires c κs = search needs
 
 returns : tie.Need-returns
-returns c = plus-back _ (valueOf (c .before .before .before .before .args .n)) (c .plus .result) (c .plus .ok) (c .plus .ensures) (ap valueOf (c .before .before .n .given .1))
+returns c = plus-back _ (numberAnswer (c .before .before .before .before .args .n)) (c .plus .result) (c .plus .ok) (c .plus .ensures) (ap numberAnswer (c .before .before .n .given .1))
 
 returns-2 : tie.Need-returns-2
-returns-2 c = minus-back _ (valueOf (c .before .before .before .before .args .n)) (c .minus .result) (c .minus .ok) (c .minus .ensures) (ap valueOf (c .before .before .n2 .given .1))
+returns-2 c = minus-back _ (numberAnswer (c .before .before .before .before .args .n)) (c .minus .result) (c .minus .ok) (c .minus .ensures) (ap numberAnswer (c .before .before .n2 .given .1))
 
 pub number-in-c-spec : {M : Type 1} → statement M
 number-in-c-spec =

@@ -5,22 +5,22 @@ use native.Mathlib.Omega.{arith}
 use borrow.Author.Needs.{needs}
 use Rattle.base.specs.Pairs.{turned as turnedBy}
 use Rattle.phich.specs.Spreading.{signAt, plainChip, wordBit}
-use Rattle.phich.specs.Units.{firstOf}
+use Rattle.phich.specs.Units.{firstPlace}
 use Rattle.phich.proofs.Lengths.{row-le, chip-lt}
 use Rattle.phich.proofs.Parts.{part-below, part-above, part-in, chip-turns, chip-turns-twice}
 use Rattle.phich.proofs.part_at.Statement.{statement}
 use Rattle.phich.proofs.part_at.Tie as tie
 
-first-of-requires : tie.Need-first-of-requires
-first-of-requires c κs = search needs
+first-place-requires : tie.Need-first-place-requires
+first-place-requires c κs = search needs
 
 returns : tie.Need-returns
-returns c = let a = c .before .before .args in sym (part-below (a .l) (wordBit (a .w)) (a .h) (a .b) (a .i) (omega (arith, c .before .first-of .ensures)))
+returns c = let a = c .before .before .args in sym (part-below (a .l) (wordBit (a .w)) (a .h) (a .b) (a .i) (omega (arith, c .before .first-place .ensures)))
 
 returns-2 : tie.Need-returns-2
 returns-2 c =
     let a = c .before .before .before .args in
-    let f = c .before .before .first-of .ensures in
+    let f = c .before .before .first-place .ensures in
     sym (part-above (a .l) (wordBit (a .w)) (a .h) (a .b) (a .i) (omega (arith, f, c .before .if1 .left)) (omega (arith, f, c .if2 .taken)))
 
 wide-requires : tie.Need-wide-requires
@@ -32,12 +32,12 @@ mul-scrambling c = let s = c .before .before .before .before in omega (arith, ro
 add-scrambling : tie.Need-add-scrambling
 add-scrambling c =
     let s = c .before .before .before .before in
-    omega (arith, chip-lt (s .args .l) (s .pre .0) (s .args .i) (s .args .i % 4 - c .before .before .before .first-of .result) (s .pre .2) (c .before .if2 .left))
+    omega (arith, chip-lt (s .args .l) (s .pre .0) (s .args .i) (s .args .i % 4 - c .before .before .before .first-place .result) (s .pre .2) (c .before .if2 .left))
 
 scrambling-requires : tie.Need-scrambling-requires
 scrambling-requires c κs =
     let s = c .before .before .before .before in
-    omega (arith, chip-lt (s .args .l) (s .pre .0) (s .args .i) (s .args .i % 4 - c .before .before .before .first-of .result) (s .pre .2) (c .before .if2 .left))
+    omega (arith, chip-lt (s .args .l) (s .pre .0) (s .args .i) (s .args .i % 4 - c .before .before .before .first-place .result) (s .pre .2) (c .before .if2 .left))
 
 plain-chip-requires : tie.Need-plain-chip-requires
 plain-chip-requires c κs = search needs
@@ -51,8 +51,8 @@ turned-requires-2 c κs = chip-turns-twice _ _ _ (c .before .before .before .bef
 returns-3 : tie.Need-returns-3
 returns-3 c =
     let a = c .before .before .before .before .before .before .before .before .args in
-    let n = c .before .before .before .before .before .before .before .first-of .result in
-    let f : n ≡ firstOf (a .l) (a .h) = c .before .before .before .before .before .before .before .first-of .ensures in
+    let n = c .before .before .before .before .before .before .before .first-place .result in
+    let f : n ≡ firstPlace (a .l) (a .h) = c .before .before .before .before .before .before .before .first-place .ensures in
     let plain = c .before .before .plain-chip .ensures ∙ ap (λ (q : ℕ). plainChip (signAt (a .l) q (a .i % 4 - n))) (c .before .before .before .before .wide .ensures) in
     c .turned2 .ensures
     ∙ ap₂ turnedBy (c .before .before .before .scrambling .ensures) (c .before .turned .ensures ∙ ap (turnedBy (a .b)) plain)
@@ -63,7 +63,7 @@ pub part-at-spec : {M : Type 1} → statement M
 part-at-spec =
     tie.close
     (tie.spec
-    first-of-requires
+    first-place-requires
     returns
     returns-2
     wide-requires

@@ -6,12 +6,12 @@ use Rattle.plan.proofs.finish.Tie as tie
 returns : tie.Need-returns
 returns c =
     let at-args = c .before in
-    not-last (at-args .args .plan .now) (at-args .args .cell) (at-args .args .frame) (at-args .args .his) (at-args .args .users) (at-args .args .next) (c .if1 .taken)
+    not-last (at-args .args .plan .now) (at-args .args .cell) (at-args .args .frame) (record { at = at-args .args .start; count = at-args .args .his }) (record { at = at-args .args .mid; count = at-args .args .users }) (at-args .args .next) (c .if1 .taken)
 
 returns-2 : tie.Need-returns-2
 returns-2 c =
     let at-args = c .before in
-    last (at-args .args .plan .now) (at-args .args .cell) (at-args .args .frame) (at-args .args .his) (at-args .args .users) (at-args .args .next) (at-args .pre) (c .if1 .left)
+    last (at-args .args .plan .now) (at-args .args .cell) (at-args .args .frame) (record { at = at-args .args .start; count = at-args .args .his }) (record { at = at-args .args .mid; count = at-args .args .users }) (at-args .args .next) (at-args .pre) (c .if1 .left)
 
 pub finish-spec : {M : Type 1} → statement M
 finish-spec = tie.close (tie.spec returns returns-2)

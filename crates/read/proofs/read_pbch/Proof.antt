@@ -35,7 +35,7 @@ same-length : tie.Need-same-length
 same-length c = search needs
 
 returns : tie.Need-returns
-returns c = pbch-read (c .before .before .before .before .before .before .before .before .before .before .before .before .before .args .plan .now) (c .before .before .before .before .before .before .before .before .before .before .before .before .before .args .p) (c .before .before .before .before .before .before .before .before .before .before .before .before .before .args .grid .now) (c .before .before .before .before .before .before .before .before .before .before .before .before .before .pre) _ (c .before .before .before .before .before .before .section-bytes .ensures ∙ ap sectionBytes (c .before .before .before .before .before .before .before .pbch-bits .ensures)) (c .before .before .before .before .before .before .before .before .if1 .taken) _ (c .before .before .before .before .before .pbch-area .ensures) _ (c .before .before .before .before .started .ensures) _ (c .before .before .read-area .ensures .0)
+returns c = pbch-read (c .before .before .before .before .before .before .before .before .before .before .before .before .before .args .plan .now) (c .before .before .before .before .before .before .before .before .before .before .before .before .before .args .p) (c .before .before .before .before .before .before .before .before .before .before .before .before .before .args .grid .now) (c .before .before .before .before .before .before .before .before .before .before .before .before .before .pre) _ (c .before .before .before .before .before .before .section-bytes .ensures ∙ ap sectionBytes (c .before .before .before .before .before .before .before .pbch-bits .ensures)) (c .before .before .before .before .before .before .before .before .if1 .taken) _ (c .before .before .before .before .before .pbch-area .ensures) _ (c .before .before .before .before .started .ensures) _ (c .before .before .read-area .ensures)
 
 returns-2 : tie.Need-returns-2
 returns-2 c = pbch-absent (c .before .before .before .before .before .args .plan .now) (c .before .before .before .before .before .args .p) (c .before .before .before .before .before .args .grid .now) (c .before .before .before .before .before .pre) (c .if1 .left)

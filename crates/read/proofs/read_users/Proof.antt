@@ -62,7 +62,7 @@ loop-less : tie.Need-loop-less Inv-loop μ-loop
 loop-less c = omega (arith, c .before .before .before .before .before .before .before .before .before .before .before .if1 .taken)
 
 loop-again : tie.Need-loop-again Inv-loop μ-loop
-loop-again c = going-next (c .before .before .before .before .before .before .before .before .before .before .before .before .before .before .before .before .before .before .args .plan .now) (c .before .before .before .before .before .before .before .before .before .before .before .before .before .before .before .before .before .before .args .p) (c .before .before .before .before .before .before .before .before .before .before .before .before .before .before .before .before .before .before .args .grid .now) (c .before .before .before .before .before .before .before .before .before .before .before .before .before .before .before .before .before .before .pre .0) (c .before .before .before .before .before .before .before .before .before .before .before .before .before .loop .inv) (c .before .before .before .before .before .before .before .before .before .before .before .if1 .taken) _ (c .before .before .before .before .before .before .before .before .before .before .user-at .ensures) _ (ap (λ (x : ℕ). c .before .before .before .before .before .before .before .before .before .before .before .before .before .loop .start + x) (c .before .before .before .before .before .before .before .before .section-bytes .ensures ∙ ap sectionBytes (c .before .before .before .before .before .before .before .before .before .user-bits .ensures))) _ (c .before .before .before .before .before .before .before .user-area .ensures) _ (c .before .before .before .before .before .before .started .ensures) _ (c .before .before .before .read-area .ensures .0) _ (c .next-at .ensures)
+loop-again c = going-next (c .before .before .before .before .before .before .before .before .before .before .before .before .before .before .before .before .before .before .args .plan .now) (c .before .before .before .before .before .before .before .before .before .before .before .before .before .before .before .before .before .before .args .p) (c .before .before .before .before .before .before .before .before .before .before .before .before .before .before .before .before .before .before .args .grid .now) (c .before .before .before .before .before .before .before .before .before .before .before .before .before .before .before .before .before .before .pre .0) (c .before .before .before .before .before .before .before .before .before .before .before .before .before .loop .inv) (c .before .before .before .before .before .before .before .before .before .before .before .if1 .taken) _ (c .before .before .before .before .before .before .before .before .before .before .user-at .ensures) _ (ap (λ (x : ℕ). c .before .before .before .before .before .before .before .before .before .before .before .before .before .loop .start + x) (c .before .before .before .before .before .before .before .before .section-bytes .ensures ∙ ap sectionBytes (c .before .before .before .before .before .before .before .before .before .user-bits .ensures))) _ (c .before .before .before .before .before .before .before .user-area .ensures) _ (c .before .before .before .before .before .before .started .ensures) _ (c .before .before .before .read-area .ensures) _ (c .next-at .ensures)
 
 same-length : tie.Need-same-length Inv-loop μ-loop
 same-length c = c .before .before .loop .inv .read .size ∙ sym (c .before .before .before .before .before .before .before .pre .0 .size)
