@@ -1,0 +1,69 @@
+// What the programs for engineers share: refusals in words, and where the plan of an input ends.
+use libc::STDERR_FILENO;
+use libc::STDOUT_FILENO;
+ghost use Prim.Native.Nat.{_≤_, _<_};
+ghost use lib.ListN.{length};
+
+fn say(fd: i32, sentence: &[u8]) {
+    io::write_all(fd, sentence);
+}
+
+// What a refusal's number means (document 01, Refusals), written to a file descriptor. 9 is the sample call's own and no refusal
+// of a program.
+pub fn meaning(fd: i32, number: u8) {
+    match number {
+        1 => say(fd, b"a command is unknown, or the plan ends too early"),
+        2 => say(fd, b"a command is out of order, or a byte follows END"),
+        3 => say(fd, b"a field of CELL is not allowed"),
+        4 => say(fd, b"a field of FRAME is not allowed"),
+        5 => say(
+            fd,
+            b"an HI's group or sequence is beyond the count, or the pair was used before",
+        ),
+        6 => say(fd, b"a field of USER is not allowed"),
+        7 => say(fd, b"an RNTI or a block was used before"),
+        8 => say(fd, b"the subcarrier, symbol or port is outside the grid"),
+        10 => say(fd, b"the grid's length is not the plan's"),
+        11 => say(fd, b"the payload's length is not the plan's"),
+        12 => say(fd, b"a spare bit of the payload is set"),
+        13 => say(fd, b"no payload makes this grid"),
+        _ => say(fd, b"no refusal of a program has this number"),
+    }
+}
+
+// A refusal on standard error, so that standard output stays empty.
+pub fn refused(number: u8) {
+    say(STDERR_FILENO, b"refused ");
+    io::print_decimal(STDERR_FILENO, number as u64);
+    say(STDERR_FILENO, b": ");
+    meaning(STDERR_FILENO, number);
+    say(STDERR_FILENO, b"\n");
+}
+
+// Bytes on standard output; where they cannot all be written, a line on standard error says so.
+pub fn output(bytes: &[u8]) {
+    if !io::write_all(STDOUT_FILENO, bytes) {
+        say(STDERR_FILENO, b"standard output is cut off\n");
+    }
+}
+
+// A big-endian number of two bytes.
+fn two_bytes(high: u8, low: u8) -> usize
+    ensures { λ r. ⌜ r < 65536 ⌝ }
+{
+    high as usize * 256 + low as usize
+}
+
+// Where the plan ends in an input of a two-byte plan length, the plan and more; 0 for an input that is cut off (refusal 1).
+pub fn plan_end(input: &[u8]) -> usize
+    ensures { λ r. ⌜ r ≤ length (now (input .entry)) ⌝ }
+{
+    if input.len() < 2 {
+        return 0;
+    }
+    let end = 2 + two_bytes(input[0], input[1]);
+    if input.len() < end {
+        return 0;
+    }
+    end
+}
