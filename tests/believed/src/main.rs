@@ -1,0 +1,76 @@
+//! believed ROOT          the definitions that a reader of the public calls and of the theorems must believe
+//! believed ROOT check N  how many lines they have; fails where the definitions, without the declared types, have more than N
+
+use believed::{reach, report, Book, Module, Place};
+use std::process::ExitCode;
+
+/// The public calls; each of their contracts is a statement.
+const CALLS: &str = "crates/mapper/src/lib.rt";
+
+/// The theorems that docs/APPROVAL.md calls A, B and C.
+const THEOREMS: [(&str, &str); 5] = [
+    ("crates/layout/proofs/OneOwner.antt", "one-owner"),
+    ("crates/counts/proofs/AddUp.antt", "counts-add-up"),
+    ("crates/counts/proofs/AddUp.antt", "kinds-add-up"),
+    ("crates/subframe/proofs/TwoBuilds.antt", "two-builds"),
+    ("crates/build/proofs/Apart.antt", "builds-apart"),
+];
+
+/// The definitions, laws and sources below a root.
+fn book(root: &str) -> Result<Book, String> {
+    let listed = |folder: &str| -> Vec<String> {
+        let entries = std::fs::read_dir(format!("{root}/{folder}")).into_iter().flatten().flatten();
+        entries.map(|entry| format!("{folder}/{}", entry.file_name().to_string_lossy())).collect()
+    };
+    let mut book = Book::new();
+    for package in listed("crates") {
+        let files = ["specs", "proofs", "src"].map(|folder| listed(&format!("{package}/{folder}")));
+        for path in
+            files.into_iter().flatten().filter(|path| path.ends_with(".antt") || path.ends_with(".rt"))
+        {
+            let text = std::fs::read_to_string(format!("{root}/{path}"))
+                .map_err(|error| format!("{path}: {error}"))?;
+            let module =
+                if path.ends_with(".rt") { Module::of_rattle(&text) } else { Module::of_logic(&text) };
+            book.insert(path, module);
+        }
+    }
+    Ok(book)
+}
+
+/// Prints the table, or the total alone. Not well where the total is above the limit, or a word stands for nothing known.
+fn run(root: &str, limit: Option<usize>) -> Result<bool, String> {
+    let book = book(root)?;
+    let calls = &book.get(CALLS).ok_or(format!("no file {CALLS}"))?.statements;
+    let calls = calls.keys().map(|name| (CALLS, name.as_str()));
+    let statements: Vec<Place> =
+        calls.chain(THEOREMS).map(|(path, name)| (path.into(), name.into())).collect();
+    let reached = reach(&book, &statements)?;
+    let (total, types) = report::counts(&reached.definitions);
+    match limit {
+        None => print!("{}", report::table(&book, &reached)),
+        Some(_) => println!("{total} lines of definitions, {types} of types"),
+    }
+    for ((path, name), word) in &reached.unknown {
+        eprintln!("{path}, {name}: {word} stands for nothing known");
+    }
+    Ok(reached.unknown.is_empty() && limit.is_none_or(|limit| total <= limit))
+}
+
+fn main() -> ExitCode {
+    let arguments: Vec<String> = std::env::args().skip(1).collect();
+    let result = match arguments.iter().map(String::as_str).collect::<Vec<&str>>()[..] {
+        [root] => run(root, None),
+        [root, "check", limit] => {
+            limit.parse().map_err(|_| format!("{limit} is no number")).and_then(|n| run(root, Some(n)))
+        }
+        _ => Err("believed ROOT [check N]".into()),
+    };
+    match result {
+        Ok(well) => ExitCode::from(u8::from(!well)),
+        Err(message) => {
+            eprintln!("{message}");
+            ExitCode::from(2)
+        }
+    }
+}
