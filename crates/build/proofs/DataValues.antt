@@ -23,7 +23,7 @@ use Rattle.plan.specs.declared.Checked.the-variants.{Plan as accepted}
 use Rattle.layout.specs.declared.Owner.the-variants.{Pbch, User as UserOf}
 use Rattle.places.specs.Places.{placesOf, ownsAt, placeCount, indexOf}
 use Rattle.grid.specs.Writing.{sends, Room}
-use Rattle.subframe.specs.Elements.{elementFor, ownerBit, pbchFirst, pbchSymbol, userNumber, userInit, userSymbol}
+use Rattle.subframe.specs.Elements.{elementFor, ownerBit, pbchFirst, pbchSymbol, nthUser, userInit, userSymbol}
 use Rattle.subframe.specs.Grid.{elementNumbered}
 use Rattle.subframe.proofs.Occurs.{pbch-occurs, user-occurs}
 use Rattle.subframe.proofs.OwnerBits.{symbols-of-bits}
@@ -69,14 +69,14 @@ module _ (w : List ℕ) (p : Plan) (ok : checkOf w ≡ accepted p) (payload bits
   -- ---- a user
   module _ (i : ℕ) (in-i : i < length (usersOf w p)) where
     abbrev u : User
-    u = userNumber w p i
+    u = nthUser w p i
 
-    index-is : (t : ℕ) → t < placesOf (p .cell) → areaIndex (userArea (p .cell) (p .frame) (userNumber w p i)) t ≡ indexOf w p (UserOf i) t
-    unfolding userNumber
+    index-is : (t : ℕ) → t < placesOf (p .cell) → areaIndex (userArea (p .cell) (p .frame) (nthUser w p i)) t ≡ indexOf w p (UserOf i) t
+    unfolding nthUser
     index-is t l = user-index w p ok i in-i _ t (omega arith)
 
-    pub user-area : (e : ℕ) → areaSends (userArea (p .cell) (p .frame) (userNumber w p i)) e ≡ ownerSends w p (UserOf i) e
-    unfolding areaSends ownerSends active userNumber
+    pub user-area : (e : ℕ) → areaSends (userArea (p .cell) (p .frame) (nthUser w p i)) e ≡ ownerSends w p (UserOf i) e
+    unfolding areaSends ownerSends active nthUser
     user-area e = rw (user-place w p ok i in-i _ (e % T) (place-lt w p ok e), user-index w p ok i in-i _ (e % T) (omega (arith, place-lt w p ok e))) refl
 
     module _ (same : (n : ℕ) → n < u .order * placeCount w p (UserOf i) → bitAt bits n ≡ ownerBit w p payload (UserOf i) n) where
@@ -87,7 +87,7 @@ module _ (w : List ℕ) (p : Plan) (ok : checkOf w ≡ accepted p) (payload bits
           ∙ symbols-of-bits (u .order) (placeCount w p (UserOf i)) (bitAt bits) (ownerBit w p payload (UserOf i)) (c (userInit (p .cell) (p .frame) u)) same j l
 
       pub user-value :
-          (e : ℕ) → areaSends (userArea (p .cell) (p .frame) (userNumber w p i)) e ≡ true
+          (e : ℕ) → areaSends (userArea (p .cell) (p .frame) (nthUser w p i)) e ≡ true
           → areaElement (userArea (p .cell) (p .frame) u) (u .order) (unitOf (u .order)) bits (pairAt (userInit (p .cell) (p .frame) u) 0) e ≡ elementNumbered w p payload e
       unfolding areaElement ownerSends active elementFor
       user-value e h =

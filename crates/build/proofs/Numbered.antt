@@ -18,7 +18,7 @@ use Rattle.plan.specs.declared.Plan.{Plan}
 use Rattle.plan.specs.declared.Checked.the-variants.{Plan as accepted}
 use Rattle.layout.specs.Owners.{gridPlace}
 use Rattle.layout.specs.declared.Owner.{Owner}
-use Rattle.places.specs.Places.{placeNumber, symbolNumber, carrierOf, placesOf, ownsAt, placeCount, indexOf}
+use Rattle.places.specs.Places.{placeNumber, symbolAt, carrierAt, placesOf, ownsAt, placeCount, indexOf}
 use Rattle.places.proofs.Numbers.{place-both, carrier-inside, symbol-inside, first-row}
 use Rattle.places.proofs.Listing.{listed, some-carriers}
 use Rattle.grid.specs.Writing.{sends, Room}
@@ -55,17 +55,17 @@ module _ (w : List ℕ) (p : Plan) (ok : checkOf w ≡ accepted p) where
   pub port-lt : (e : ℕ) → e < p .cell .ports * placesOf (p .cell) → e / placesOf (p .cell) < p .cell .ports
   port-lt e l = div-lt-iff-lt-mul some-places .1 l
 
-  pub place-in : (e : ℕ) → gridPlace (p .cell) (symbolNumber (p .cell) (e % T)) (carrierOf (p .cell) (e % T))
+  pub place-in : (e : ℕ) → gridPlace (p .cell) (symbolAt (p .cell) (e % T)) (carrierAt (p .cell) (e % T))
   place-in e = (symbol-inside (p .cell) (some-carriers w p ok) (e % T) (place-lt e), carrier-inside (p .cell) (some-carriers w p ok) (e % T))
 
   pub numbered :
       (payload : List ℕ) (o : Owner) (e : ℕ) → ownsAt w p o (e % T) ≡ true
-      → elementNumbered w p payload e ≡ elementFor w p payload o (e / T) (symbolNumber (p .cell) (e % T)) (carrierOf (p .cell) (e % T))
+      → elementNumbered w p payload e ≡ elementFor w p payload o (e / T) (symbolAt (p .cell) (e % T)) (carrierAt (p .cell) (e % T))
   unfolding elementNumbered ownsAt
-  numbered payload o e h = owned-element w p ok o payload (e / T) (symbolNumber (p .cell) (e % T)) (carrierOf (p .cell) (e % T)) (place-in e) h
+  numbered payload o e h = owned-element w p ok o payload (e / T) (symbolAt (p .cell) (e % T)) (carrierAt (p .cell) (e % T)) (place-in e) h
 
   -- the place of an element as a number, and its index
-  pub place-number : (e : ℕ) → placeNumber (p .cell) (symbolNumber (p .cell) (e % T)) (carrierOf (p .cell) (e % T)) ≡ e % T
+  pub place-number : (e : ℕ) → placeNumber (p .cell) (symbolAt (p .cell) (e % T)) (carrierAt (p .cell) (e % T)) ≡ e % T
   place-number e = place-both (p .cell) (e % T)
 
   pub index-lt : (o : Owner) (e : ℕ) → ownsAt w p o (e % T) ≡ true → indexOf w p o (e % T) < placeCount w p o

@@ -29,11 +29,11 @@ use Rattle.layout.specs.declared.Mark.the-variants.{Primary, Secondary}
 use Rattle.layout.specs.declared.Owner.{Owner}
 use Rattle.layout.specs.declared.Owner.the-variants.{Crs, Sync, Pbch, Pcfich, Phich, User as UserOf, Held, Idle}
 use Rattle.layout.proofs.OneOwner.{one-owner}
-use Rattle.places.specs.Places.{placeNumber, symbolNumber, carrierOf, placesOf, ownsAt, placeCount, indexOf}
+use Rattle.places.specs.Places.{placeNumber, symbolAt, carrierAt, placesOf, ownsAt, placeCount, indexOf}
 use Rattle.places.proofs.Listing.{pcfich-count, phich-count}
 use Rattle.grid.specs.Writing.{sends}
 use Rattle.grid.proofs.Sending.{silent-port}
-use Rattle.subframe.specs.Elements.{elementFor, crsElement, pssElement, sssElement, pbchSymbol, pcfichSymbol, phichSum, userNumber, userSymbol}
+use Rattle.subframe.specs.Elements.{elementFor, crsElement, pssElement, sssElement, pbchSymbol, pcfichSymbol, phichSum, nthUser, userSymbol}
 use Rattle.subframe.specs.Grid.{elementNumbered}
 use Rattle.subframe.proofs.Owned.{unit-owner, user-owner}
 use Rattle.subframe.proofs.Occurs.{even-occurs, pbch-occurs, user-occurs}
@@ -65,10 +65,10 @@ module _ (w : List ℕ) (p : Plan) (ok : checkOf w ≡ accepted p) (payload : Li
   t = e % placesOf (p .cell)
 
   abbrev s : ℕ
-  s = symbolNumber (p .cell) (e % placesOf (p .cell))
+  s = symbolAt (p .cell) (e % placesOf (p .cell))
 
   abbrev k : ℕ
-  k = carrierOf (p .cell) (e % placesOf (p .cell))
+  k = carrierAt (p .cell) (e % placesOf (p .cell))
 
   abbrev q : ℕ
   q = e / placesOf (p .cell)
@@ -181,8 +181,8 @@ module _ (w : List ℕ) (p : Plan) (ok : checkOf w ≡ accepted p) (payload : Li
     unfolding elementFor active ownsAt usersSend
     quiet-user i h =
         let a = inactive (UserOf i) (none-at (λ (n : ℕ). ownerSends w p (UserOf n) e) (length (usersOf w p)) no-users i (user-owner w p i s k h)) h in
-        ap (λ (j : ℕ). precoded (p .cell .ports) (placeCount w p (UserOf i)) (unitOf (userNumber w p i .order)) (userSymbol w p payload i) j q) (index-at (UserOf i))
-        ∙ quiet-data (user-occurs w p ok i (user-owner w p i s k h)) (unitOf (userNumber w p i .order)) (userSymbol w p payload i) (indexOf w p (UserOf i) t) q (index-lt w p ok (UserOf i) e h) q-lt a
+        ap (λ (j : ℕ). precoded (p .cell .ports) (placeCount w p (UserOf i)) (unitOf (nthUser w p i .order)) (userSymbol w p payload i) j q) (index-at (UserOf i))
+        ∙ quiet-data (user-occurs w p ok i (user-owner w p i s k h)) (unitOf (nthUser w p i .order)) (userSymbol w p payload i) (indexOf w p (UserOf i) t) q (index-lt w p ok (UserOf i) e h) q-lt a
 
     by-owner : (o : Owner) → owns w p o s k ≡ true → elementFor w p payload o q s k ≡ silent
     unfolding elementFor

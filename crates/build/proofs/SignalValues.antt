@@ -12,7 +12,7 @@ use Rattle.layout.specs.Rules.{slotOf, inSlot, crsSymbol, marked}
 use Rattle.layout.specs.Owners.{slotOfCell, owns}
 use Rattle.layout.specs.declared.Mark.the-variants.{Primary, Secondary}
 use Rattle.layout.specs.declared.Owner.the-variants.{Crs, Sync}
-use Rattle.places.specs.Places.{carrierOf, placesOf, ownsAt}
+use Rattle.places.specs.Places.{carrierAt, placesOf, ownsAt}
 use Rattle.subframe.specs.Elements.{crsElement, elementFor}
 use Rattle.subframe.specs.Grid.{elementNumbered}
 use Rattle.signals.specs.Signals.{crsSends, crsSent, markSends, pssSent, sssSent}
@@ -34,8 +34,8 @@ module _ (w : List ℕ) (p : Plan) (ok : checkOf w ≡ accepted p) (payload : Li
   crs-numbered s q e l y h =
       let d = crs-sends w p q s e l y h in
       crs-value w p q s e ok h
-      ∙ ap (λ (x : ℕ). crsElement (p .cell) (p .frame) q (e / T) x (carrierOf (p .cell) (e % T))) (sym (d .2))
-      ∙ sym (numbered w p ok payload (Crs q) e (ap (λ (x : ℕ). owns w p (Crs q) x (carrierOf (p .cell) (e % T))) (d .2) ∙ d .0))
+      ∙ ap (λ (x : ℕ). crsElement (p .cell) (p .frame) q (e / T) x (carrierAt (p .cell) (e % T))) (sym (d .2))
+      ∙ sym (numbered w p ok payload (Crs q) e (ap (λ (x : ℕ). owns w p (Crs q) x (carrierAt (p .cell) (e % T))) (d .2) ∙ d .0))
 
   module _ (m : marked (p .frame .subframe) ≡ true) (e : ℕ) where
     pub pss-numbered : markSends (p .cell) 1 e ≡ true → pssSent (p .cell) e ≡ elementNumbered w p payload e

@@ -25,7 +25,7 @@ use Rattle.payload.specs.Payload.{pbchBits, userBits, heads, userSections, sect
 use Rattle.payload.specs.Bits.{ownerBits}
 use Rattle.payload.specs.Loops.{UserReady}
 use Rattle.payload.proofs.Sections.{length-is, userStart, user-start, user-start-next, user-bits-at}
-use Rattle.subframe.specs.Elements.{ownerBit, hiBit, userNumber}
+use Rattle.subframe.specs.Elements.{ownerBit, hiBit, nthUser}
 use Rattle.subframe.proofs.OwnerBits.{span-length, span-at, pbch-size, user-size, user-places}
 
 -- bit n of a part that starts at byte a
@@ -62,8 +62,8 @@ module _ (w : List ℕ) (p : Plan) (at i : ℕ) (f : From w p at i) (in-i : i < 
   cut : (d : User) → userOf (drop at w) ∷ usersFrom (drop (nextOf w at) w) (p .users .count - (i + 1)) ≡ getD (usersOf w p) i d ∷ drop (suc i) (usersOf w p)
   cut d = sym split ∙ f ∙ drop-cons (usersOf w p) i d in-i
 
-  pub from-user : userOf (drop at w) ≡ userNumber w p i
-  unfolding userNumber first-of
+  pub from-user : userOf (drop at w) ≡ nthUser w p i
+  unfolding nthUser first-of
   from-user = let d : User = record { rnti = 0; order = 0; first = 0; count = 0 } in ap (first-of d) (cut d)
 
   pub from-next : From w p (nextOf w at) (i + 1)
@@ -86,27 +86,27 @@ module _ (w : List ℕ) (p : Plan) (ok : checkOf w ≡ accepted p) (payload : Li
 
   module _ (i : ℕ) (in-i : i < length (usersOf w p)) where
     abbrev u : User
-    u = userNumber w p i
+    u = nthUser w p i
 
-    pub user-valid : UserIn (p .cell) (userNumber w p i)
-    unfolding userNumber
+    pub user-valid : UserIn (p .cell) (nthUser w p i)
+    unfolding nthUser
     user-valid = every-at (UserIn (p .cell)) _ (usersOf w p) i (valid w p ok .users) in-i
 
     user-least : userElements (p .cell) (p .frame) (u .first) (u .count) ≤ placesOf (p .cell)
     unfolding placeCount
     user-least = omega (arith, user-places w p ok i in-i, cnt-most (ownsAt w p (UserOf i)) (placesOf (p .cell)))
 
-    pub user-ready : placesOf (p .cell) ≤ 16800 → UserReady (p .cell) (p .frame) (userNumber w p i)
+    pub user-ready : placesOf (p .cell) ≤ 16800 → UserReady (p .cell) (p .frame) (nthUser w p i)
     user-ready h = record { cell = valid w p ok .cell; frame = valid w p ok .frame; user = user-valid; fits = omega (arith, user-least) }
 
-    pub start-next : userStart w p (i + 1) ≡ userStart w p i + sectionBytes (userBits (p .cell) (p .frame) (userNumber w p i))
-    unfolding userNumber
+    pub start-next : userStart w p (i + 1) ≡ userStart w p i + sectionBytes (userBits (p .cell) (p .frame) (nthUser w p i))
+    unfolding nthUser
     start-next = let e : i + 1 ≡ suc i = omega arith in ap (userStart w p) e ∙ user-start-next w p _ i in-i
 
     pub user-slice :
-        (start end : ℕ) → start ≡ userStart w p i → end ≡ start + sectionBytes (userBits (p .cell) (p .frame) (userNumber w p i))
-        → (n : ℕ) → n < userNumber w p i .order * placeCount w p (UserOf i) → bitAt (take (end - start) (drop start payload)) n ≡ ownerBit w p payload (UserOf i) n
-    unfolding ownerBit userNumber
+        (start end : ℕ) → start ≡ userStart w p i → end ≡ start + sectionBytes (userBits (p .cell) (p .frame) (nthUser w p i))
+        → (n : ℕ) → n < nthUser w p i .order * placeCount w p (UserOf i) → bitAt (take (end - start) (drop start payload)) n ≡ ownerBit w p payload (UserOf i) n
+    unfolding ownerBit nthUser
     user-slice start end es ee n l =
         let size : length (ownerBits w p (UserOf i)) ≡ u .order * placeCount w p (UserOf i) = user-size w p ok i in-i in
         let bits : ownerBits w p (UserOf i) ≡ span (8 * userStart w p i) (userBits (p .cell) (p .frame) u) = user-bits-at w p _ i in-i in

@@ -30,7 +30,7 @@ use Rattle.payload.specs.Loops.{UserReady}
 use Rattle.payload.proofs.Sections.{userStart, user-start-first}
 use Rattle.grid.specs.Writing.{Written}
 use Rattle.grid.proofs.Writing.{none, same, over, room-kept, whole}
-use Rattle.subframe.specs.Elements.{userNumber}
+use Rattle.subframe.specs.Elements.{nthUser}
 use Rattle.subframe.specs.Grid.{elementNumbered, gridOf}
 use Rattle.subframe.proofs.Bytes.{length-by-port}
 use Rattle.signals.specs.Signals.{markSends, pssSent, sssSent}
@@ -194,7 +194,7 @@ module _ (w : List ℕ) (p : Plan) (payload : List ℕ) {g₀ : List ℕ} (start
     in-i : i < length (usersOf w p)
     in-i = omega (arith, valid w p ok .users-count)
 
-    user-is : u ≡ userNumber w p i
+    user-is : u ≡ nthUser w p i
     user-is = eu ∙ from-user w p at i (so .users) in-i more
 
     pub going-valid : ChannelIn w p (UserChannel u) g

@@ -31,7 +31,7 @@ use Rattle.plan.proofs.Valid.{valid}
 use Rattle.layout.specs.Rules.{pcfich, phich}
 use Rattle.layout.specs.Owners.{fixedRule, owns}
 use Rattle.layout.specs.declared.Owner.the-variants.{Pcfich, Phich}
-use Rattle.places.specs.Places.{placeNumber, symbolNumber, carrierOf, placesOf, ownsAt, orderOf, indexBy, indexOf}
+use Rattle.places.specs.Places.{placeNumber, symbolAt, carrierAt, placesOf, ownsAt, orderOf, indexBy, indexOf}
 use Rattle.places.proofs.Numbers.{place-both}
 use Rattle.grid.specs.Writing.{sends, Room}
 use Rattle.subframe.specs.Elements.{controlInit, pcfichSymbol, spreadLength, hiBit, phichSum, elementFor}
@@ -62,11 +62,11 @@ module _ (w : List ℕ) (p : Plan) (ok : checkOf w ≡ accepted p) where
   unfolding phichIndex indexOf indexBy orderOf
   phich-index m t = refl
 
-  pub pcfich-owns : (t : ℕ) → pcfich (p .cell .identity) (p .cell .blocks) (symbolNumber (p .cell) t) (carrierOf (p .cell) t) ≡ ownsAt w p Pcfich t
+  pub pcfich-owns : (t : ℕ) → pcfich (p .cell .identity) (p .cell .blocks) (symbolAt (p .cell) t) (carrierAt (p .cell) t) ≡ ownsAt w p Pcfich t
   unfolding ownsAt owns fixedRule
   pcfich-owns t = refl
 
-  pub phich-owns : (m t : ℕ) → phich (p .cell .identity) (p .cell .blocks) (unitsOf (p .cell)) m (symbolNumber (p .cell) t) (carrierOf (p .cell) t) ≡ ownsAt w p (Phich m) t
+  pub phich-owns : (m t : ℕ) → phich (p .cell .identity) (p .cell .blocks) (unitsOf (p .cell)) m (symbolAt (p .cell) t) (carrierAt (p .cell) t) ≡ ownsAt w p (Phich m) t
   unfolding ownsAt owns fixedRule
   phich-owns m t = refl
 
@@ -79,14 +79,14 @@ module _ (w : List ℕ) (p : Plan) (ok : checkOf w ≡ accepted p) where
   pcfich-below e h =
       let t = e % placesOf (p .cell) in
       pcfich-listed (p .cell) cell-ok .below t (mod-lt e some)
-      (and-left (pcfich (p .cell .identity) (p .cell .blocks) (symbolNumber (p .cell) t) (carrierOf (p .cell) t)) (sends (p .cell .ports) (pcfichIndex (p .cell) t / 2 % 2) (e / placesOf (p .cell))) h)
+      (and-left (pcfich (p .cell .identity) (p .cell .blocks) (symbolAt (p .cell) t) (carrierAt (p .cell) t)) (sends (p .cell .ports) (pcfichIndex (p .cell) t / 2 % 2) (e / placesOf (p .cell))) h)
 
   phich-below : (m : ℕ) → m < unitsOf (p .cell) → (e : ℕ) → phichSends (p .cell) m e ≡ true → phichIndex (p .cell) m (e % placesOf (p .cell)) < 12
   unfolding phichSends
   phich-below m in-m e h =
       let t = e % placesOf (p .cell) in
       phich-listed (p .cell) cell-ok m in-m .below t (mod-lt e some)
-      (and-left (phich (p .cell .identity) (p .cell .blocks) (unitsOf (p .cell)) m (symbolNumber (p .cell) t) (carrierOf (p .cell) t)) (sends (p .cell .ports) ((phichIndex (p .cell) m t / 4 + m) % 2) (e / placesOf (p .cell))) h)
+      (and-left (phich (p .cell .identity) (p .cell .blocks) (unitsOf (p .cell)) m (symbolAt (p .cell) t) (carrierAt (p .cell) t)) (sends (p .cell .ports) ((phichIndex (p .cell) m t / 4 + m) % 2) (e / placesOf (p .cell))) h)
 
   -- ---- values
   pcfich-symbols : (j : ℕ) → dataSymbol 2 (cfiBit (p .frame .cfi)) (outputs (pairAt (controlInit (p .cell) (p .frame)) 0)) j ≡ pcfichSymbol (p .cell) (p .frame) j
@@ -96,12 +96,12 @@ module _ (w : List ℕ) (p : Plan) (ok : checkOf w ≡ accepted p) where
   pub pcfich-value :
       (payload : List ℕ) (e : ℕ) → pcfichSends (p .cell) e ≡ true → e / placesOf (p .cell) < p .cell .ports
       → pcfichSent (p .cell) (p .frame .cfi) (pairAt (controlInit (p .cell) (p .frame)) 0) e
-      ≡ elementFor w p payload Pcfich (e / placesOf (p .cell)) (symbolNumber (p .cell) (e % placesOf (p .cell))) (carrierOf (p .cell) (e % placesOf (p .cell)))
+      ≡ elementFor w p payload Pcfich (e / placesOf (p .cell)) (symbolAt (p .cell) (e % placesOf (p .cell))) (carrierAt (p .cell) (e % placesOf (p .cell)))
   unfolding pcfichSent elementFor
   pcfich-value payload e h q =
       let t = e % placesOf (p .cell) in
       let j = pcfichIndex (p .cell) t in
-      let at : indexOf w p Pcfich (placeNumber (p .cell) (symbolNumber (p .cell) t) (carrierOf (p .cell) t)) ≡ j = ap (indexOf w p Pcfich) (place-both (p .cell) t) ∙ sym (pcfich-index t) in
+      let at : indexOf w p Pcfich (placeNumber (p .cell) (symbolAt (p .cell) t) (carrierAt (p .cell) t)) ≡ j = ap (indexOf w p Pcfich) (place-both (p .cell) t) ∙ sym (pcfich-index t) in
       ap (λ (d : ℕ → Pair). placed (p .cell .ports) (j / 2 % 2) 2 d j (e / placesOf (p .cell))) (λ i x. pcfich-symbols x i)
       ∙ sym (by-place (even-occurs w p ok 16 refl) 2 (pcfichSymbol (p .cell) (p .frame)) j (e / placesOf (p .cell)) (pcfich-below e h) q)
       ∙ ap (λ (x : ℕ). precoded (p .cell .ports) 16 2 (pcfichSymbol (p .cell) (p .frame)) x (e / placesOf (p .cell))) (sym at)
@@ -122,13 +122,13 @@ module _ (w : List ℕ) (p : Plan) (ok : checkOf w ≡ accepted p) where
   pub phich-placed :
       (payload : List ℕ) (m : ℕ) → m < unitsOf (p .cell) → (e : ℕ) → phichSends (p .cell) m e ≡ true → e / placesOf (p .cell) < p .cell .ports
       → placed (p .cell .ports) ((phichIndex (p .cell) m (e % placesOf (p .cell)) / 4 + m) % 2) 2 (phichSum w p payload m) (phichIndex (p .cell) m (e % placesOf (p .cell))) (e / placesOf (p .cell))
-      ≡ elementFor w p payload (Phich m) (e / placesOf (p .cell)) (symbolNumber (p .cell) (e % placesOf (p .cell))) (carrierOf (p .cell) (e % placesOf (p .cell)))
+      ≡ elementFor w p payload (Phich m) (e / placesOf (p .cell)) (symbolAt (p .cell) (e % placesOf (p .cell))) (carrierAt (p .cell) (e % placesOf (p .cell)))
   unfolding elementFor
   phich-placed payload m in-m e h q =
       let t = e % placesOf (p .cell) in
       let j = phichIndex (p .cell) m t in
       let P = p .cell .ports in
-      let at : indexOf w p (Phich m) (placeNumber (p .cell) (symbolNumber (p .cell) t) (carrierOf (p .cell) t)) ≡ j = ap (indexOf w p (Phich m)) (place-both (p .cell) t) ∙ sym (phich-index m t) in
+      let at : indexOf w p (Phich m) (placeNumber (p .cell) (symbolAt (p .cell) t) (carrierAt (p .cell) t)) ≡ j = ap (indexOf w p (Phich m)) (place-both (p .cell) t) ∙ sym (phich-index m t) in
       let b : j < 12 = phich-below m in-m e h in
       let whole : 4 * (j / 4) + j % 4 ≡ j = omega arith in
       ap (λ (y : ℕ). placed P ((j / 4 + m) % 2) 2 (phichSum w p payload m) y (e / placesOf (p .cell))) (sym whole)
@@ -139,7 +139,7 @@ module _ (w : List ℕ) (p : Plan) (ok : checkOf w ≡ accepted p) where
       (payload bits : List ℕ) (m : ℕ) → m < unitsOf (p .cell) → (e : ℕ) → phichSends (p .cell) m e ≡ true → e / placesOf (p .cell) < p .cell .ports
       → ((n : ℕ) → n < p .his .count → bitAt bits n ≡ hiBit w p payload n)
       → phichSent (p .cell) m (pairAt (controlInit (p .cell) (p .frame)) 0) (hisOf w p) bits e
-      ≡ elementFor w p payload (Phich m) (e / placesOf (p .cell)) (symbolNumber (p .cell) (e % placesOf (p .cell))) (carrierOf (p .cell) (e % placesOf (p .cell)))
+      ≡ elementFor w p payload (Phich m) (e / placesOf (p .cell)) (symbolAt (p .cell) (e % placesOf (p .cell))) (carrierAt (p .cell) (e % placesOf (p .cell)))
   unfolding phichSent
   phich-value payload bits m in-m e h q same =
       let j = phichIndex (p .cell) m (e % placesOf (p .cell)) in

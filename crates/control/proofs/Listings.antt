@@ -12,7 +12,7 @@ use Rattle.layout.specs.Owners.{carriers}
 use Rattle.layout.proofs.Units.{units-fit}
 use Rattle.places.specs.Counts.{Listed}
 use Rattle.places.specs.Quads.{quadPlace, unitGroup, quadsPlace}
-use Rattle.places.specs.Places.{placeNumber, symbolNumber, carrierOf, placesOf}
+use Rattle.places.specs.Places.{placeNumber, symbolAt, carrierAt, placesOf}
 use Rattle.places.proofs.Numbers.{first-row}
 use Rattle.places.proofs.Quads.{Groups, place-group, quads-at}
 use Rattle.places.proofs.Channels.{format-groups, unit-groups}
@@ -45,12 +45,12 @@ module _ (c : Cell) (ok : CellIn c) where
   pcfich-groups = format-groups (c .identity) (c .blocks) six
 
   pub pcfich-listed :
-      Listed (λ (t : ℕ). pcfich (c .identity) (c .blocks) (symbolNumber c t) (carrierOf c t)) (placesOf c) 16
+      Listed (λ (t : ℕ). pcfich (c .identity) (c .blocks) (symbolAt c t) (carrierAt c t)) (placesOf c) 16
       (λ (j : ℕ). placeNumber c 0 (quadsPlace (c .identity) (formatGroup (c .identity) (c .blocks)) j)) (pcfichIndex c)
   unfolding pcfichIndex
   pcfich-listed =
       by-quads c 4 (formatGroup (c .identity) (c .blocks)) (isFormat (c .identity) (c .blocks)) some-carriers pcfich-groups
-      (λ (t : ℕ). pcfich (c .identity) (c .blocks) (symbolNumber c t) (carrierOf c t)) (λ t. pcfich-is (c .identity) (c .blocks) (symbolNumber c t) (carrierOf c t))
+      (λ (t : ℕ). pcfich (c .identity) (c .blocks) (symbolAt c t) (carrierAt c t)) (λ t. pcfich-is (c .identity) (c .blocks) (symbolAt c t) (carrierAt c t))
 
   module _ (m : ℕ) (in-m : m < unitsOf c) where
     pub unit-few : m < 256
@@ -60,10 +60,10 @@ module _ (c : Cell) (ok : CellIn c) where
     phich-groups = unit-groups (c .identity) (c .blocks) six m (omega (arith, units-fit c (sixths-most c ok) six))
 
     pub phich-listed :
-        Listed (λ (t : ℕ). phich (c .identity) (c .blocks) (unitsOf c) m (symbolNumber c t) (carrierOf c t)) (placesOf c) 12
+        Listed (λ (t : ℕ). phich (c .identity) (c .blocks) (unitsOf c) m (symbolAt c t) (carrierAt c t)) (placesOf c) 12
         (λ (j : ℕ). placeNumber c 0 (quadsPlace (c .identity) (unitGroup (c .identity) (c .blocks) m) j)) (phichIndex c m)
     unfolding phichIndex
     phich-listed =
         by-quads c 3 (unitGroup (c .identity) (c .blocks) m) (unitHas (c .identity) (c .blocks) m 0) some-carriers phich-groups
-        (λ (t : ℕ). phich (c .identity) (c .blocks) (unitsOf c) m (symbolNumber c t) (carrierOf c t))
-        (λ t. phich-is (c .identity) (c .blocks) (unitsOf c) m (symbolNumber c t) (carrierOf c t) in-m)
+        (λ (t : ℕ). phich (c .identity) (c .blocks) (unitsOf c) m (symbolAt c t) (carrierAt c t))
+        (λ t. phich-is (c .identity) (c .blocks) (unitsOf c) m (symbolAt c t) (carrierAt c t) in-m)

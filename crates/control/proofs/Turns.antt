@@ -19,7 +19,7 @@ use Rattle.plan.specs.Fields.{unitsOf}
 use Rattle.plan.specs.declared.Cell.{Cell}
 use Rattle.layout.specs.Rules.{formatGroup, pcfich, phich}
 use Rattle.places.specs.Quads.{quadPlace, unitGroup}
-use Rattle.places.specs.Places.{symbolNumber, carrierOf, placesOf}
+use Rattle.places.specs.Places.{symbolAt, carrierAt, placesOf}
 use Rattle.grid.specs.Writing.{Written}
 use Rattle.grid.proofs.Writing.{room-kept}
 use Rattle.control.specs.Control.{pcfichIndex, pcfichSends, pcfichSent, phichIndex, phichSends}
@@ -34,7 +34,7 @@ small-symbol w = let s = order-small 2 w (refl, omega arith, omega arith) in (om
 
 -- ---- PCFICH
 abbrev pcfichHas : Cell → ℕ → Bool
-pcfichHas c t = pcfich (c .identity) (c .blocks) (symbolNumber c t) (carrierOf c t)
+pcfichHas c t = pcfich (c .identity) (c .blocks) (symbolAt c t) (carrierAt c t)
 
 abbrev byTwo : ℕ → ℕ
 byTwo j = j / 2 % 2
@@ -103,7 +103,7 @@ module _ (c : Cell) (cfi : ℕ) (r : Registers) (g₀ : List ℕ) (ok : PcfichIn
 
 -- ---- a PHICH unit
 abbrev phichHas : Cell → ℕ → ℕ → Bool
-phichHas c m t = phich (c .identity) (c .blocks) (unitsOf c) m (symbolNumber c t) (carrierOf c t)
+phichHas c m t = phich (c .identity) (c .blocks) (unitsOf c) m (symbolAt c t) (carrierAt c t)
 
 abbrev byQuad : ℕ → ℕ → ℕ
 byQuad m j = (j / 4 + m) % 2

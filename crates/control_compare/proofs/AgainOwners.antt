@@ -22,7 +22,7 @@ use Rattle.plan.specs.declared.Plan.{Plan}
 use Rattle.plan.specs.declared.Checked.the-variants.{Plan as accepted}
 use Rattle.plan.proofs.Valid.{valid}
 use Rattle.layout.specs.declared.Owner.the-variants.{Phich}
-use Rattle.places.specs.Places.{symbolNumber, carrierOf, placesOf}
+use Rattle.places.specs.Places.{symbolAt, carrierAt, placesOf}
 use Rattle.subframe.specs.Elements.{controlInit, spreadLength, hiBit, phichSum, elementFor}
 use Rattle.recovery.specs.Recovery.{sumsIn, ackBit, payloadIn}
 use Rattle.recovery.proofs.Payload.{hi-bit}
@@ -59,7 +59,7 @@ module _ (w : List ℕ) (p : Plan) (ok : checkOf w ≡ accepted p) (g : List ℕ
   pub unit-value :
       (m e : ℕ) → m < unitsOf (p .cell) → phichSends (p .cell) m e ≡ true → e / placesOf (p .cell) < p .cell .ports
       → unitSent (p .cell) m (sumsAgain (p .cell) m (pairAt (controlInit (p .cell) (p .frame)) 0) (hisOf w p) g) e
-      ≡ elementFor w p (payloadIn w p g) (Phich m) (e / placesOf (p .cell)) (symbolNumber (p .cell) (e % placesOf (p .cell))) (carrierOf (p .cell) (e % placesOf (p .cell)))
+      ≡ elementFor w p (payloadIn w p g) (Phich m) (e / placesOf (p .cell)) (symbolAt (p .cell) (e % placesOf (p .cell))) (carrierAt (p .cell) (e % placesOf (p .cell)))
   unfolding unitSent
   unit-value m e in-m h q =
       let j = phichIndex (p .cell) m (e % placesOf (p .cell)) in

@@ -21,7 +21,7 @@ use Rattle.plan.specs.Fields.{unitsOf}
 use Rattle.plan.specs.declared.Cell.{Cell}
 use Rattle.layout.specs.Rules.{formatGroup, pcfich, phich}
 use Rattle.places.specs.Quads.{quadPlace, quadIndex, unitGroup}
-use Rattle.places.specs.Places.{symbolNumber, carrierOf, placesOf}
+use Rattle.places.specs.Places.{symbolAt, carrierAt, placesOf}
 use Rattle.places.proofs.Quads.{place-index}
 use Rattle.grid.specs.Writing.{sentAt, Room}
 use Rattle.compare.specs.declared.Seen.{Seen}
@@ -65,7 +65,7 @@ module _ {c : Cell} {g i : ℕ} {d e : Pair} {grid : List ℕ} (ok : PairIn c g 
 
 -- ---- PCFICH
 abbrev pcfichHas : Cell → ℕ → Bool
-pcfichHas c t = pcfich (c .identity) (c .blocks) (symbolNumber c t) (carrierOf c t)
+pcfichHas c t = pcfich (c .identity) (c .blocks) (symbolAt c t) (carrierAt c t)
 
 abbrev byTwo : ℕ → ℕ
 byTwo j = j / 2 % 2
@@ -120,7 +120,7 @@ module _ (c : Cell) (cfi : ℕ) (r : Registers) (g : List ℕ) (ok : PcfichIn c 
 
 -- ---- a PHICH unit
 abbrev phichHas : Cell → ℕ → ℕ → Bool
-phichHas c m t = phich (c .identity) (c .blocks) (unitsOf c) m (symbolNumber c t) (carrierOf c t)
+phichHas c m t = phich (c .identity) (c .blocks) (unitsOf c) m (symbolAt c t) (carrierAt c t)
 
 abbrev byQuad : ℕ → ℕ → ℕ
 byQuad m j = (j / 4 + m) % 2

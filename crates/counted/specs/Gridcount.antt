@@ -18,7 +18,7 @@ use Rattle.counted.specs.declared.Counted.{Counted}
 
 -- "refused" and the number
 abbrev pub refusedWith : ℕ → Counted
-refusedWith n = record { refusal = n; counts = table 9 (λ (j : ℕ). 0) }
+refusedWith n = record { refusal = n; counts = table kinds (λ (j : ℕ). 0) }
 
 -- the lines' counts, in their order
 abbrev pub linesOf : List ℕ → Plan → Counted

@@ -22,7 +22,7 @@ use Rattle.plan.proofs.Valid.{valid}
 use Rattle.layout.specs.Rules.{slotOf, middle, pbchArea as areaTest}
 use Rattle.layout.specs.Owners.{slotOfCell, symbols, carriers, controlSymbols, blocksHave, userHas, owns}
 use Rattle.layout.specs.declared.Owner.the-variants.{Pbch, User as UserOf}
-use Rattle.places.specs.Places.{symbolNumber, carrierOf, placesOf, ownsAt, orderOf, indexBy, indexOf}
+use Rattle.places.specs.Places.{symbolAt, carrierAt, placesOf, ownsAt, orderOf, indexBy, indexOf}
 use Rattle.places.specs.Halves.{openPlace, openOfFour, inPbch, taken, openTo}
 use Rattle.places.proofs.Counts.{cnt-same}
 use Rattle.places.proofs.Numbers.{slot-length, symbol-inside}
@@ -113,7 +113,7 @@ module _ (w : List ℕ) (p : Plan) (ok : checkOf w ≡ accepted p) where
   -- the same places in ascending order have the same index
   pub pbch-place : p .frame .subframe ≡ 0 → (t : ℕ) → areaAt (pbchArea (p .cell) (p .frame)) t ≡ ownsAt w p Pbch t
   unfolding areaAt ownsAt
-  pbch-place z t = pbch-at z (symbolNumber (p .cell) t) (carrierOf (p .cell) t)
+  pbch-place z t = pbch-at z (symbolAt (p .cell) t) (carrierAt (p .cell) t)
 
   pub pbch-index : p .frame .subframe ≡ 0 → (t : ℕ) → areaIndex (pbchArea (p .cell) (p .frame)) t ≡ indexOf w p Pbch t
   unfolding areaIndex indexOf indexBy orderOf
@@ -123,7 +123,7 @@ module _ (w : List ℕ) (p : Plan) (ok : checkOf w ≡ accepted p) where
       (i : ℕ) → i < length (usersOf w p) → (d : User) (t : ℕ) → t < placesOf (p .cell)
       → areaAt (userArea (p .cell) (p .frame) (getD (usersOf w p) i d)) t ≡ ownsAt w p (UserOf i) t
   unfolding areaAt ownsAt
-  user-place i in-i d t l = user-at i in-i d (symbolNumber (p .cell) t) (carrierOf (p .cell) t) (symbol-inside (p .cell) some t l)
+  user-place i in-i d t l = user-at i in-i d (symbolAt (p .cell) t) (carrierAt (p .cell) t) (symbol-inside (p .cell) some t l)
 
   pub user-index :
       (i : ℕ) → i < length (usersOf w p) → (d : User) (t : ℕ) → t ≤ placesOf (p .cell)

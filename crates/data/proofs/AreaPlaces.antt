@@ -9,7 +9,7 @@ use lib.Dec.{leb, ltb}
 use borrow.Author.Tests.{le-leb, lt-leb, lt-ltb, le-ltb, leb-true}
 use Rattle.base.proofs.Tests.{by-test, clash}
 use Rattle.layout.specs.Owners.{slotOfCell, carriers}
-use Rattle.places.specs.Places.{symbolNumber, carrierOf}
+use Rattle.places.specs.Places.{symbolAt, carrierAt}
 use Rattle.places.specs.Halves.{without, taken}
 use Rattle.places.proofs.Numbers.{place-symbol, place-carrier, place-both, carrier-inside}
 use Rattle.data.specs.declared.Area.{Area}
@@ -83,12 +83,12 @@ module _ (a : Area) where
     pub rows-early : (s t : ℕ) → s ≤ a .first → t < s * W → areaAt a t ≡ false
     unfolding areaAt
     rows-early s t h l =
-        let m : symbolNumber (a .cell) t < s = div-lt-iff-lt-mul some .1 l in
-        early-row (symbolNumber (a .cell) t) (carrierOf (a .cell) t) (omega arith)
+        let m : symbolAt (a .cell) t < s = div-lt-iff-lt-mul some .1 l in
+        early-row (symbolAt (a .cell) t) (carrierAt (a .cell) t) (omega arith)
 
     pub rows-late : (s t : ℕ) → a .last ≤ s → s * W ≤ t → areaAt a t ≡ false
     unfolding areaAt
-    rows-late s t h l = late-row (symbolNumber (a .cell) t) (carrierOf (a .cell) t) (after (symbolNumber (a .cell) t) (place-both (a .cell) t) (carrier-inside (a .cell) some t))
+    rows-late s t h l = late-row (symbolAt (a .cell) t) (carrierAt (a .cell) t) (after (symbolAt (a .cell) t) (place-both (a .cell) t) (carrier-inside (a .cell) some t))
       where
         after : (y : ℕ) {k : ℕ} → y * W + k ≡ t → k < W → a .last ≤ y
         after y e m = pick (decLe s y)

@@ -15,7 +15,7 @@ use Rattle.plan.specs.declared.Frame.{Frame}
 use Rattle.plan.specs.declared.User.{User}
 use Rattle.layout.specs.Owners.{slotOfCell, symbols, controlSymbols}
 use Rattle.places.specs.Counts.{cnt}
-use Rattle.places.specs.Places.{symbolNumber, carrierOf, placesOf}
+use Rattle.places.specs.Places.{symbolAt, carrierAt, placesOf}
 use Rattle.places.specs.Halves.{without, taken}
 use Rattle.codeword.specs.Streams.{symbolsOf}
 use Rattle.grid.specs.Writing.{sends, Room}
@@ -30,7 +30,7 @@ areaHas a s k =
     && not (a .leaves && taken (a .cell) (a .frame) s (k / 6))
 
 unfoldable pub areaAt : Area → ℕ → Bool
-areaAt a t = areaHas a (symbolNumber (a .cell) t) (carrierOf (a .cell) t)
+areaAt a t = areaHas a (symbolAt (a .cell) t) (carrierAt (a .cell) t)
 
 -- which of its places t is
 unfoldable pub areaIndex : Area → ℕ → ℕ

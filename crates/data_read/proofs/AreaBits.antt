@@ -20,7 +20,7 @@ use Rattle.places.specs.Places.{placesOf, ownsAt, placeCount, placeOf, placeBy,
 use Rattle.places.proofs.Counts.{cnt-same, nth-same}
 use Rattle.grid.specs.Elements.{elementIn}
 use Rattle.payload.specs.Payload.{pbchBits, userBits}
-use Rattle.subframe.specs.Elements.{pbchFirst, userInit, userNumber}
+use Rattle.subframe.specs.Elements.{pbchFirst, userInit, nthUser}
 use Rattle.subframe.proofs.OwnerBits.{pbch-size, user-places}
 use Rattle.recovery.specs.Recovery.{wordOf, symbolIn, dataBit, pbchBit, userBit, sectionOf}
 use Rattle.recovery.proofs.Channels.{pbch-length}
@@ -70,9 +70,9 @@ module _ (w : List ℕ) (p : Plan) (ok : checkOf w ≡ accepted p) where
 
   pub user-section :
       (i : ℕ) → i < length (usersOf w p) → (g : List ℕ)
-      → sectionOf (areaBit (userArea (p .cell) (p .frame) (userNumber w p i)) (userNumber w p i .order) g (pairAt (userInit (p .cell) (p .frame) (userNumber w p i)) 0)) (userNumber w p i .order * areaCount (userArea (p .cell) (p .frame) (userNumber w p i)))
-      ≡ sectionOf (userBit w p g i (userNumber w p i)) (userBits (p .cell) (p .frame) (userNumber w p i))
-  unfolding userNumber userBits
+      → sectionOf (areaBit (userArea (p .cell) (p .frame) (nthUser w p i)) (nthUser w p i .order) g (pairAt (userInit (p .cell) (p .frame) (nthUser w p i)) 0)) (nthUser w p i .order * areaCount (userArea (p .cell) (p .frame) (nthUser w p i)))
+      ≡ sectionOf (userBit w p g i (nthUser w p i)) (userBits (p .cell) (p .frame) (nthUser w p i))
+  unfolding nthUser userBits
   user-section i in-i g =
       ap₂ sectionOf (λ t n. user-bits i in-i (record { rnti = 0; order = 0; first = 0; count = 0 }) g n t)
-      (ap (λ (n : ℕ). userNumber w p i .order * n) (user-count i in-i (record { rnti = 0; order = 0; first = 0; count = 0 }) ∙ user-places w p ok i in-i))
+      (ap (λ (n : ℕ). nthUser w p i .order * n) (user-count i in-i (record { rnti = 0; order = 0; first = 0; count = 0 }) ∙ user-places w p ok i in-i))

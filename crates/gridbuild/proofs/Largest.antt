@@ -17,7 +17,7 @@ use Rattle.plan.proofs.Counts.{blocks-most, ports-most}
 use Rattle.layout.specs.Owners.{symbols}
 use Rattle.payload.specs.Payload.{gridLength}
 use Rattle.payload.proofs.Lengths.{symbols-most}
-use Rattle.mapper.specs.Calls.{numberOf, numberAnswer, gridLengthOf}
+use Rattle.mapper.specs.Calls.{answerWith, numberAnswer, gridLengthOf}
 use Rattle.mapper.specs.declared.Number.{Number}
 use Rattle.mapper.specs.declared.Number.the-variants.{Is}
 
@@ -32,7 +32,7 @@ module _ (w : List ℕ) where
       let v = valid w p e .cell in
       grid-product-most (p .cell .blocks) (symbols (p .cell)) (p .cell .ports) (blocks-most (p .cell) v) (symbols-most (p .cell)) (ports-most (p .cell) v)
 
-  grid-within : (n : ℕ) (a : Checked) → checkOf w ≡ a → given n ≡ numberOf gridLength a → n ≤ 201600
+  grid-within : (n : ℕ) (a : Checked) → checkOf w ≡ a → given n ≡ answerWith gridLength a → n ≤ 201600
   grid-within n (accepted p) e q = omega (arith, ap (λ (x : Answer). x .value) q, grid-most p e)
   grid-within n (refused r) e q = no-number (sym q)
 

@@ -31,7 +31,7 @@ use Rattle.payload.specs.Payload.{pbchBits, userBits, heads, userSections, sect
 use Rattle.payload.specs.Bits.{tally}
 use Rattle.payload.specs.Loops.{elementsOf}
 use Rattle.payload.proofs.Room.{ready}
-use Rattle.mapper.specs.Calls.{numberOf, numberAnswer, payloadLengthOf}
+use Rattle.mapper.specs.Calls.{answerWith, numberAnswer, payloadLengthOf}
 use Rattle.mapper.specs.declared.Number.{Number}
 use Rattle.mapper.specs.declared.Number.the-variants.{Is}
 
@@ -70,7 +70,7 @@ module _ (w : List ℕ) where
         users-most w p e,
       )
 
-  payload-within : (n : ℕ) (a : Checked) → checkOf w ≡ a → given n ≡ numberOf (payloadLength w) a → n ≤ 12800
+  payload-within : (n : ℕ) (a : Checked) → checkOf w ≡ a → given n ≡ answerWith (payloadLength w) a → n ≤ 12800
   payload-within n (accepted p) e q = omega (arith, ap (λ (x : Answer). x .value) q, payload-most p e)
   payload-within n (refused r) e q = no-number (sym q)
 

@@ -23,7 +23,7 @@ unfoldable pub ownerQueryOf : List ℕ → ℕ → ℕ → ℕ → OwnerAnswer
 ownerQueryOf w s k port =
     unlessRefused Refused (λ (p : Plan). if inGrid (p .cell) s k port then Is (ownerOf w p s k) else Refused Outside) (checkOf w)
 
--- in document 01's numbers
+-- in numbers: the owner's, which is ours, or the refusal's, document 01's
 abbrev pub ownerAnswer : OwnerAnswer → Answer
 ownerAnswer (Is o) = given (ownerNumber o)
 ownerAnswer (Refused r) = refusedAs r

@@ -33,7 +33,7 @@ use Rattle.build.specs.declared.Built.the-variants.{Elements as builtElements}
 use Rattle.read.specs.Read.{ReadUnder, Reads, readAnswer}
 use Rattle.read.specs.declared.ReadBack.{ReadBack}
 use Rattle.read.specs.declared.ReadBack.the-variants.{Elements as readElements}
-use Rattle.mapper.specs.Calls.{numberOf, numberAnswer, gridLengthOf, payloadLengthOf, kindElements, kindCountOf}
+use Rattle.mapper.specs.Calls.{answerWith, numberAnswer, gridLengthOf, payloadLengthOf, kindElements, kindCountOf}
 use Rattle.mapper.specs.Sizes.{Small}
 use Rattle.mapper.specs.declared.Number.{Number}
 use Rattle.mapper.specs.declared.Number.the-variants.{Is, Refused}
@@ -76,13 +76,13 @@ refusal-small SpareBit = omega arith
 refusal-small NoPayload = omega arith
 
 -- ---- and those of the calls
-numbered-small : (f : Plan → ℕ) (a : Checked) → ((p : Plan) → a ≡ accepted p → f p < 2 ^ 63) → (n : Number) → numberAnswer n ≡ numberOf f a → Small n
+numbered-small : (f : Plan → ℕ) (a : Checked) → ((p : Plan) → a ≡ accepted p → f p < 2 ^ 63) → (n : Number) → numberAnswer n ≡ answerWith f a → Small n
 numbered-small f (accepted p) h (Is n) e = omega (arith, ap (λ (x : Answer). x .value) e, h p refl)
 numbered-small f (refused r) h (Is n) e = no-number (sym e)
 numbered-small f a h (Refused x) e = tt
 
 module _ (w : List ℕ) (n : Number) where
-  small-of : (f : Plan → ℕ) → numberAnswer n ≡ numberOf f (checkOf w) → ((p : Plan) → checkOf w ≡ accepted p → f p < 2 ^ 63) → Small n
+  small-of : (f : Plan → ℕ) → numberAnswer n ≡ answerWith f (checkOf w) → ((p : Plan) → checkOf w ≡ accepted p → f p < 2 ^ 63) → Small n
   small-of f e h = numbered-small f (checkOf w) h n e
 
   pub grid-fits : numberAnswer n ≡ gridLengthOf w → Small n

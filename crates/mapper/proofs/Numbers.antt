@@ -15,22 +15,22 @@ use Rattle.plan.specs.declared.Plan.{Plan}
 use Rattle.plan.specs.declared.Refusal.{Refusal}
 use Rattle.plan.specs.declared.Checked.{Checked}
 use Rattle.plan.specs.declared.Checked.the-variants.{Plan as accepted, Refused as refused}
-use Rattle.mapper.specs.Calls.{numberOf, numberAnswer, checkedAnswer, inC}
+use Rattle.mapper.specs.Calls.{answerWith, numberAnswer, checkedAnswer, inC}
 use Rattle.mapper.specs.Sizes.{Small}
 use Rattle.mapper.specs.declared.Number.{Number}
 use Rattle.mapper.specs.declared.Number.the-variants.{Is, Refused}
 
 module _ (w : List ℕ) (a : Checked) (e : a ≡ checkOf w) where
   module _ (p : Plan) (is : a ≡ accepted p) where
-    pub number-is : (f : Plan → ℕ) (n : ℕ) → n ≡ f p → given n ≡ numberOf f (checkOf w)
-    number-is f n q = ap given q ∙ ap (numberOf f) (sym is ∙ e)
+    pub number-is : (f : Plan → ℕ) (n : ℕ) → n ≡ f p → given n ≡ answerWith f (checkOf w)
+    number-is f n q = ap given q ∙ ap (answerWith f) (sym is ∙ e)
 
     pub check-is : checkedAnswer (checkOf w) ≡ given 0
     check-is = ap checkedAnswer (sym e ∙ is)
 
   module _ (r : Refusal) (is : a ≡ refused r) where
-    pub number-refused : (f : Plan → ℕ) → refusedAs r ≡ numberOf f (checkOf w)
-    number-refused f = ap (numberOf f) (sym is ∙ e)
+    pub number-refused : (f : Plan → ℕ) → refusedAs r ≡ answerWith f (checkOf w)
+    number-refused f = ap (answerWith f) (sym is ∙ e)
 
     pub check-refused : checkedAnswer (checkOf w) ≡ refusedBy (refusalNumber r)
     check-refused = ap checkedAnswer (sym e ∙ is)

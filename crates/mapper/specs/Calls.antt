@@ -20,23 +20,23 @@ use Rattle.mapper.specs.declared.Number.{Number}
 use Rattle.mapper.specs.declared.Number.the-variants.{Is, Refused}
 
 -- ---- a number of an accepted plan, or the plan's refusal
-abbrev pub numberOf : (Plan → ℕ) → Checked → Answer
-numberOf f a = unlessRefused refusedAs (λ (p : Plan). given (f p)) a
+abbrev pub answerWith : (Plan → ℕ) → Checked → Answer
+answerWith f a = unlessRefused refusedAs (λ (p : Plan). given (f p)) a
 
 -- "grid not 36×N×S×P bytes"
 unfoldable pub gridLengthOf : List ℕ → Answer
-gridLengthOf w = numberOf gridLength (checkOf w)
+gridLengthOf w = answerWith gridLength (checkOf w)
 
 -- the bytes of all sections
 unfoldable pub payloadLengthOf : List ℕ → Answer
-payloadLengthOf w = numberOf (payloadLength w) (checkOf w)
+payloadLengthOf w = answerWith (payloadLength w) (checkOf w)
 
 -- the elements of a kind, in the order of gridcount's lines from 0 on; a kind beyond them has none
 abbrev pub kindElements : List ℕ → ℕ → Plan → ℕ
 kindElements w kind p = if ltb kind kinds then kindCount w p kind else 0
 
 unfoldable pub kindCountOf : List ℕ → ℕ → Answer
-kindCountOf w kind = numberOf (kindElements w kind) (checkOf w)
+kindCountOf w kind = answerWith (kindElements w kind) (checkOf w)
 
 -- the numbers of the calls' enums; an accepted plan is 0
 abbrev pub numberAnswer : Number → Answer
@@ -44,7 +44,7 @@ numberAnswer (Is n) = given n
 numberAnswer (Refused r) = refusedAs r
 
 abbrev pub checkedAnswer : Checked → Answer
-checkedAnswer a = numberOf (λ p. 0) a
+checkedAnswer a = answerWith (λ p. 0) a
 
 -- a sample has three numbers: 0 its kind (0 silence, 1 phase, 2 a pair of f32), 1 the phase or the bits of the f32 of I, and 2 the bits of
 -- the f32 of J; three bytes that are no element are refused 9

@@ -1,6 +1,6 @@
-// THE PUBLIC CALLS, for Rattle and for C. None asks anything of its caller; each has one equation for its answer and for every
-// byte that it leaves (document 01). The functions for C answer with a number: a count, a length or a value, or minus the refusal's
-// number; include/mapper.h describes them.
+// THE PUBLIC CALLS, for Rattle and for C. None asks anything of its caller. Each has one equation for its answer and for every byte that it
+// leaves (document 01); the sample has a bound beside it, and read has the record `Reads`, which no two answers meet. The functions for C answer
+// with a number: a count, a length or a value, or minus the refusal's number; include/mapper.h describes them.
 use build::Built;
 use counted::Counted;
 use layout::OwnerAnswer;

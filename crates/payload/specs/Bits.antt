@@ -16,9 +16,9 @@ use Rattle.layout.specs.declared.Owner.the-variants.{Crs, Sync, Pbch, Pcfich, P
 use Rattle.payload.specs.Sections.{startOf, sectionBits}
 use Rattle.payload.specs.Payload.{heads, sections}
 
--- "normal unit = group, extended unit = groups 2m, 2m+1": group g is one of unit m's
+-- "normal unit = group, extended unit = groups 2m, 2m+1": group t is one of unit m's
 unfoldable pub hasGroup : Cell → ℕ → ℕ → Bool
-hasGroup c m g = if eqb (c .prefix) 1 then eqb g (2 * m) || eqb g (2 * m + 1) else eqb g m
+hasGroup c m t = if eqb (c .prefix) 1 then eqb t (2 * m) || eqb t (2 * m + 1) else eqb t m
 
 -- "A unit's bits are those of the HIs of its groups": one bit per HI from position at on, and of these unit m's
 unfoldable pub unitBits : Cell → ℕ → ℕ → List Hi → List ℕ

@@ -72,12 +72,12 @@ pub record AcceptedPayload (w : List ℕ) (p : Plan) (payload : List ℕ) : Type
 -- "From the state of the lent buffers, after the plan, by number: 10 grid not 36×N×S×P bytes; 11 payload length wrong": the answer
 -- of a call, unless one of these applies
 unfoldable pub unlessLengths : {A : Type 0} → (Refusal → A) → List ℕ → Plan → List ℕ → List ℕ → A → A
-unlessLengths refused w p grid payload answer =
+unlessLengths refusal w p grid payload answer =
     if eqb (length grid) (gridLength p)
-    then (if eqb (length payload) (payloadLength w p) then answer else refused PayloadLength)
-    else refused GridLength
+    then (if eqb (length payload) (payloadLength w p) then answer else refusal PayloadLength)
+    else refusal GridLength
 
 -- and "12 a spare bit set (build only)"
 unfoldable pub unlessBuffers : {A : Type 0} → (Refusal → A) → List ℕ → Plan → List ℕ → List ℕ → A → A
-unlessBuffers refused w p grid payload answer =
-    unlessLengths refused w p grid payload (if spareClear w p payload then answer else refused SpareBit)
+unlessBuffers refusal w p grid payload answer =
+    unlessLengths refusal w p grid payload (if spareClear w p payload then answer else refusal SpareBit)

@@ -25,7 +25,7 @@ use Rattle.layout.specs.Chain.{syncArea}
 use Rattle.layout.specs.declared.Owner.{Owner}
 use Rattle.layout.specs.declared.Owner.the-variants.{Crs, Pbch, User as UserOf}
 use Rattle.places.specs.Counts.{cnt}
-use Rattle.places.specs.Places.{placeNumber, symbolNumber, carrierOf, placesOf, ownsAt, placeCount, orderOf, ascending, indexBy, indexOf}
+use Rattle.places.specs.Places.{placeNumber, symbolAt, carrierAt, placesOf, ownsAt, placeCount, orderOf, ascending, indexBy, indexOf}
 use Rattle.places.specs.Halves.{without, openPlace, openOfFour, signals, inPbch, taken, openTo, before}
 use Rattle.places.proofs.Counts.{cnt-none, cnt-empty, cnt-add, cnt-same, cnt-skip, cnt-all}
 use Rattle.places.proofs.Numbers.{slot-length, owns-at, place-both, carrier-inside}
@@ -222,8 +222,8 @@ module _ (w : List ℕ) (p : Plan) (o : Owner) where
     where
       none : (t : ℕ) → t < placeNumber (p .cell) s 0 → ownsAt w p o t ≡ false
       none t l =
-          ap (ownsAt w p o) (sym (place-both (p .cell) t)) ∙ owns-at w p o (symbolNumber (p .cell) t) (carrierOf (p .cell) t) (carrier-inside (p .cell) some t)
-          ∙ h (symbolNumber (p .cell) t) (carrierOf (p .cell) t) (div-lt-iff-lt-mul some .1 (omega arith)) (carrier-inside (p .cell) some t)
+          ap (ownsAt w p o) (sym (place-both (p .cell) t)) ∙ owns-at w p o (symbolAt (p .cell) t) (carrierAt (p .cell) t) (carrier-inside (p .cell) some t)
+          ∙ h (symbolAt (p .cell) t) (carrierAt (p .cell) t) (div-lt-iff-lt-mul some .1 (omega arith)) (carrier-inside (p .cell) some t)
 
   -- the count is what stands before the end of the grid
   pub count-before : placeCount w p o ≡ before w p o (symbols (p .cell)) 0

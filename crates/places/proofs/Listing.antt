@@ -24,7 +24,7 @@ use Rattle.layout.proofs.Few.{blocks-least, blocks-most, sixths-most}
 use Rattle.layout.proofs.Units.{units-fit}
 use Rattle.places.specs.Counts.{Listed}
 use Rattle.places.specs.Quads.{keeps, quadPlace, unitGroup, quadsPlace, quadsIndex, InQuads}
-use Rattle.places.specs.Places.{placeNumber, symbolNumber, carrierOf, placesOf, ownsAt, placeCount, orderOf, placeBy, indexBy, placeOf, indexOf, PlacesListed}
+use Rattle.places.specs.Places.{placeNumber, symbolAt, carrierAt, placesOf, ownsAt, placeCount, orderOf, placeBy, indexBy, placeOf, indexOf, PlacesListed}
 use Rattle.places.proofs.Counts.{listed-nth, listed-none, listed-count}
 use Rattle.places.proofs.Quads.{Groups, quads-listed, quads-exactly, quads-at}
 use Rattle.places.proofs.Channels.{format-groups, unit-groups}
@@ -91,8 +91,8 @@ module _ (w : List ℕ) (p : Plan) where
 -- ---- a channel of quads with the rule of its groups
 module _ (c : Cell) (n : ℕ) (group : ℕ → ℕ) (has : ℕ → Bool) (some : 0 < carriers c) (gs : Groups n (2 * c .blocks) group has) where
   pub by-quads :
-      (own : ℕ → Bool) → ((t : ℕ) → own t ≡ eqb (symbolNumber c t) 0 && (keeps (c .identity % 3) (carrierOf c t) && has (carrierOf c t / 6)))
-      → Listed own (placesOf c) (4 * n) (λ (j : ℕ). placeNumber c 0 (quadsPlace (c .identity) group j)) (λ (t : ℕ). quadsIndex (c .identity) n group (carrierOf c t))
+      (own : ℕ → Bool) → ((t : ℕ) → own t ≡ eqb (symbolAt c t) 0 && (keeps (c .identity % 3) (carrierAt c t) && has (carrierAt c t / 6)))
+      → Listed own (placesOf c) (4 * n) (λ (j : ℕ). placeNumber c 0 (quadsPlace (c .identity) group j)) (λ (t : ℕ). quadsIndex (c .identity) n group (carrierAt c t))
   by-quads own same =
       let e : 6 * (2 * c .blocks) ≡ carriers c = omega arith in
       row-listed own (λ (k : ℕ). keeps (c .identity % 3) k && has (k / 6)) (carriers c) (placesOf c) (4 * n) (quadsPlace (c .identity) group) (quadsIndex (c .identity) n group) some (first-row c) same
@@ -142,19 +142,19 @@ module _ (w : List ℕ) (p : Plan) (ok : checkOf w ≡ accepted p) where
 
   pcfich-at :
       (t : ℕ)
-      → ownsAt w p Pcfich t ≡ eqb (symbolNumber (p .cell) t) 0 && (keeps (p .cell .identity % 3) (carrierOf (p .cell) t) && isFormat (p .cell .identity) (p .cell .blocks) (carrierOf (p .cell) t / 6))
+      → ownsAt w p Pcfich t ≡ eqb (symbolAt (p .cell) t) 0 && (keeps (p .cell .identity % 3) (carrierAt (p .cell) t) && isFormat (p .cell .identity) (p .cell .blocks) (carrierAt (p .cell) t / 6))
   unfolding ownsAt owns fixedRule
-  pcfich-at t = pcfich-is (p .cell .identity) (p .cell .blocks) (symbolNumber (p .cell) t) (carrierOf (p .cell) t)
+  pcfich-at t = pcfich-is (p .cell .identity) (p .cell .blocks) (symbolAt (p .cell) t) (carrierAt (p .cell) t)
 
   phich-at :
       (m : ℕ) → m < unitsOf (p .cell) → (t : ℕ)
-      → ownsAt w p (Phich m) t ≡ eqb (symbolNumber (p .cell) t) 0 && (keeps (p .cell .identity % 3) (carrierOf (p .cell) t) && unitHas (p .cell .identity) (p .cell .blocks) m 0 (carrierOf (p .cell) t / 6))
+      → ownsAt w p (Phich m) t ≡ eqb (symbolAt (p .cell) t) 0 && (keeps (p .cell .identity % 3) (carrierAt (p .cell) t) && unitHas (p .cell .identity) (p .cell .blocks) m 0 (carrierAt (p .cell) t / 6))
   unfolding ownsAt owns fixedRule
-  phich-at m h t = phich-is (p .cell .identity) (p .cell .blocks) (unitsOf (p .cell)) m (symbolNumber (p .cell) t) (carrierOf (p .cell) t) h
+  phich-at m h t = phich-is (p .cell .identity) (p .cell .blocks) (unitsOf (p .cell)) m (symbolAt (p .cell) t) (carrierAt (p .cell) t) h
 
   no-unit : (m : ℕ) → unitsOf (p .cell) ≤ m → (t : ℕ) → ownsAt w p (Phich m) t ≡ false
   unfolding ownsAt owns fixedRule
-  no-unit m h t = phich-none (p .cell .identity) (p .cell .blocks) (unitsOf (p .cell)) m (symbolNumber (p .cell) t) (carrierOf (p .cell) t) h
+  no-unit m h t = phich-none (p .cell .identity) (p .cell .blocks) (unitsOf (p .cell)) m (symbolAt (p .cell) t) (carrierAt (p .cell) t) h
 
   pcfich-listed : Listed (ownsAt w p Pcfich) (placesOf (p .cell)) 16 (placeOf w p Pcfich) (indexOf w p Pcfich)
   unfolding placeOf indexOf placeBy indexBy orderOf

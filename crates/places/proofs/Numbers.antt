@@ -12,7 +12,7 @@ use Rattle.plan.specs.declared.Plan.{Plan}
 use Rattle.layout.specs.Rules.{slotLength}
 use Rattle.layout.specs.Owners.{symbols, carriers, owns}
 use Rattle.layout.specs.declared.Owner.{Owner}
-use Rattle.places.specs.Places.{placeNumber, symbolNumber, carrierOf, placesOf, ownsAt}
+use Rattle.places.specs.Places.{placeNumber, symbolAt, carrierAt, placesOf, ownsAt}
 
 pub slot-length : (e : ℕ) → (6 ≤ slotLength e) × (slotLength e ≤ 7)
 unfolding slotLength
@@ -26,23 +26,23 @@ module _ (c : Cell) where
   pub symbols-least : 12 ≤ symbols c
   symbols-least = omega (arith, slot-length (c .prefix))
 
-  pub place-symbol : (s k : ℕ) → k < carriers c → symbolNumber c (placeNumber c s k) ≡ s
+  pub place-symbol : (s k : ℕ) → k < carriers c → symbolAt c (placeNumber c s k) ≡ s
   place-symbol s k h = at-div s (carriers c) k h
 
-  pub place-carrier : (s k : ℕ) → k < carriers c → carrierOf c (placeNumber c s k) ≡ k
+  pub place-carrier : (s k : ℕ) → k < carriers c → carrierAt c (placeNumber c s k) ≡ k
   place-carrier s k h = at-mod s (carriers c) k h
 
-  pub place-both : (t : ℕ) → placeNumber c (symbolNumber c t) (carrierOf c t) ≡ t
+  pub place-both : (t : ℕ) → placeNumber c (symbolAt c t) (carrierAt c t) ≡ t
   place-both t = div-add-mod' t (carriers c)
 
   pub place-inside : (s k : ℕ) → s < symbols c → k < carriers c → placeNumber c s k < placesOf c
   place-inside s k h l = omega (arith, row-inside s (symbols c) (carriers c) (suc k) h l)
 
   module _ (some : 0 < carriers c) (t : ℕ) where
-    pub carrier-inside : carrierOf c t < carriers c
+    pub carrier-inside : carrierAt c t < carriers c
     carrier-inside = mod-lt t some
 
-    pub symbol-inside : t < placesOf c → symbolNumber c t < symbols c
+    pub symbol-inside : t < placesOf c → symbolAt c t < symbols c
     symbol-inside h = div-lt-iff-lt-mul some .1 h
 
   pub first-row : carriers c ≤ placesOf c

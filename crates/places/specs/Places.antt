@@ -16,29 +16,29 @@ use Rattle.places.specs.Quads.{unitGroup, quadsPlace, quadsIndex}
 abbrev pub placeNumber : Cell → ℕ → ℕ → ℕ
 placeNumber c s k = s * carriers c + k
 
-abbrev pub symbolNumber : Cell → ℕ → ℕ
-symbolNumber c t = t / carriers c
+abbrev pub symbolAt : Cell → ℕ → ℕ
+symbolAt c t = t / carriers c
 
-abbrev pub carrierOf : Cell → ℕ → ℕ
-carrierOf c t = t % carriers c
+abbrev pub carrierAt : Cell → ℕ → ℕ
+carrierAt c t = t % carriers c
 
 abbrev pub placesOf : Cell → ℕ
 placesOf c = symbols c * carriers c
 
 -- the owner's rule at place number t
 unfoldable pub ownsAt : List ℕ → Plan → Owner → ℕ → Bool
-ownsAt w p o t = owns w p o (symbolNumber (p .cell) t) (carrierOf (p .cell) t)
+ownsAt w p o t = owns w p o (symbolAt (p .cell) t) (carrierAt (p .cell) t)
 
 -- "its element count (a user's G) is the number of its places, ports not multiplied"
 unfoldable pub placeCount : List ℕ → Plan → Owner → ℕ
 placeCount w p o = cnt (ownsAt w p o) (placesOf (p .cell))
 
 -- the order of an owner's places: "k first, then s", or by quads, n of them, quad i in group `group i` of symbol 0
-pub data Order : Type 0 where
-  ascending : Order
-  quads : ℕ → (ℕ → ℕ) → Order
+pub data FillingOrder : Type 0 where
+  ascending : FillingOrder
+  quads : ℕ → (ℕ → ℕ) → FillingOrder
 
-unfoldable pub orderOf : Cell → Owner → Order
+unfoldable pub orderOf : Cell → Owner → FillingOrder
 orderOf c (Crs q) = ascending
 orderOf c (Sync m) = ascending
 orderOf c Pbch = ascending
@@ -48,13 +48,13 @@ orderOf c (UserOf i) = ascending
 orderOf c Held = ascending
 orderOf c Idle = ascending
 
-unfoldable pub placeBy : Cell → (ℕ → Bool) → Order → ℕ → ℕ
+unfoldable pub placeBy : Cell → (ℕ → Bool) → FillingOrder → ℕ → ℕ
 placeBy c own ascending j = nth own (placesOf c) j
 placeBy c own (quads n group) j = placeNumber c 0 (quadsPlace (c .identity) group j)
 
-unfoldable pub indexBy : Cell → (ℕ → Bool) → Order → ℕ → ℕ
+unfoldable pub indexBy : Cell → (ℕ → Bool) → FillingOrder → ℕ → ℕ
 indexBy c own ascending t = cnt own t
-indexBy c own (quads n group) t = quadsIndex (c .identity) n group (carrierOf c t)
+indexBy c own (quads n group) t = quadsIndex (c .identity) n group (carrierAt c t)
 
 -- THE PLACE of the owner's index j, and the index of its place t
 unfoldable pub placeOf : List ℕ → Plan → Owner → ℕ → ℕ

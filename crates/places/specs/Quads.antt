@@ -1,5 +1,5 @@
 -- What the promises cite: the groups of PCFICH and of the PHICH units, and the four places of a group. Document 01, Owners; in its
--- letters: C identity, N blocks, g a group of symbol 0, k a subcarrier, m a unit.
+-- letters: C identity, N blocks, k a subcarrier, m a unit; t is a group of symbol 0.
 use Prim.Native.Nat.{ℕ, _+_, _*_, _/_, _%_, _<_}
 use mathlib.Core.Path.{_≡_}
 use mathlib.Core.Bool.{Bool, not}
@@ -11,9 +11,9 @@ use Rattle.places.specs.Counts.{cnt, nth, which}
 unfoldable pub keeps : ℕ → ℕ → Bool
 keeps v k = not (eqb (k % 3) v)
 
--- the subcarrier of the j-th place of group g, in ascending k (36.211 6.2.4), and which of its group's places k is
+-- the subcarrier of the j-th place of group t, in ascending k (36.211 6.2.4), and which of its group's places k is
 unfoldable pub quadPlace : ℕ → ℕ → ℕ → ℕ
-quadPlace C g j = 6 * g + nth (keeps (C % 3)) 6 j
+quadPlace C t j = 6 * t + nth (keeps (C % 3)) 6 j
 
 unfoldable pub quadIndex : ℕ → ℕ → ℕ
 quadIndex C k = cnt (keeps (C % 3)) (k % 6)

@@ -1,4 +1,4 @@
--- Laws that the proofs cite. For the crates above: Valid, Counts, RowLaws, Entries, Reading. About lists alone: OneOf, Listed, Few.
+-- Laws that the proofs cite. For the crates above: Valid, Counts, RowLaws, Entries, Reading, Answers. About lists alone: OneOf, Listed, Few.
 pub mod OneOf
 pub mod Listed
 pub mod Few

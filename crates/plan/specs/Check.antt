@@ -44,7 +44,7 @@ refusalNumber SpareBit = 12
 refusalNumber NoPayload = 13
 
 -- what the commands so far have given. stage 0: none, 1: CELL, 2: FRAME and any HIs, 3: a USER, 4: END.
--- start: the bytes of CELL and FRAME
+-- start: how many bytes CELL and FRAME have
 pub record State : Type 0 where
   pub stage : ℕ
   pub cell : Cell

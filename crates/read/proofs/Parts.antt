@@ -17,7 +17,7 @@ use Rattle.base.specs.Choice.{if_then_else_}
 use Rattle.payload.specs.Sections.{sectionBytes, bytesOf, startOf}
 use Rattle.payload.specs.Payload.{pbchBits, userBits, heads, userSections, payloadLength, usersStart}
 use Rattle.payload.proofs.Sections.{userStart, user-start}
-use Rattle.subframe.specs.Elements.{userNumber}
+use Rattle.subframe.specs.Elements.{nthUser}
 use Rattle.recovery.specs.Recovery.{pbchBit, ackBit, userBit, sectionOf, usersIn, payloadIn}
 use Rattle.recovery.proofs.Payload.{size}
 use Rattle.read.specs.Reading.{ReadTo}
@@ -92,9 +92,9 @@ module _ (w : List ℕ) (p : Plan) (g : List ℕ) where
 
   pub user-part :
       (i : ℕ) → i < length (usersOf w p) → (start end : ℕ) → start ≡ userStart w p i
-      → end ≡ start + sectionBytes (userBits (p .cell) (p .frame) (userNumber w p i))
-      → take (end - start) (drop start (payloadIn w p g)) ≡ sectionOf (userBit w p g i (userNumber w p i)) (userBits (p .cell) (p .frame) (userNumber w p i))
-  unfolding payloadIn usersStart heads bytesOf userNumber
+      → end ≡ start + sectionBytes (userBits (p .cell) (p .frame) (nthUser w p i))
+      → take (end - start) (drop start (payloadIn w p g)) ≡ sectionOf (userBit w p g i (nthUser w p i)) (userBits (p .cell) (p .frame) (nthUser w p i))
+  unfolding payloadIn usersStart heads bytesOf nthUser
   user-part i in-i start end es ee =
       let d : User = record { rnti = 0; order = 0; first = 0; count = 0 } in
       let x : ℕ = sectionBytes (pbchBits (p .cell) (p .frame)) in

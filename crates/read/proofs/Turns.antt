@@ -21,7 +21,7 @@ use Rattle.payload.specs.Payload.{pbchBits, userBits, heads, payloadLength, use
 use Rattle.payload.specs.Loops.{UserReady}
 use Rattle.payload.proofs.Lengths.{pbch-none}
 use Rattle.payload.proofs.Sections.{userStart, user-start-first, user-start-end}
-use Rattle.subframe.specs.Elements.{userInit, userNumber}
+use Rattle.subframe.specs.Elements.{userInit, nthUser}
 use Rattle.subframe.proofs.OwnerBits.{pbch-size, user-order, user-places}
 use Rattle.recovery.specs.Recovery.{sectionOf, payloadIn}
 use Rattle.recovery.proofs.Channels.{pbch-length}
@@ -139,7 +139,7 @@ module _ (w : List ℕ) (p : Plan) (g : List ℕ) {before : List ℕ} (start : R
     in-i : i < length (usersOf w p)
     in-i = omega (arith, valid w p ok .users-count)
 
-    user-is : u ≡ userNumber w p i
+    user-is : u ≡ nthUser w p i
     user-is = eu ∙ from-user w p at i (so .users) in-i more
 
     pub going-ready : UserReady (p .cell) (p .frame) u
@@ -163,21 +163,21 @@ module _ (w : List ℕ) (p : Plan) (g : List ℕ) {before : List ℕ} (start : R
       going-room = (omega arith, omega (arith, end-room, so .read .size))
 
       module _ (a : Area) (ea : a ≡ userArea (p .cell) (p .frame) u) where
-        user-bits : userNumber w p i .order * areaCount (userArea (p .cell) (p .frame) (userNumber w p i)) ≡ userBits (p .cell) (p .frame) (userNumber w p i)
-        unfolding userBits userNumber
+        user-bits : nthUser w p i .order * areaCount (userArea (p .cell) (p .frame) (nthUser w p i)) ≡ userBits (p .cell) (p .frame) (nthUser w p i)
+        unfolding userBits nthUser
         user-bits =
-            ap (λ (n : ℕ). userNumber w p i .order * n) (user-count w p ok i in-i (record { rnti = 0; order = 0; first = 0; count = 0 }) ∙ user-places w p ok i in-i)
+            ap (λ (n : ℕ). nthUser w p i .order * n) (user-count w p ok i in-i (record { rnti = 0; order = 0; first = 0; count = 0 }) ∙ user-places w p ok i in-i)
 
-        ends : end ≡ from + sectionBytes (userBits (p .cell) (p .frame) (userNumber w p i))
+        ends : end ≡ from + sectionBytes (userBits (p .cell) (p .frame) (nthUser w p i))
         ends = ee ∙ ap (λ (v : User). from + sectionBytes (userBits (p .cell) (p .frame) v)) user-is
 
-        area-is : a ≡ userArea (p .cell) (p .frame) (userNumber w p i)
+        area-is : a ≡ userArea (p .cell) (p .frame) (nthUser w p i)
         area-is = ea ∙ ap (userArea (p .cell) (p .frame)) user-is
 
         pub going-in : SectionIn a (u .order) g × (length (take (end - from) (drop from payload)) ≡ sectionBytes (u .order * areaCount a))
-        unfolding userNumber
+        unfolding nthUser
         going-in =
-            let U : User = userNumber w p i in
+            let U : User = nthUser w p i in
             subst (λ (b : Area). SectionIn b (u .order) g × (length (take (end - from) (drop from payload)) ≡ sectionBytes (u .order * areaCount b))) (sym area-is)
             (subst (λ (v : User). SectionIn (userArea (p .cell) (p .frame) U) (v .order) g × (length (take (end - from) (drop from payload)) ≡ sectionBytes (v .order * areaCount (userArea (p .cell) (p .frame) U)))) (sym user-is) (
               record {

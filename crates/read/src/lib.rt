@@ -10,6 +10,7 @@ ghost use Rattle.payload.specs.Sections.{sectionBytes};
 ghost use Rattle.payload.specs.Payload.{pbchBits, usersStart};
 ghost use Rattle.recovery.specs.Recovery.{payloadIn};
 ghost use Rattle.read.specs.Read.{Reads, readAnswer};
+ghost use Rattle.read.specs.Equation.{readOf, payloadAfter};
 ghost use Rattle.read.specs.Reading.{Readable, ReadTo};
 
 // The count of user elements, ports not multiplied, or the refusal.
@@ -79,7 +80,11 @@ fn read_sections(plan: &[u8], p: Plan, grid: &[u8], payload: &mut [u8])
 
 // READ: the payload of a grid. It goes on only if the plan check answers with a plan.
 pub fn read(plan: &[u8], grid: &[u8], payload: &mut [u8]) -> ReadBack
-    ensures { λ r. ⌜ Reads (now (plan .entry)) (now (grid .entry)) (now (payload .entry)) (readAnswer r) (now (payload .exit)) ⌝ }
+    ensures { λ r. ⌜
+        (readAnswer r ≡ readOf (now (plan .entry)) (now (grid .entry)) (now (payload .entry)))
+        × (now (payload .exit) ≡ payloadAfter (now (plan .entry)) (now (grid .entry)) (now (payload .entry)))
+        × Reads (now (plan .entry)) (now (grid .entry)) (now (payload .entry)) (readAnswer r) (now (payload .exit))
+        ⌝ }
 {
     let checked = plan::check(plan);
     let Checked::Plan(p) = checked else {

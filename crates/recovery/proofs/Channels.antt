@@ -30,11 +30,11 @@ use Rattle.plan.specs.declared.Plan.{Plan}
 use Rattle.plan.specs.declared.Checked.the-variants.{Plan as accepted}
 use Rattle.layout.specs.declared.Owner.{Owner}
 use Rattle.layout.specs.declared.Owner.the-variants.{Pbch, User as UserOf}
-use Rattle.places.specs.Places.{symbolNumber, carrierOf, placeCount, placeOf}
+use Rattle.places.specs.Places.{symbolAt, carrierAt, placeCount, placeOf}
 use Rattle.payload.specs.Sections.{startOf, sectionBits}
 use Rattle.payload.specs.Payload.{pbchBits, userBits, heads, sections}
 use Rattle.payload.specs.Bits.{ownerBits}
-use Rattle.subframe.specs.Elements.{ownerBit, pbchFirst, pbchSymbol, userInit, userNumber, userSymbol, elementFor}
+use Rattle.subframe.specs.Elements.{ownerBit, pbchFirst, pbchSymbol, userInit, nthUser, userSymbol, elementFor}
 use Rattle.subframe.specs.Grid.{gridOf}
 use Rattle.subframe.proofs.DataBuilds.{Sends}
 use Rattle.subframe.proofs.Owned.{index-back}
@@ -75,8 +75,8 @@ module _
     symbol-back j l =
         let d : ℕ → Pair = dataSymbol Q (ownerBit w p A o) x in
         let q : ℕ = ownPort (p .cell .ports) (j / 2) in
-        let s : ℕ = symbolNumber (p .cell) (placeOf w p o j) in
-        let k : ℕ = carrierOf (p .cell) (placeOf w p o j) in
+        let s : ℕ = symbolAt (p .cell) (placeOf w p o j) in
+        let k : ℕ = carrierAt (p .cell) (placeOf w p o j) in
         let in-port : q < p .cell .ports = own-inside (j / 2) occurs in
         let h : Small 7 (d j) = order-symbol Q order (ownerBit w p A o) x j in
         symbol-in w p ok o A (j / 2) j l in-port
@@ -104,8 +104,8 @@ module _ (w : List ℕ) (p : Plan) (ok : checkOf w ≡ accepted p) where
   pbch-fits i l = omega (arith, pbch-length, pbch-size w p ok)
 
   user-fits :
-      (i : ℕ) → i < length (usersOf w p) → (n : ℕ) → n < userBits (p .cell) (p .frame) (userNumber w p i)
-      → n < userNumber w p i .order * placeCount w p (UserOf i)
+      (i : ℕ) → i < length (usersOf w p) → (n : ℕ) → n < userBits (p .cell) (p .frame) (nthUser w p i)
+      → n < nthUser w p i .order * placeCount w p (UserOf i)
   unfolding userBits
   user-fits i in-i n l = rw (user-places w p ok i in-i) l
 
@@ -118,9 +118,9 @@ module _ (w : List ℕ) (p : Plan) (ok : checkOf w ≡ accepted p) where
       (λ port s k. refl) i (pbch-fits w p ok i l)
 
   pub user-recovered :
-      (i : ℕ) → i < length (usersOf w p) → (A : List ℕ) (n : ℕ) → n < userBits (p .cell) (p .frame) (userNumber w p i)
-      → userBit w p (gridOf w p A) i (userNumber w p i) n ≡ ownerBit w p A (UserOf i) n
+      (i : ℕ) → i < length (usersOf w p) → (A : List ℕ) (n : ℕ) → n < userBits (p .cell) (p .frame) (nthUser w p i)
+      → userBit w p (gridOf w p A) i (nthUser w p i) n ≡ ownerBit w p A (UserOf i) n
   unfolding userBit elementFor userSymbol
   user-recovered i in-i A n l =
-      data-back w p ok A (UserOf i) (userNumber w p i .order) (unitOf (userNumber w p i .order)) (c (userInit (p .cell) (p .frame) (userNumber w p i)))
+      data-back w p ok A (UserOf i) (nthUser w p i .order) (unitOf (nthUser w p i .order)) (c (userInit (p .cell) (p .frame) (nthUser w p i)))
       (user-order w p ok i in-i) (user-occurs w p ok i in-i) (λ port s k. refl) n (user-fits w p ok i in-i n l)

@@ -19,7 +19,7 @@ use Rattle.layout.specs.declared.Mark.the-variants.{Primary, Secondary}
 use Rattle.layout.specs.declared.Owner.{Owner}
 use Rattle.layout.specs.declared.Owner.the-variants.{Crs, Sync, Pbch, Pcfich, Phich, User as UserOf, Held, Idle}
 use Rattle.layout.proofs.OneOwner.{one-owner}
-use Rattle.places.specs.Places.{symbolNumber, carrierOf, placesOf}
+use Rattle.places.specs.Places.{symbolAt, carrierAt, placesOf}
 use Rattle.places.proofs.Numbers.{place-both, symbol-inside, carrier-inside, first-row}
 use Rattle.places.proofs.Listing.{some-carriers}
 use Rattle.payload.specs.Payload.{gridLength, payloadLength, AcceptedPayload}
@@ -64,8 +64,8 @@ module _ (w : List ℕ) (p : Plan) (ok : checkOf w ≡ accepted-plan p) where
         let e : ℕ = i / 3 in
         let port : ℕ = e / T in
         let t : ℕ = e % T in
-        let s : ℕ = symbolNumber (p .cell) t in
-        let k : ℕ = carrierOf (p .cell) t in
+        let s : ℕ = symbolAt (p .cell) t in
+        let k : ℕ = carrierAt (p .cell) t in
         let some : 0 < carriers (p .cell) = some-carriers w p ok in
         let some-places : 0 < T = omega (arith, first-row (p .cell)) in
         let in-grid : e < p .cell .ports * T = omega (arith, length-by-port p) in

@@ -20,7 +20,7 @@ use Rattle.payload.specs.Sections.{startOf, span, sectionBits}
 use Rattle.payload.specs.Payload.{pbchBits, userBits, heads, userSections, sections, payloadLength, spareBits, AcceptedPayload}
 use Rattle.payload.specs.Bits.{ownerBits}
 use Rattle.payload.proofs.Sections.{userStart, user-bits-at}
-use Rattle.subframe.specs.Elements.{ownerBit, hiBit, userNumber}
+use Rattle.subframe.specs.Elements.{ownerBit, hiBit, nthUser}
 use Rattle.subframe.proofs.OwnerBits.{span-length, span-at}
 use Rattle.recovery.specs.Recovery.{dataBit, pbchBit, userBit, ackBit, sectionOf, usersIn, payloadIn}
 use Rattle.recovery.proofs.Sections.{sectionsOf, sections-length, sections-bytes, sections-bit, sections-spare}
@@ -51,13 +51,13 @@ module _ (w : List ℕ) (p : Plan) (g : List ℕ) where
   bitsIn : ℕ → ℕ → ℕ
   bitsIn zero = pbchBit w p g
   bitsIn (suc zero) = ackBit w p g
-  bitsIn (suc (suc i)) = userBit w p g i (userNumber w p i)
+  bitsIn (suc (suc i)) = userBit w p g i (nthUser w p i)
 
   bits-two : (k i : ℕ) → bitsIn k i < 2
   unfolding bitsIn
   bits-two zero i = pbch-two i
   bits-two (suc zero) i = ack-two i
-  bits-two (suc (suc k)) i = user-two k (userNumber w p k) i
+  bits-two (suc (suc k)) i = user-two k (nthUser w p k) i
 
   -- ---- the payload is made of them
   users-in :
@@ -73,7 +73,7 @@ module _ (w : List ℕ) (p : Plan) (g : List ℕ) where
       ∙ ap (λ (bits : ℕ → ℕ → ℕ). sectionsOf bits (userSections (p .cell) (p .frame) us)) (λ t k. userBit w p g (e k t) (getD us k d)))
 
   payload-in : payloadIn w p g ≡ sectionsOf bitsIn (sections w p)
-  unfolding payloadIn sectionsOf sections heads bitsIn userNumber
+  unfolding payloadIn sectionsOf sections heads bitsIn nthUser
   payload-in =
       let d : User = record { rnti = 0; order = 0; first = 0; count = 0 } in
       let e : (k : ℕ) → 0 + k ≡ k = λ k. omega arith in
@@ -113,24 +113,24 @@ module _ (w : List ℕ) (p : Plan) (g : List ℕ) where
   hi-bit n l = bit-of 1 n l
 
   module _ (i : ℕ) (in-i : i < length (usersOf w p)) where
-    user-span : ownerBits w p (UserOf i) ≡ span (8 * userStart w p i) (userBits (p .cell) (p .frame) (userNumber w p i))
-    unfolding userNumber
+    user-span : ownerBits w p (UserOf i) ≡ span (8 * userStart w p i) (userBits (p .cell) (p .frame) (nthUser w p i))
+    unfolding nthUser
     user-span = user-bits-at w p (record { rnti = 0; order = 0; first = 0; count = 0 }) i in-i
 
-    pub user-length : length (ownerBits w p (UserOf i)) ≡ userBits (p .cell) (p .frame) (userNumber w p i)
-    user-length = ap length user-span ∙ span-length (8 * userStart w p i) (userBits (p .cell) (p .frame) (userNumber w p i))
+    pub user-length : length (ownerBits w p (UserOf i)) ≡ userBits (p .cell) (p .frame) (nthUser w p i)
+    user-length = ap length user-span ∙ span-length (8 * userStart w p i) (userBits (p .cell) (p .frame) (nthUser w p i))
 
-    user-section : getD (sections w p) (length (heads p) + i) 0 ≡ userBits (p .cell) (p .frame) (userNumber w p i)
+    user-section : getD (sections w p) (length (heads p) + i) 0 ≡ userBits (p .cell) (p .frame) (nthUser w p i)
     unfolding ownerBits sectionBits
     user-section = sym (span-length (8 * userStart w p i) (getD (sections w p) (length (heads p) + i) 0)) ∙ user-length
 
     pub user-bit :
-        (n : ℕ) → n < userBits (p .cell) (p .frame) (userNumber w p i)
-        → ownerBit w p (payloadIn w p g) (UserOf i) n ≡ userBit w p g i (userNumber w p i) n
+        (n : ℕ) → n < userBits (p .cell) (p .frame) (nthUser w p i)
+        → ownerBit w p (payloadIn w p g) (UserOf i) n ≡ userBit w p g i (nthUser w p i) n
     unfolding ownerBit heads bitsIn
     user-bit n l =
         let e : length (heads p) + i ≡ suc (suc i) = omega arith in
         ap (bitAt (payloadIn w p g))
-        (ap (λ (x : List ℕ). getD x n 0) user-span ∙ span-at (8 * userStart w p i) (userBits (p .cell) (p .frame) (userNumber w p i)) n l)
+        (ap (λ (x : List ℕ). getD x n 0) user-span ∙ span-at (8 * userStart w p i) (userBits (p .cell) (p .frame) (nthUser w p i)) n l)
         ∙ bit-of (length (heads p) + i) n (rw user-section l)
         ∙ ap (λ (k : ℕ). bitsIn k n) e

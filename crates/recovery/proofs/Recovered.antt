@@ -22,7 +22,7 @@ use Rattle.payload.specs.Payload.{pbchBits, userBits, heads, userSections, sect
 use Rattle.payload.specs.Bits.{ownerBits}
 use Rattle.payload.proofs.Sections.{userStart, users-length}
 use Rattle.payload.proofs.EveryBit.{same-bits}
-use Rattle.subframe.specs.Elements.{hiBit, userNumber}
+use Rattle.subframe.specs.Elements.{hiBit, nthUser}
 use Rattle.subframe.specs.Grid.{gridOf}
 use Rattle.subframe.specs.TwoBuilds.{SameBits}
 use Rattle.subframe.proofs.OwnerBits.{bits-same}
@@ -69,7 +69,7 @@ module _ (w : List ℕ) (p : Plan) (ok : checkOf w ≡ accepted-plan p) (A : Lis
       let in-i : i < length (usersOf w p) = ltb-true i (length (usersOf w p)) e in
       bits-same w p (UserOf i) B A .1
       (λ n l.
-      let k : n < userBits (p .cell) (p .frame) (userNumber w p i) = omega (arith, user-length w p (gridOf w p A) i in-i) in
+      let k : n < userBits (p .cell) (p .frame) (nthUser w p i) = omega (arith, user-length w p (gridOf w p A) i in-i) in
       user-bit w p (gridOf w p A) i in-i n k ∙ user-recovered w p ok i in-i A n k))
       (λ e.
       subst (Every (λ (b : ℕ). bitAt B b ≡ bitAt A b)) (sym (no-user w p i (ltb-false i (length (usersOf w p)) e))) tt)

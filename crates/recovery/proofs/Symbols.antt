@@ -18,7 +18,7 @@ use Rattle.plan.specs.declared.Plan.{Plan}
 use Rattle.plan.specs.declared.Checked.the-variants.{Plan as accepted}
 use Rattle.layout.specs.Owners.{symbols, carriers}
 use Rattle.layout.specs.declared.Owner.{Owner}
-use Rattle.places.specs.Places.{symbolNumber, carrierOf, placesOf, placeCount, placeOf}
+use Rattle.places.specs.Places.{symbolAt, carrierAt, placesOf, placeCount, placeOf}
 use Rattle.places.proofs.Numbers.{place-both}
 use Rattle.subframe.specs.Elements.{elementFor}
 use Rattle.subframe.specs.Grid.{gridOf}
@@ -53,13 +53,13 @@ module _ (w : List ℕ) (p : Plan) (ok : checkOf w ≡ accepted p) (o : Owner) (
   pub symbol-in :
       ownPort (p .cell .ports) turn < p .cell .ports
       → symbolIn w p (gridOf w p A) o turn j
-      ≡ pairOf (elementFor w p A o (ownPort (p .cell .ports) turn) (symbolNumber (p .cell) (placeOf w p o j)) (carrierOf (p .cell) (placeOf w p o j)))
+      ≡ pairOf (elementFor w p A o (ownPort (p .cell .ports) turn) (symbolAt (p .cell) (placeOf w p o j)) (carrierAt (p .cell) (placeOf w p o j)))
   unfolding symbolIn
   symbol-in in-port =
       let q : ℕ = ownPort (p .cell .ports) turn in
       let t : ℕ = placeOf w p o j in
-      let s : ℕ = symbolNumber (p .cell) t in
-      let k : ℕ = carrierOf (p .cell) t in
+      let s : ℕ = symbolAt (p .cell) t in
+      let k : ℕ = carrierAt (p .cell) t in
       let e : ℕ = (q * symbols (p .cell) + s) * carriers (p .cell) + k in
       let at : e ≡ q * placesOf (p .cell) + t =
       number-is q (symbols (p .cell)) s (carriers (p .cell)) k ∙ ap (λ (n : ℕ). q * placesOf (p .cell) + n) (place-both (p .cell) t) in

@@ -16,7 +16,7 @@ use mir.Val.{SFits}
 use Rattle.base.specs.Signs.{negative}
 use Rattle.base.proofs.Computed.{allBelow, below-at, every}
 use Rattle.base.proofs.Fits.{abs8}
-use Rattle.sample.specs.declared.Row.{Row}
+use Rattle.sample.specs.declared.UnitRow.{UnitRow}
 use Rattle.sample.specs.declared.Scale.the-variants.{Levels}
 use Rattle.sample.specs.Units.{rows, scaleOf}
 use Rattle.sample.specs.Answer.{partOf}
@@ -82,16 +82,16 @@ closed u z (fin s m e) h =
     }
 
 -- ---- each level of a row, 0 or above and below 0
-abbrev above : Row → ℕ → Bool
+abbrev above : UnitRow → ℕ → Bool
 above r n = close (r .unit) (pos n) (partOf (r .gain) (pos n))
 
-abbrev under : Row → ℕ → Bool
+abbrev under : UnitRow → ℕ → Bool
 under r n = close (r .unit) (negsuc n) (partOf (r .gain) (negsuc n))
 
-abbrev levels : Row → Bool
+abbrev levels : UnitRow → Bool
 levels r = allBelow (above r) (suc (r .limit)) && allBelow (under r) (r .limit)
 
-levels-at : (r : Row) → T (levels r) → (z : ℤ) → natAbs z ≤ r .limit → T (close (r .unit) z (partOf (r .gain) z))
+levels-at : (r : UnitRow) → T (levels r) → (z : ℤ) → natAbs z ≤ r .limit → T (close (r .unit) z (partOf (r .gain) z))
 levels-at r t (pos n) h =
     below-at (above r) (suc (r .limit)) (and-l (allBelow (above r) (suc (r .limit))) (allBelow (under r) (r .limit)) t) n (suc-le-suc h)
 levels-at r t (negsuc n) h =
@@ -103,6 +103,6 @@ unfolding mul ofInt ofBits
 passes = tt
 
 -- THE BOUND: for the unit of each row and each level z up to its limit
-pub bound : (b : ℕ) (r : Row) (z : ℤ) → scaleOf b ≡ Levels r → natAbs z ≤ r .limit → Close (r .unit) z (partOf (r .gain) z)
+pub bound : (b : ℕ) (r : UnitRow) (z : ℤ) → scaleOf b ≡ Levels r → natAbs z ≤ r .limit → Close (r .unit) z (partOf (r .gain) z)
 unfolding scaleOf
 bound b r z e h = closed (r .unit) z (partOf (r .gain) z) (levels-at r (found levels rows passes b r e) z h)

@@ -14,7 +14,7 @@ use lib.Ieee.Exact.{HasValue}
 use lib.Ieee.Positive.{positive}
 use lib.Ieee.Fits.{and-l, and-r, down-pos}
 use Rattle.base.proofs.Computed.{every}
-use Rattle.sample.specs.declared.Row.{Row}
+use Rattle.sample.specs.declared.UnitRow.{UnitRow}
 use Rattle.sample.specs.declared.Scale.{Scale}
 use Rattle.sample.specs.declared.Scale.the-variants.{Levels}
 use Rattle.sample.specs.Units.{rows, scaleOf, gainOf}
@@ -158,7 +158,7 @@ unfolding ofBits toBits
 passes = tt
 
 -- THE GAIN: of each row
-nearest : (b : ℕ) (r : Row) → scaleOf b ≡ Levels r → Nearest (r .unit) (r .gain)
+nearest : (b : ℕ) (r : UnitRow) → scaleOf b ≡ Levels r → Nearest (r .unit) (r .gain)
 unfolding scaleOf
 nearest b r e = central-at (r .unit) (r .gain) (found (λ r. central (r .unit) (r .gain)) rows passes b r e)
 

@@ -8,7 +8,7 @@ use lib.Ieee.Exact.{HasValue}
 use Rattle.base.specs.Bytes.{signedOf}
 use Rattle.base.specs.Signs.{negative}
 use Rattle.sample.specs.declared.Point.{Point}
-use Rattle.sample.specs.declared.Row.{Row}
+use Rattle.sample.specs.declared.UnitRow.{UnitRow}
 use Rattle.sample.specs.declared.Sample.the-variants.{At}
 use Rattle.sample.specs.declared.SampleAnswer.{SampleAnswer}
 use Rattle.sample.specs.declared.SampleAnswer.the-variants.{Is}
@@ -25,11 +25,11 @@ pub record Exact (z : ℤ) (r : Float) : Type 0 where
 -- Samples: "the gain is the f32 nearest 1/√u"; u is the unit, not its byte
 pub record Gained (b : ℕ) (r : Float) : Type 0 where
   pub value : r ≡ gainOf (scaleOf b)
-  pub nearest : (w : Row) → scaleOf b ≡ Levels w → Nearest (w .unit) r
+  pub nearest : (w : UnitRow) → scaleOf b ≡ Levels w → Nearest (w .unit) r
 
 -- x and y are samples of the levels I and J of the byte's unit u: finite, and within the bound of I / √u and J / √u
 pub record Levelled (b : ℕ) (i j : ℤ) (x y : Float) : Type 0 where
-  pub row : Row
+  pub row : UnitRow
   pub known : scaleOf b ≡ Levels row
   pub re : Close (row .unit) i x
   pub im : Close (row .unit) j y

@@ -5,30 +5,30 @@ use mathlib.Core.List.{List, [], _∷_}
 use lib.Dec.{eqb}
 use lib.IntN.{pos}
 use lib.Ieee.{Float, fin, binary32, ofBits}
-use Rattle.sample.specs.declared.Row.{Row}
+use Rattle.sample.specs.declared.UnitRow.{UnitRow}
 use Rattle.sample.specs.declared.Scale.{Scale}
 use Rattle.sample.specs.declared.Scale.the-variants.{Levels, Nothing}
 
 -- A row: the unit's byte in the grid, the unit (document 01's term: u of (I + jJ)/√u), the largest level either way, the bits of the gain, an f32.
 -- The byte and the unit are apart, since a unit above 255 has another byte.
-abbrev pub row : ℕ → ℕ → ℕ → ℕ → Row
-row b u l bits = record { byte = b; unit = u; limit = l; gain = ofBits binary32 bits }
+abbrev pub unitRow : ℕ → ℕ → ℕ → ℕ → UnitRow
+unitRow b u l bits = record { byte = b; unit = u; limit = l; gain = ofBits binary32 bits }
 
 -- Document 01, Grid: "Units: 1, 2, 4, 10, 20, 42, 84", each its own byte. Refusals, 9: no "level beyond ±8", the same for each of them.
 -- Samples: "the gain is the f32 nearest 1/√u", which `Gained` of Promise says of each row.
-abbrev pub rows : List Row
+abbrev pub rows : List UnitRow
 rows =
-    row 1 1 8 0x3f80_0000
-    ∷ row 2 2 8 0x3f35_04f3
-    ∷ row 4 4 8 0x3f00_0000
-    ∷ row 10 10 8 0x3ea1_e89b
-    ∷ row 20 20 8 0x3e64_f92e
-    ∷ row 42 42 8 0x3e1e_01b3
-    ∷ row 84 84 8 0x3ddf_7483
+    unitRow 1 1 8 0x3f80_0000
+    ∷ unitRow 2 2 8 0x3f35_04f3
+    ∷ unitRow 4 4 8 0x3f00_0000
+    ∷ unitRow 10 10 8 0x3ea1_e89b
+    ∷ unitRow 20 20 8 0x3e64_f92e
+    ∷ unitRow 42 42 8 0x3e1e_01b3
+    ∷ unitRow 84 84 8 0x3ddf_7483
     ∷ []
 
 -- the first row with the byte
-abbrev pub seek : ℕ → List Row → Scale
+abbrev pub seek : ℕ → List UnitRow → Scale
 seek b [] = Nothing
 seek b (r ∷ rs) = cond (eqb b (r .byte)) (Levels r) (seek b rs)
 

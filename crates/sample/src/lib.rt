@@ -28,7 +28,7 @@ pub enum SampleAnswer {
 
 // A unit of levels: its byte in the grid, the unit u itself, the largest level either way, and the f32 nearest 1 / √u.
 // Nothing computes with u: it is what the contracts hold the gain and the samples to.
-struct Row {
+struct UnitRow {
     byte: u8,
     unit: u16,
     limit: u8,
@@ -36,51 +36,51 @@ struct Row {
 }
 
 enum Scale {
-    Levels(Row),
+    Levels(UnitRow),
     Nothing,
 }
 
 const COUNT: usize = 7;
 
 // The table of units. A new unit is a new row here and in specs/Units.antt.
-const ROWS: [Row; COUNT] = [
-    Row {
+const ROWS: [UnitRow; COUNT] = [
+    UnitRow {
         byte: 1,
         unit: 1,
         limit: 8,
         gain: 1.0,
     },
-    Row {
+    UnitRow {
         byte: 2,
         unit: 2,
         limit: 8,
         gain: 0.70710677,
     },
-    Row {
+    UnitRow {
         byte: 4,
         unit: 4,
         limit: 8,
         gain: 0.5,
     },
-    Row {
+    UnitRow {
         byte: 10,
         unit: 10,
         limit: 8,
         gain: 0.31622776,
     },
-    Row {
+    UnitRow {
         byte: 20,
         unit: 20,
         limit: 8,
         gain: 0.2236068,
     },
-    Row {
+    UnitRow {
         byte: 42,
         unit: 42,
         limit: 8,
         gain: 0.15430336,
     },
-    Row {
+    UnitRow {
         byte: 84,
         unit: 84,
         limit: 8,

@@ -26,7 +26,7 @@ use Rattle.plan.proofs.Listed.{and-left, and-right}
 use Rattle.layout.specs.Rules.{slotOf, inSlot, standsAt, shift, middle}
 use Rattle.layout.specs.Owners.{slotOfCell, symbols, carriers}
 use Rattle.counts.proofs.Ranges.{big}
-use Rattle.places.specs.Places.{symbolNumber, carrierOf, placesOf}
+use Rattle.places.specs.Places.{symbolAt, carrierAt, placesOf}
 use Rattle.places.proofs.Numbers.{slot-length}
 use Rattle.grid.specs.Writing.{Written}
 use Rattle.grid.proofs.Writing.{same}
@@ -91,7 +91,7 @@ module _ (c : Cell) (s q a first : ℕ) (ok : CellIn c) (in-s : s < symbols c)
   wide = big (c .blocks) (ok .blocks) .0
 
   there : (e : ℕ) → everySixth first (2 * c .blocks) e ≡ true
-      → (e / placesOf c ≡ q) × (symbolNumber c (e % placesOf c) ≡ s) × (carrierOf c (e % placesOf c) ≡ a + (e - first)) × ((e - first) % 6 ≡ 0)
+      → (e / placesOf c ≡ q) × (symbolAt c (e % placesOf c) ≡ s) × (carrierAt c (e % placesOf c) ≡ a + (e - first)) × ((e - first) % 6 ≡ 0)
   there e h =
       let d = sixth-of first (2 * c .blocks) e h in
       let x = e - first in
@@ -107,7 +107,7 @@ module _ (c : Cell) (s q a first : ℕ) (ok : CellIn c) (in-s : s < symbols c)
   unfolding crsSends standsAt
   sends e h =
       let d = there e h in
-      let k = carrierOf c (e % placesOf c) in
+      let k = carrierAt c (e % placesOf c) in
       let x = e - first in
       let m : k % 6 ≡ a = ap (λ (z : ℕ). z % 6) (d .2) ∙ residue a x small (d .3) in
       both (both (eq-eqb _ _ (d .0)) (eq-eqb _ _ (d .1))) (eq-eqb _ _ (m ∙ ea))
@@ -120,13 +120,13 @@ module _ (c : Cell) (s q a first : ℕ) (ok : CellIn c) (in-s : s < symbols c)
   sent e h =
       let T = placesOf c in
       let t = e % T in
-      let k = carrierOf c t in
+      let k = carrierAt c t in
       let u = eqb (e / T) q in
-      let v = eqb (symbolNumber c t) s in
+      let v = eqb (symbolAt c t) s in
       let z = eqb (k % 6) ((shift q (inSlot (slotOfCell c) s) (slotOf (slotOfCell c) s) + c .identity) % 6) in
       let uv : u && v ≡ true = and-left (u && v) z h in
       let m : k % 6 ≡ a = eqb-true _ _ (and-right (u && v) z h) ∙ sym ea in
-      let at : e ≡ q * T + (s * carriers c + k) = number-of (carriers c) T e ∙ (λ i. eqb-true (e / T) q (and-left u v uv) i * T + (eqb-true (symbolNumber c t) s (and-right u v uv) i * carriers c + k)) in
+      let at : e ≡ q * T + (s * carriers c + k) = number-of (carriers c) T e ∙ (λ i. eqb-true (e / T) q (and-left u v uv) i * T + (eqb-true (symbolAt c t) s (and-right u v uv) i * carriers c + k)) in
       let l : k < carriers c = mod-lt t (omega (arith, wide)) in
       let y : e ≡ first + (k - a) = omega arith in
       back (c .blocks) k a first e m y l
@@ -141,7 +141,7 @@ module _ (c : Cell) (s q a first : ℕ) (ok : CellIn c) (in-s : s < symbols c)
   unfolding pairSent crsSent
   crs-values r e h =
       let d = there e h in
-      ap (λ (m : ℕ). elementOf 2 (crsFrom r m)) (number (carrierOf c (e % placesOf c)) (e - first) (d .2) (d .3))
+      ap (λ (m : ℕ). elementOf 2 (crsFrom r m)) (number (carrierAt c (e % placesOf c)) (e - first) (d .2) (d .3))
     where
       number : (k x : ℕ) → k ≡ a + x → x % 6 ≡ 0 → x / 6 ≡ k / 6
       number k x e h = omega (arith, small)
@@ -173,7 +173,7 @@ module _ (c : Cell) (ok : CellIn c) (y first : ℕ) (in-y : (1 ≤ y) × (y ≤ 
   mark-wide = big (c .blocks) (ok .blocks) .0
 
   mark-there : (e : ℕ) → inRow first 62 e ≡ true
-      → (e / placesOf c ≡ 0) × (symbolNumber c (e % placesOf c) ≡ slotOfCell c - y) × (carrierOf c (e % placesOf c) ≡ 6 * c .blocks - 31 + (e - first))
+      → (e / placesOf c ≡ 0) × (symbolAt c (e % placesOf c) ≡ slotOfCell c - y) × (carrierAt c (e % placesOf c) ≡ 6 * c .blocks - 31 + (e - first))
   mark-there e h =
       let d = row-of first 62 e h in
       let x = e - first in
@@ -192,8 +192,8 @@ module _ (c : Cell) (ok : CellIn c) (y first : ℕ) (in-y : (1 ≤ y) × (y ≤ 
   mark-sends e h =
       let d = mark-there e h in
       let r = row-of first 62 e h in
-      let k = carrierOf c (e % placesOf c) in
-      let s : symbolNumber c (e % placesOf c) + y ≡ slotOfCell c = omega (arith, slot-length (c .prefix), d .1) in
+      let k = carrierAt c (e % placesOf c) in
+      let s : symbolAt c (e % placesOf c) + y ≡ slotOfCell c = omega (arith, slot-length (c .prefix), d .1) in
       let low : 6 * c .blocks ≤ k + 31 = omega (arith, mark-wide, d .2) in
       let high : k < 6 * c .blocks + 31 = omega (arith, mark-wide, d .2) in
       both (both (eq-eqb _ _ (d .0)) (eq-eqb _ _ s)) (both (le-leb _ _ low) (lt-ltb _ _ high))
@@ -203,25 +203,25 @@ module _ (c : Cell) (ok : CellIn c) (y first : ℕ) (in-y : (1 ≤ y) × (y ≤ 
   mark-sent e h =
       let T = placesOf c in
       let t = e % T in
-      let k = carrierOf c t in
+      let k = carrierAt c t in
       let N = c .blocks in
       let u = eqb (e / T) 0 in
-      let v = eqb (symbolNumber c t + y) (slotOfCell c) in
+      let v = eqb (symbolAt c t + y) (slotOfCell c) in
       let a = leb (6 * N) (k + 31) in
       let b = ltb k (6 * N + 31) in
       let uv : u && v ≡ true = and-left (u && v) (a && b) h in
       let ab : a && b ≡ true = and-right (u && v) (a && b) h in
       let low : 6 * N ≤ k + 31 = leb-true _ _ (and-left a b ab) in
       let high : k < 6 * N + 31 = ltb-true _ _ (and-right a b ab) in
-      let s : symbolNumber c t + y ≡ slotOfCell c = eqb-true _ _ (and-right u v uv) in
-      let s′ : symbolNumber c t ≡ slotOfCell c - y = omega arith in
+      let s : symbolAt c t + y ≡ slotOfCell c = eqb-true _ _ (and-right u v uv) in
+      let s′ : symbolAt c t ≡ slotOfCell c - y = omega arith in
       let at : e ≡ 0 * T + ((slotOfCell c - y) * carriers c + k) = number-of (carriers c) T e ∙ (λ i. eqb-true (e / T) 0 (and-left u v uv) i * T + (s′ i * carriers c + k)) in
       in-row first 62 e (omega arith) (omega (arith, mark-wide))
 
   pub mark-elements : (e : ℕ) → inRow first 62 e ≡ markSends c y e
   mark-elements e = same-test (inRow first 62 e) (markSends c y e) (mark-sends e) (mark-sent e)
 
-  mark-index : (e : ℕ) → inRow first 62 e ≡ true → e - first ≡ markNumber c (carrierOf c (e % placesOf c))
+  mark-index : (e : ℕ) → inRow first 62 e ≡ true → e - first ≡ markNumber c (carrierAt c (e % placesOf c))
   unfolding markNumber
   mark-index e h = let d = mark-there e h in omega (arith, mark-wide, d .2)
 

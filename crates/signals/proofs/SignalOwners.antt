@@ -28,7 +28,7 @@ use Rattle.layout.specs.Owners.{slotOfCell, fixedRule, owns}
 use Rattle.layout.specs.declared.Mark.the-variants.{Primary, Secondary}
 use Rattle.layout.specs.declared.Owner.the-variants.{Crs, Sync}
 use Rattle.counts.proofs.Ranges.{big}
-use Rattle.places.specs.Places.{symbolNumber, carrierOf, placesOf}
+use Rattle.places.specs.Places.{symbolAt, carrierAt, placesOf}
 use Rattle.subframe.specs.Elements.{crsElement, pssElement, sssElement}
 use Rattle.signals.specs.Signals.{crsSends, crsFrom, crsSent, markSends, pssSent, sssSent}
 
@@ -53,19 +53,19 @@ module _ (w : List ℕ) (p : Plan) where
   -- ---- reference signals
   module _ (q s e : ℕ) where
     crs-parts : crsSends (p .cell) s q e ≡ true
-        → (e / placesOf (p .cell) ≡ q) × (symbolNumber (p .cell) (e % placesOf (p .cell)) ≡ s)
-        × (standsAt (p .cell .identity) (carrierOf (p .cell) (e % placesOf (p .cell))) (shift q (inSlot (slotOfCell (p .cell)) s) (slotOf (slotOfCell (p .cell)) s)) ≡ true)
+        → (e / placesOf (p .cell) ≡ q) × (symbolAt (p .cell) (e % placesOf (p .cell)) ≡ s)
+        × (standsAt (p .cell .identity) (carrierAt (p .cell) (e % placesOf (p .cell))) (shift q (inSlot (slotOfCell (p .cell)) s) (slotOf (slotOfCell (p .cell)) s)) ≡ true)
     unfolding crsSends
     crs-parts h =
         let t = e % placesOf (p .cell) in
         let a = eqb (e / placesOf (p .cell)) q in
-        let b = eqb (symbolNumber (p .cell) t) s in
-        let d = standsAt (p .cell .identity) (carrierOf (p .cell) t) (shift q (inSlot (slotOfCell (p .cell)) s) (slotOf (slotOfCell (p .cell)) s)) in
+        let b = eqb (symbolAt (p .cell) t) s in
+        let d = standsAt (p .cell .identity) (carrierAt (p .cell) t) (shift q (inSlot (slotOfCell (p .cell)) s) (slotOf (slotOfCell (p .cell)) s)) in
         let ab : a && b ≡ true = and-left (a && b) d h in
         (eqb-true _ _ (and-left a b ab), eqb-true _ _ (and-right a b ab), and-right (a && b) d h)
 
     pub crs-sends : q < p .cell .ports → crsSymbol (slotOfCell (p .cell)) q (inSlot (slotOfCell (p .cell)) s) ≡ true → crsSends (p .cell) s q e ≡ true
-        → (owns w p (Crs q) s (carrierOf (p .cell) (e % placesOf (p .cell))) ≡ true) × (e / placesOf (p .cell) ≡ q) × (symbolNumber (p .cell) (e % placesOf (p .cell)) ≡ s)
+        → (owns w p (Crs q) s (carrierAt (p .cell) (e % placesOf (p .cell))) ≡ true) × (e / placesOf (p .cell) ≡ q) × (symbolAt (p .cell) (e % placesOf (p .cell)) ≡ s)
     unfolding owns fixedRule crs crsOf
     crs-sends l y h =
         let d = crs-parts h in
@@ -75,22 +75,22 @@ module _ (w : List ℕ) (p : Plan) where
     pub crs-value : checkOf w ≡ accepted p → crsSends (p .cell) s q e ≡ true
         → crsSent (p .cell)
         (pairAt (crsInit (p .cell .prefix) (p .cell .identity) (2 * p .frame .subframe + slotOf (slotOfCell (p .cell)) s) (inSlot (slotOfCell (p .cell)) s)) (2 * (110 - p .cell .blocks))) e
-        ≡ crsElement (p .cell) (p .frame) q (e / placesOf (p .cell)) s (carrierOf (p .cell) (e % placesOf (p .cell)))
+        ≡ crsElement (p .cell) (p .frame) q (e / placesOf (p .cell)) s (carrierAt (p .cell) (e % placesOf (p .cell)))
     unfolding crsSent crsElement
     crs-value ok h =
         rw (eq-eqb (e / placesOf (p .cell)) q (crs-parts h .0))
         (ap (elementOf 2)
         (value-from (p .cell .prefix) (p .cell .identity) (p .cell .blocks) (2 * p .frame .subframe + slotOf (slotOfCell (p .cell)) s) (inSlot (slotOfCell (p .cell)) s)
-        (carrierOf (p .cell) (e % placesOf (p .cell)) / 6) (omega (arith, big (p .cell .blocks) (valid w p ok .cell .blocks)))))
+        (carrierAt (p .cell) (e % placesOf (p .cell)) / 6) (omega (arith, big (p .cell .blocks) (valid w p ok .cell .blocks)))))
 
   -- and every place of the signal is sent on its port
-  pub crs-covers : (q e : ℕ) → owns w p (Crs q) (symbolNumber (p .cell) (e % placesOf (p .cell))) (carrierOf (p .cell) (e % placesOf (p .cell))) ≡ true → e / placesOf (p .cell) ≡ q
-      → crsSends (p .cell) (symbolNumber (p .cell) (e % placesOf (p .cell))) q e ≡ true
+  pub crs-covers : (q e : ℕ) → owns w p (Crs q) (symbolAt (p .cell) (e % placesOf (p .cell))) (carrierAt (p .cell) (e % placesOf (p .cell))) ≡ true → e / placesOf (p .cell) ≡ q
+      → crsSends (p .cell) (symbolAt (p .cell) (e % placesOf (p .cell))) q e ≡ true
   unfolding owns fixedRule crs crsOf crsSends
   crs-covers q e o d =
       let L = slotOfCell (p .cell) in
-      let s = symbolNumber (p .cell) (e % placesOf (p .cell)) in
-      let k = carrierOf (p .cell) (e % placesOf (p .cell)) in
+      let s = symbolAt (p .cell) (e % placesOf (p .cell)) in
+      let k = carrierAt (p .cell) (e % placesOf (p .cell)) in
       let y = crsSymbol L q (inSlot L s) in
       let v = standsAt (p .cell .identity) k (shift q (inSlot L s) (slotOf L s)) in
       both (both (eq-eqb _ _ d) (eq-eqb s s refl)) (and-right y v (and-right (ltb q (p .cell .ports)) (y && v) o))
@@ -98,41 +98,41 @@ module _ (w : List ℕ) (p : Plan) where
   -- ---- synchronisation signals
   module _ (e : ℕ) where
     mark-parts : (y : ℕ) → markSends (p .cell) y e ≡ true
-        → (e / placesOf (p .cell) ≡ 0) × (eqb (symbolNumber (p .cell) (e % placesOf (p .cell)) + y) (slotOfCell (p .cell)) ≡ true)
-        × (used (p .cell .blocks) (carrierOf (p .cell) (e % placesOf (p .cell))) ≡ true)
+        → (e / placesOf (p .cell) ≡ 0) × (eqb (symbolAt (p .cell) (e % placesOf (p .cell)) + y) (slotOfCell (p .cell)) ≡ true)
+        × (used (p .cell .blocks) (carrierAt (p .cell) (e % placesOf (p .cell))) ≡ true)
     unfolding markSends
     mark-parts y h =
         let t = e % placesOf (p .cell) in
         let a = eqb (e / placesOf (p .cell)) 0 in
-        let b = eqb (symbolNumber (p .cell) t + y) (slotOfCell (p .cell)) in
-        let d = used (p .cell .blocks) (carrierOf (p .cell) t) in
+        let b = eqb (symbolAt (p .cell) t + y) (slotOfCell (p .cell)) in
+        let d = used (p .cell .blocks) (carrierAt (p .cell) t) in
         let ab : a && b ≡ true = and-left (a && b) d h in
         (eqb-true _ _ (and-left a b ab), and-right a b ab, and-right (a && b) d h)
 
-    mark-whole : (y : ℕ) → marked (p .frame .subframe) && eqb (symbolNumber (p .cell) (e % placesOf (p .cell)) + y) (slotOfCell (p .cell)) && used (p .cell .blocks) (carrierOf (p .cell) (e % placesOf (p .cell))) ≡ true
+    mark-whole : (y : ℕ) → marked (p .frame .subframe) && eqb (symbolAt (p .cell) (e % placesOf (p .cell)) + y) (slotOfCell (p .cell)) && used (p .cell .blocks) (carrierAt (p .cell) (e % placesOf (p .cell))) ≡ true
         → e / placesOf (p .cell) ≡ 0 → markSends (p .cell) y e ≡ true
     unfolding markSends
     mark-whole y o d =
         let t = e % placesOf (p .cell) in
         let m = marked (p .frame .subframe) in
-        let b = eqb (symbolNumber (p .cell) t + y) (slotOfCell (p .cell)) in
-        let u = used (p .cell .blocks) (carrierOf (p .cell) t) in
+        let b = eqb (symbolAt (p .cell) t + y) (slotOfCell (p .cell)) in
+        let u = used (p .cell .blocks) (carrierAt (p .cell) t) in
         both (both (eq-eqb _ _ d) (and-right m b (and-left (m && b) u o))) (and-right (m && b) u o)
 
     pub pss-sends : marked (p .frame .subframe) ≡ true
-        → (markSends (p .cell) 1 e ≡ true) ↔ ((owns w p (Sync Primary) (symbolNumber (p .cell) (e % placesOf (p .cell))) (carrierOf (p .cell) (e % placesOf (p .cell))) ≡ true) × (e / placesOf (p .cell) ≡ 0))
+        → (markSends (p .cell) 1 e ≡ true) ↔ ((owns w p (Sync Primary) (symbolAt (p .cell) (e % placesOf (p .cell))) (carrierAt (p .cell) (e % placesOf (p .cell))) ≡ true) × (e / placesOf (p .cell) ≡ 0))
     unfolding owns fixedRule pss
     pss-sends m = (λ h. let d = mark-parts 1 h in (both (both m (d .1)) (d .2), d .0), λ h. mark-whole 1 (h .0) (h .1))
 
     pub sss-sends : marked (p .frame .subframe) ≡ true
-        → (markSends (p .cell) 2 e ≡ true) ↔ ((owns w p (Sync Secondary) (symbolNumber (p .cell) (e % placesOf (p .cell))) (carrierOf (p .cell) (e % placesOf (p .cell))) ≡ true) × (e / placesOf (p .cell) ≡ 0))
+        → (markSends (p .cell) 2 e ≡ true) ↔ ((owns w p (Sync Secondary) (symbolAt (p .cell) (e % placesOf (p .cell))) (carrierAt (p .cell) (e % placesOf (p .cell))) ≡ true) × (e / placesOf (p .cell) ≡ 0))
     unfolding owns fixedRule sss
     sss-sends m = (λ h. let d = mark-parts 2 h in (both (both m (d .1)) (d .2), d .0), λ h. mark-whole 2 (h .0) (h .1))
 
-    pub pss-value : markSends (p .cell) 1 e ≡ true → pssSent (p .cell) e ≡ pssElement (p .cell) (e / placesOf (p .cell)) (carrierOf (p .cell) (e % placesOf (p .cell)))
+    pub pss-value : markSends (p .cell) 1 e ≡ true → pssSent (p .cell) e ≡ pssElement (p .cell) (e / placesOf (p .cell)) (carrierAt (p .cell) (e % placesOf (p .cell)))
     unfolding pssSent
-    pss-value h = ap (λ (q : ℕ). pssElement (p .cell) q (carrierOf (p .cell) (e % placesOf (p .cell)))) (sym (mark-parts 1 h .0))
+    pss-value h = ap (λ (q : ℕ). pssElement (p .cell) q (carrierAt (p .cell) (e % placesOf (p .cell)))) (sym (mark-parts 1 h .0))
 
-    pub sss-value : markSends (p .cell) 2 e ≡ true → sssSent (p .cell) (p .frame) e ≡ sssElement (p .cell) (p .frame) (e / placesOf (p .cell)) (carrierOf (p .cell) (e % placesOf (p .cell)))
+    pub sss-value : markSends (p .cell) 2 e ≡ true → sssSent (p .cell) (p .frame) e ≡ sssElement (p .cell) (p .frame) (e / placesOf (p .cell)) (carrierAt (p .cell) (e % placesOf (p .cell)))
     unfolding sssSent
-    sss-value h = ap (λ (q : ℕ). sssElement (p .cell) (p .frame) q (carrierOf (p .cell) (e % placesOf (p .cell)))) (sym (mark-parts 2 h .0))
+    sss-value h = ap (λ (q : ℕ). sssElement (p .cell) (p .frame) q (carrierAt (p .cell) (e % placesOf (p .cell)))) (sym (mark-parts 2 h .0))

@@ -14,31 +14,31 @@ use Rattle.plan.specs.declared.Cell.{Cell}
 use Rattle.plan.specs.declared.Frame.{Frame}
 use Rattle.layout.specs.Rules.{slotOf, inSlot, standsAt, shift, used}
 use Rattle.layout.specs.Owners.{slotOfCell}
-use Rattle.places.specs.Places.{symbolNumber, carrierOf, placesOf}
+use Rattle.places.specs.Places.{symbolAt, carrierAt, placesOf}
 use Rattle.subframe.specs.Elements.{pssElement, sssElement}
 
 -- the element stands on port q, in symbol s, where the port's reference signal does
 unfoldable pub crsSends : Cell → ℕ → ℕ → ℕ → Bool
 crsSends c s q e =
     let t = e % placesOf c in
-    eqb (e / placesOf c) q && eqb (symbolNumber c t) s && standsAt (c .identity) (carrierOf c t) (shift q (inSlot (slotOfCell c) s) (slotOf (slotOfCell c) s))
+    eqb (e / placesOf c) q && eqb (symbolAt c t) s && standsAt (c .identity) (carrierAt c t) (shift q (inSlot (slotOfCell c) s) (slotOf (slotOfCell c) s))
 
 -- value m of a symbol, two bits of what the pair gives
 unfoldable pub crsFrom : Registers → ℕ → Pair
 crsFrom r m = record { re = turn (outputs r (2 * m)) (pos 1); im = turn (outputs r (2 * m + 1)) (pos 1) }
 
 unfoldable pub crsSent : Cell → Registers → ℕ → Element
-crsSent c r e = elementOf 2 (crsFrom r (carrierOf c (e % placesOf c) / 6))
+crsSent c r e = elementOf 2 (crsFrom r (carrierAt c (e % placesOf c) / 6))
 
 -- the synchronisation marks: port 0, the last symbol of the first slot and the one before, the middle 62 subcarriers. y symbols
 -- from the slot's end
 unfoldable pub markSends : Cell → ℕ → ℕ → Bool
 markSends c y e =
     let t = e % placesOf c in
-    eqb (e / placesOf c) 0 && eqb (symbolNumber c t + y) (slotOfCell c) && used (c .blocks) (carrierOf c t)
+    eqb (e / placesOf c) 0 && eqb (symbolAt c t + y) (slotOfCell c) && used (c .blocks) (carrierAt c t)
 
 unfoldable pub pssSent : Cell → ℕ → Element
-pssSent c e = pssElement c 0 (carrierOf c (e % placesOf c))
+pssSent c e = pssElement c 0 (carrierAt c (e % placesOf c))
 
 unfoldable pub sssSent : Cell → Frame → ℕ → Element
-sssSent c f e = sssElement c f 0 (carrierOf c (e % placesOf c))
+sssSent c f e = sssElement c f 0 (carrierAt c (e % placesOf c))

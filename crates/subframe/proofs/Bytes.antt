@@ -11,7 +11,7 @@ use Rattle.base.specs.Bytes.{byteIn}
 use Rattle.base.proofs.Tables.{table-at, table-length}
 use Rattle.plan.specs.declared.Plan.{Plan}
 use Rattle.layout.specs.Owners.{symbols, carriers}
-use Rattle.places.specs.Places.{placeNumber, symbolNumber, carrierOf, placesOf}
+use Rattle.places.specs.Places.{placeNumber, symbolAt, carrierAt, placesOf}
 use Rattle.places.proofs.Numbers.{place-symbol, place-carrier, place-inside}
 use Rattle.payload.specs.Payload.{gridLength}
 use Rattle.subframe.specs.Elements.{elementAt}
@@ -58,10 +58,10 @@ module _ (w : List ℕ) (p : Plan) (payload : List ℕ) where
       let inside : t < placesOf (p .cell) = place-inside (p .cell) s k in-s in-k in
       let d : e / placesOf (p .cell) ≡ port = ap (λ (x : ℕ). x / placesOf (p .cell)) at ∙ at-div port (placesOf (p .cell)) t inside in
       let m : e % placesOf (p .cell) ≡ t = ap (λ (x : ℕ). x % placesOf (p .cell)) at ∙ at-mod port (placesOf (p .cell)) t inside in
-      ap (λ (x : ℕ). elementAt w p payload x (symbolNumber (p .cell) (e % placesOf (p .cell))) (carrierOf (p .cell) (e % placesOf (p .cell)))) d
+      ap (λ (x : ℕ). elementAt w p payload x (symbolAt (p .cell) (e % placesOf (p .cell))) (carrierAt (p .cell) (e % placesOf (p .cell)))) d
       ∙ ap₂ (elementAt w p payload port)
-      (ap (symbolNumber (p .cell)) m ∙ place-symbol (p .cell) s k in-k)
-      (ap (carrierOf (p .cell)) m ∙ place-carrier (p .cell) s k in-k)
+      (ap (symbolAt (p .cell)) m ∙ place-symbol (p .cell) s k in-k)
+      (ap (carrierAt (p .cell)) m ∙ place-carrier (p .cell) s k in-k)
 
   -- byte b of element e
   pub byte-of : (e b : ℕ) → e < p .cell .ports * placesOf (p .cell) → b < 3 → getD (gridOf w p payload) (e * 3 + b) 0 ≡ byteIn (elementNumbered w p payload e) b

@@ -22,9 +22,9 @@ use Rattle.plan.specs.declared.Plan.{Plan}
 use Rattle.plan.specs.declared.Checked.the-variants.{Plan as accepted}
 use Rattle.layout.specs.declared.Owner.{Owner}
 use Rattle.layout.specs.declared.Owner.the-variants.{Pbch, User as UserOf}
-use Rattle.places.specs.Places.{placeNumber, symbolNumber, carrierOf, placeCount, placeOf, indexOf}
+use Rattle.places.specs.Places.{placeNumber, symbolAt, carrierAt, placeCount, placeOf, indexOf}
 use Rattle.payload.specs.Bits.{ownerBits}
-use Rattle.subframe.specs.Elements.{ownerBit, pbchFirst, pbchSymbol, userInit, userNumber, userSymbol, elementFor}
+use Rattle.subframe.specs.Elements.{ownerBit, pbchFirst, pbchSymbol, userInit, nthUser, userSymbol, elementFor}
 use Rattle.subframe.specs.Grid.{gridOf}
 use Rattle.subframe.specs.TwoBuilds.{SameBytes, SameBits}
 use Rattle.subframe.proofs.Owned.{SameElements, index-place, index-owned, index-back, same-bytes}
@@ -49,8 +49,8 @@ module _ (w : List ℕ) (p : Plan) (ok : checkOf w ≡ accepted p) (o : Owner) (
       Occurs (p .cell .ports) (placeCount w p o) → ((j : ℕ) → Small 127 (d j)) → ((j : ℕ) → Small 127 (d′ j))
       → SameElements w p o A B → (j : ℕ) → j < placeCount w p o → d j ≡ d′ j
   symbols-of-elements occurs small small′ h j l =
-      let s : ℕ = symbolNumber (p .cell) (placeOf w p o j) in
-      let k : ℕ = carrierOf (p .cell) (placeOf w p o j) in
+      let s : ℕ = symbolAt (p .cell) (placeOf w p o j) in
+      let k : ℕ = carrierAt (p .cell) (placeOf w p o j) in
       let back : indexOf w p o (placeNumber (p .cell) s k) ≡ j = index-back w p ok o j l in
       same-symbols occurs u d d′ j l (small j) (small′ j)
       (λ port q.
@@ -95,7 +95,7 @@ abbrev pbchScrambling : Plan → ℕ → ℕ
 pbchScrambling p i = c (p .cell .identity) (i + pbchFirst (p .cell) (p .frame))
 
 abbrev userScrambling : List ℕ → Plan → ℕ → ℕ → ℕ
-userScrambling w p i n = c (userInit (p .cell) (p .frame) (userNumber w p i)) n
+userScrambling w p i n = c (userInit (p .cell) (p .frame) (nthUser w p i)) n
 
 pbch-sends : (w : List ℕ) (p : Plan) (payload : List ℕ) → Sends w p Pbch 2 (dataSymbol 2 (ownerBit w p payload Pbch) (pbchScrambling p)) payload
 unfolding elementFor pbchSymbol
@@ -103,7 +103,7 @@ pbch-sends w p payload port s k = refl
 
 user-sends :
     (w : List ℕ) (p : Plan) (i : ℕ) (payload : List ℕ)
-    → Sends w p (UserOf i) (unitOf (userNumber w p i .order)) (dataSymbol (userNumber w p i .order) (ownerBit w p payload (UserOf i)) (userScrambling w p i)) payload
+    → Sends w p (UserOf i) (unitOf (nthUser w p i .order)) (dataSymbol (nthUser w p i .order) (ownerBit w p payload (UserOf i)) (userScrambling w p i)) payload
 unfolding elementFor userSymbol
 user-sends w p i payload port s k = refl
 
@@ -117,6 +117,6 @@ module _ (w : List ℕ) (p : Plan) (ok : checkOf w ≡ accepted p) (A B : List �
       (i : ℕ) → i < length (usersOf w p)
       → SameBytes w p (UserOf i) (gridOf w p A) (gridOf w p B) ↔ SameBits w p (UserOf i) A B
   user-builds i l =
-      data-builds w p ok (UserOf i) (userNumber w p i .order) (unitOf (userNumber w p i .order)) (userScrambling w p i)
-      (user-order w p ok i l) (λ n. c-lt (userInit (p .cell) (p .frame) (userNumber w p i)) n)
+      data-builds w p ok (UserOf i) (nthUser w p i .order) (unitOf (nthUser w p i .order)) (userScrambling w p i)
+      (user-order w p ok i l) (λ n. c-lt (userInit (p .cell) (p .frame) (nthUser w p i)) n)
       (user-size w p ok i l) (user-occurs w p ok i l) (user-sends w p i) A B

@@ -21,7 +21,7 @@ use Rattle.layout.specs.declared.Owner.{Owner}
 use Rattle.layout.specs.declared.Owner.the-variants.{Phich, User as UserOf}
 use Rattle.layout.proofs.OneOwner.{owner-is, owner-of}
 use Rattle.layout.proofs.Partition.{has-index}
-use Rattle.places.specs.Places.{placeNumber, symbolNumber, carrierOf, ownsAt, placeCount, placeOf, indexOf}
+use Rattle.places.specs.Places.{placeNumber, symbolAt, carrierAt, ownsAt, placeCount, placeOf, indexOf}
 use Rattle.places.proofs.Numbers.{place-both, symbol-inside, carrier-inside}
 use Rattle.places.proofs.Listing.{some-carriers, listed}
 use Rattle.subframe.specs.Elements.{elementFor, elementAt}
@@ -62,16 +62,16 @@ module _ (w : List ℕ) (p : Plan) (ok : checkOf w ≡ accepted p) (o : Owner) w
 
   -- the place of the owner's index j: it lies in the grid, is the owner's, and has that index
   module _ (j : ℕ) (l : j < placeCount w p o) where
-    pub index-place : gridPlace (p .cell) (symbolNumber (p .cell) (placeOf w p o j)) (carrierOf (p .cell) (placeOf w p o j))
+    pub index-place : gridPlace (p .cell) (symbolAt (p .cell) (placeOf w p o j)) (carrierAt (p .cell) (placeOf w p o j))
     index-place =
         let some = some-carriers w p ok in
         (symbol-inside (p .cell) some (placeOf w p o j) (listed w p ok o .inside j l), carrier-inside (p .cell) some (placeOf w p o j))
 
-    pub index-owned : owns w p o (symbolNumber (p .cell) (placeOf w p o j)) (carrierOf (p .cell) (placeOf w p o j)) ≡ true
+    pub index-owned : owns w p o (symbolAt (p .cell) (placeOf w p o j)) (carrierAt (p .cell) (placeOf w p o j)) ≡ true
     unfolding ownsAt
     index-owned = listed w p ok o .owned j l
 
-    pub index-back : indexOf w p o (placeNumber (p .cell) (symbolNumber (p .cell) (placeOf w p o j)) (carrierOf (p .cell) (placeOf w p o j))) ≡ j
+    pub index-back : indexOf w p o (placeNumber (p .cell) (symbolAt (p .cell) (placeOf w p o j)) (carrierAt (p .cell) (placeOf w p o j))) ≡ j
     index-back = ap (indexOf w p o) (place-both (p .cell) (placeOf w p o j)) ∙ listed w p ok o .back j l
 
   -- THE LAW

@@ -34,7 +34,7 @@ use Rattle.payload.specs.Sections.{startOf, span, sectionBits}
 use Rattle.payload.specs.Payload.{pbchBits, userBits, heads, sections}
 use Rattle.payload.specs.Bits.{ownerBits}
 use Rattle.payload.proofs.Sections.{userStart, user-bits-at}
-use Rattle.subframe.specs.Elements.{ownerBit, userNumber}
+use Rattle.subframe.specs.Elements.{ownerBit, nthUser}
 use Rattle.subframe.specs.TwoBuilds.{SameBits}
 use Rattle.subframe.proofs.Occurs.{pbch-places}
 
@@ -105,22 +105,22 @@ module _ (w : List ℕ) (p : Plan) (ok : checkOf w ≡ accepted p) where
       ∙ ap (λ (n : ℕ). 2 * n) (sym (pbch-places w p ok))
 
   module _ (i : ℕ) (l : i < length (usersOf w p)) where
-    pub user-order : Order (userNumber w p i .order)
-    unfolding userNumber
-    user-order = order-of (userNumber w p i .order) (every-at (UserIn (p .cell)) (record { rnti = 0; order = 0; first = 0; count = 0 }) (usersOf w p) i (valid w p ok .users) l .order)
+    pub user-order : Order (nthUser w p i .order)
+    unfolding nthUser
+    user-order = order-of (nthUser w p i .order) (every-at (UserIn (p .cell)) (record { rnti = 0; order = 0; first = 0; count = 0 }) (usersOf w p) i (valid w p ok .users) l .order)
 
     -- a user has as many places as its count says
-    pub user-places : placeCount w p (UserOf i) ≡ userElements (p .cell) (p .frame) (userNumber w p i .first) (userNumber w p i .count)
-    unfolding userNumber
+    pub user-places : placeCount w p (UserOf i) ≡ userElements (p .cell) (p .frame) (nthUser w p i .first) (nthUser w p i .count)
+    unfolding nthUser
     user-places = count-is w p (UserOf i) ∙ user-elements w p ok (record { rnti = 0; order = 0; first = 0; count = 0 }) i l
 
-    user-span : ownerBits w p (UserOf i) ≡ span (8 * userStart w p i) (userBits (p .cell) (p .frame) (userNumber w p i))
-    unfolding userNumber
+    user-span : ownerBits w p (UserOf i) ≡ span (8 * userStart w p i) (userBits (p .cell) (p .frame) (nthUser w p i))
+    unfolding nthUser
     user-span = user-bits-at w p (record { rnti = 0; order = 0; first = 0; count = 0 }) i l
 
-    pub user-size : length (ownerBits w p (UserOf i)) ≡ userNumber w p i .order * placeCount w p (UserOf i)
+    pub user-size : length (ownerBits w p (UserOf i)) ≡ nthUser w p i .order * placeCount w p (UserOf i)
     unfolding userBits
     user-size =
         ap length user-span
-        ∙ span-length (8 * userStart w p i) (userBits (p .cell) (p .frame) (userNumber w p i))
-        ∙ ap (λ (n : ℕ). userNumber w p i .order * n) (sym user-places)
+        ∙ span-length (8 * userStart w p i) (userBits (p .cell) (p .frame) (nthUser w p i))
+        ∙ ap (λ (n : ℕ). nthUser w p i .order * n) (sym user-places)

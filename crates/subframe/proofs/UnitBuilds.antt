@@ -34,7 +34,7 @@ use Rattle.plan.specs.declared.Plan.{Plan}
 use Rattle.plan.specs.declared.Checked.the-variants.{Plan as accepted}
 use Rattle.base.specs.Choice.{if_then_else_}
 use Rattle.layout.specs.declared.Owner.the-variants.{Phich}
-use Rattle.places.specs.Places.{placeNumber, symbolNumber, carrierOf, placeCount, placeOf, indexOf}
+use Rattle.places.specs.Places.{placeNumber, symbolAt, carrierAt, placeCount, placeOf, indexOf}
 use Rattle.places.proofs.Listing.{phich-count}
 use Rattle.payload.specs.Payload.{sections}
 use Rattle.payload.specs.Sections.{startOf}
@@ -132,7 +132,7 @@ module _ (w : List ℕ) (p : Plan) (ok : checkOf w ≡ accepted p) where
         subst
         (λ (j : ℕ). phichPrecoded (p .cell .ports) m 2 (phichSum w p A m) (j / 4) (j % 4) port ≡ phichPrecoded (p .cell .ports) m 2 (phichSum w p B m) (j / 4) (j % 4) port)
         (index-back w p ok (Phich m) i r)
-        (same port (symbolNumber (p .cell) t) (carrierOf (p .cell) t) in-port (index-place w p ok (Phich m) i r) (index-owned w p ok (Phich m) i r))
+        (same port (symbolAt (p .cell) t) (carrierAt (p .cell) t) in-port (index-place w p ok (Phich m) i r) (index-owned w p ok (Phich m) i r))
 
     to-sums : m < unitsOf (p .cell) → SameElements w p (Phich m) A B → SameSums
     to-sums in-m same i l =

@@ -93,12 +93,12 @@ phichSum w p payload m i =
 unfoldable pub userInit : Cell → Frame → User → ℕ
 userInit cell frame u = u .rnti * 16384 + 512 * frame .subframe + cell .identity
 
-unfoldable pub userNumber : List ℕ → Plan → ℕ → User
-userNumber w p i = getD (usersOf w p) i (record { rnti = 0; order = 0; first = 0; count = 0 })
+unfoldable pub nthUser : List ℕ → Plan → ℕ → User
+nthUser w p i = getD (usersOf w p) i (record { rnti = 0; order = 0; first = 0; count = 0 })
 
 unfoldable pub userSymbol : List ℕ → Plan → List ℕ → ℕ → ℕ → Pair
 userSymbol w p payload i j =
-    let u = userNumber w p i in
+    let u = nthUser w p i in
     dataSymbol (u .order) (ownerBit w p payload (UserOf i)) (c (userInit (p .cell) (p .frame) u)) j
 
 -- ---- THE ELEMENT of an owner's place (s, k) on a port. The j-th of a channel's places, in its filling order (6.3.5, 6.6.4, 6.7.4, 6.9.3),
@@ -117,7 +117,7 @@ elementFor w p payload (Phich m) port s k =
     let j = indexOf w p (Phich m) (placeNumber (p .cell) s k) in
     phichPrecoded (p .cell .ports) m 2 (phichSum w p payload m) (j / 4) (j % 4) port
 elementFor w p payload (UserOf i) port s k =
-    precoded (p .cell .ports) (placeCount w p (UserOf i)) (unitOf (userNumber w p i .order)) (userSymbol w p payload i)
+    precoded (p .cell .ports) (placeCount w p (UserOf i)) (unitOf (nthUser w p i .order)) (userSymbol w p payload i)
     (indexOf w p (UserOf i) (placeNumber (p .cell) s k)) port
 elementFor w p payload Held port s k = silent
 elementFor w p payload Idle port s k = silent

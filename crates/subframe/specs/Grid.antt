@@ -6,7 +6,7 @@ use Rattle.base.specs.declared.Element.{Element}
 use Rattle.base.specs.Bytes.{byteIn}
 use Rattle.base.specs.Tables.{table}
 use Rattle.plan.specs.declared.Plan.{Plan}
-use Rattle.places.specs.Places.{symbolNumber, carrierOf, placesOf}
+use Rattle.places.specs.Places.{symbolAt, carrierAt, placesOf}
 use Rattle.payload.specs.Payload.{gridLength}
 use Rattle.subframe.specs.Elements.{elementAt}
 
@@ -14,7 +14,7 @@ use Rattle.subframe.specs.Elements.{elementAt}
 unfoldable pub elementNumbered : List ℕ → Plan → List ℕ → ℕ → Element
 elementNumbered w p payload e =
     let t = e % placesOf (p .cell) in
-    elementAt w p payload (e / placesOf (p .cell)) (symbolNumber (p .cell) t) (carrierOf (p .cell) t)
+    elementAt w p payload (e / placesOf (p .cell)) (symbolAt (p .cell) t) (carrierAt (p .cell) t)
 
 -- THE GRID
 unfoldable pub gridOf : List ℕ → Plan → List ℕ → List ℕ

@@ -1,4 +1,4 @@
-// two_builds: two payloads built under one plan, for the regulator's second question (document 01, demand 3).
+// two_builds: two payloads built under one plan, for the regulator's second question (demand 3 of docs/APPROVAL.md).
 use build::Built;
 use plan::Checked;
 use plan::Refusal;

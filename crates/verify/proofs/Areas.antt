@@ -28,7 +28,7 @@ use Rattle.compare.specs.declared.Seen.{Seen}
 use Rattle.compare.specs.declared.Seen.the-variants.{Weight, Differs}
 use Rattle.compare.specs.Comparing.{Holds, Compared}
 use Rattle.compare.proofs.Comparing.{weight-same, holds-of, differs}
-use Rattle.subframe.specs.Elements.{ownerBit, pbchFirst, pbchSymbol, userInit, userNumber, userSymbol, elementFor}
+use Rattle.subframe.specs.Elements.{ownerBit, pbchFirst, pbchSymbol, userInit, nthUser, userSymbol, elementFor}
 use Rattle.subframe.proofs.DataBuilds.{Sends}
 use Rattle.subframe.proofs.Occurs.{pbch-occurs, user-occurs}
 use Rattle.subframe.proofs.OwnerBits.{pbch-size, user-order, user-size}
@@ -146,13 +146,13 @@ module _ (w : List ℕ) (p : Plan) (ok : checkOf w ≡ accepted p) (g : List ℕ
   -- ---- a user
   module _ (i : ℕ) (in-i : i < length (usersOf w p)) where
     abbrev u : User
-    u = userNumber w p i
+    u = nthUser w p i
 
     abbrev Q : ℕ
-    Q = userNumber w p i .order
+    Q = nthUser w p i .order
 
     abbrev area : Area
-    area = userArea (p .cell) (p .frame) (userNumber w p i)
+    area = userArea (p .cell) (p .frame) (nthUser w p i)
 
     abbrev scrambling : ℕ → ℕ
     scrambling = c (userInit (p .cell) (p .frame) u)
@@ -170,14 +170,14 @@ module _ (w : List ℕ) (p : Plan) (ok : checkOf w ≡ accepted p) (g : List ℕ
     user-sent port s k = refl
 
     place-is : (t : ℕ) → t < T → areaAt area t ≡ ownsAt w p (UserOf i) t
-    unfolding userNumber
+    unfolding nthUser
     place-is t l = user-place w p ok i in-i _ t l
 
     index-is : (t : ℕ) → t ≤ T → areaIndex area t ≡ indexOf w p (UserOf i) t
-    unfolding userNumber
+    unfolding nthUser
     index-is t l = user-index w p ok i in-i _ t l
 
-    pub user-count : areaCount (userArea (p .cell) (p .frame) (userNumber w p i)) ≡ placeCount w p (UserOf i)
+    pub user-count : areaCount (userArea (p .cell) (p .frame) (nthUser w p i)) ≡ placeCount w p (UserOf i)
     unfolding areaCount placeCount
     user-count = cnt-same (areaAt area) (ownsAt w p (UserOf i)) T place-is
 
@@ -192,14 +192,14 @@ module _ (w : List ℕ) (p : Plan) (ok : checkOf w ≡ accepted p) (g : List ℕ
         ap (λ (j : ℕ). placed P (j / 2 % 2) (unitOf Q) d j (e / T)) (index-is (e % T) (omega (arith, place-lt w p ok e)))
 
     pub user-known :
-        Holds (ownerSends w p (UserOf i)) (due w p g) g → (j : ℕ) → j < areaCount (userArea (p .cell) (p .frame) (userNumber w p i))
-        → isSymbol (userNumber w p i .order) (areaSymbol (userArea (p .cell) (p .frame) (userNumber w p i)) g j) ≡ true
+        Holds (ownerSends w p (UserOf i)) (due w p g) g → (j : ℕ) → j < areaCount (userArea (p .cell) (p .frame) (nthUser w p i))
+        → isSymbol (nthUser w p i .order) (areaSymbol (userArea (p .cell) (p .frame) (nthUser w p i)) g j) ≡ true
     user-known h =
         known-from w p g (UserOf i) area Q (unitOf Q) user-count user-symbols (λ e. user-area w p ok A A room i in-i e) user-area-sent
         (due-known w p ok g room (UserOf i) Q (unitOf Q) scrambling (user-order w p ok i in-i) (user-occurs w p ok i in-i) user-sent user-bits user-turns h)
 
     pub user-seen :
-        (r : Seen) → AreaCompared (userArea (p .cell) (p .frame) (userNumber w p i)) (userNumber w p i .order) (unitOf (userNumber w p i .order)) g r
+        (r : Seen) → AreaCompared (userArea (p .cell) (p .frame) (nthUser w p i)) (nthUser w p i .order) (unitOf (nthUser w p i .order)) g r
         → Compared (ownerSends w p (UserOf i)) (due w p g) g r
     user-seen =
         area-compared w p g (UserOf i) area Q (unitOf Q) user-count user-symbols (λ e. user-area w p ok A A room i in-i e) user-area-sent

@@ -11,7 +11,7 @@ use Rattle.plan.specs.Rows.{usersOf}
 use Rattle.plan.specs.declared.Plan.{Plan}
 use Rattle.layout.specs.declared.Owner.the-variants.{Pbch, User as UserOf}
 use Rattle.compare.specs.Comparing.{Holds}
-use Rattle.subframe.specs.Elements.{userNumber}
+use Rattle.subframe.specs.Elements.{nthUser}
 use Rattle.subframe.specs.Grid.{gridOf}
 use Rattle.subframe.proofs.Occurs.{pbch-occurs, user-occurs}
 use Rattle.recovery.specs.Recovery.{payloadIn}
@@ -35,7 +35,7 @@ module _ (w : List ℕ) (p : Plan) (g : List ℕ) (given : Given w p g) where
       ap (λ (m : ℕ). m % 2) (areas.pbch-count w p (given .answer) g (given .room) z) ∙ occurs-even (pbch-occurs w p (given .answer)) n
 
   pub user-even :
-      (i : ℕ) → i < length (usersOf w p) → (p .cell .ports ≡ 1 → ⊥) → areaCount (userArea (p .cell) (p .frame) (userNumber w p i)) % 2 ≡ 0
+      (i : ℕ) → i < length (usersOf w p) → (p .cell .ports ≡ 1 → ⊥) → areaCount (userArea (p .cell) (p .frame) (nthUser w p i)) % 2 ≡ 0
   user-even i in-i n =
       ap (λ (m : ℕ). m % 2) (areas.user-count w p (given .answer) g (given .room) i in-i) ∙ occurs-even (user-occurs w p (given .answer) i in-i) n
 
@@ -55,6 +55,6 @@ module _ (w : List ℕ) (p : Plan) (g : List ℕ) (given : Given w p g) where
     pbch-known z = areas.pbch-known w p (given .answer) g (given .room) z pbch-holds
 
     pub user-known :
-        (i : ℕ) → i < length (usersOf w p) → (j : ℕ) → j < areaCount (userArea (p .cell) (p .frame) (userNumber w p i))
-        → isSymbol (userNumber w p i .order) (areaSymbol (userArea (p .cell) (p .frame) (userNumber w p i)) g j) ≡ true
+        (i : ℕ) → i < length (usersOf w p) → (j : ℕ) → j < areaCount (userArea (p .cell) (p .frame) (nthUser w p i))
+        → isSymbol (nthUser w p i .order) (areaSymbol (userArea (p .cell) (p .frame) (nthUser w p i)) g j) ≡ true
     user-known i in-i = areas.user-known w p (given .answer) g (given .room) i in-i (user-holds i)

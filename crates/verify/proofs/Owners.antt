@@ -20,7 +20,7 @@ use Rattle.layout.specs.declared.Mark.the-variants.{Primary, Secondary}
 use Rattle.layout.specs.declared.Owner.{Owner}
 use Rattle.layout.specs.declared.Owner.the-variants.{Crs, Sync, Pbch, Pcfich, Phich, User as UserOf, Held, Idle}
 use Rattle.layout.proofs.OneOwner.{one-owner}
-use Rattle.places.specs.Places.{symbolNumber, carrierOf, placesOf, ownsAt, indexOf}
+use Rattle.places.specs.Places.{symbolAt, carrierAt, placesOf, ownsAt, indexOf}
 use Rattle.grid.specs.Writing.{sends, Room}
 use Rattle.signals.specs.Signals.{crsSends, markSends}
 use Rattle.signals.proofs.SignalOwners.{crs-sends, pss-sends, sss-sends}
@@ -97,7 +97,7 @@ module _ (w : List ℕ) (p : Plan) (ok : checkOf w ≡ accepted p) {g : List ℕ
   unfolding ownsAt
   same-owner a b e h k =
       let place = place-in w p ok e in
-      let one = one-owner w p ok (symbolNumber (p .cell) (e % T)) (carrierOf (p .cell) (e % T)) (place .0) (place .1) in
+      let one = one-owner w p ok (symbolAt (p .cell) (e % T)) (carrierAt (p .cell) (e % T)) (place .0) (place .1) in
       one .2 a (h .owned) ∙ sym (one .2 b (k .owned))
 
   pub apart : (n e : ℕ) → Before w p n e → In w p n e → ⊥
@@ -135,7 +135,7 @@ module _ (w : List ℕ) (p : Plan) (ok : checkOf w ≡ accepted p) {g : List ℕ
   -- ---- the signals
   record CrsAt (s q e : ℕ) : Type 0 where
     pub port : e / placesOf (p .cell) ≡ q
-    pub symbol : symbolNumber (p .cell) (e % placesOf (p .cell)) ≡ s
+    pub symbol : symbolAt (p .cell) (e % placesOf (p .cell)) ≡ s
     pub of : Of w p (Crs q) e
 
   crs-at : (s q e : ℕ) → q < P → crsIn p s q e ≡ true → CrsAt s q e
@@ -146,7 +146,7 @@ module _ (w : List ℕ) (p : Plan) (ok : checkOf w ≡ accepted p) {g : List ℕ
       record {
         port = d .1;
         symbol = d .2;
-        of = record { owned = ap (λ (x : ℕ). owns w p (Crs q) x (carrierOf (p .cell) (e % T))) (d .2) ∙ d .0; port = omega (arith, d .1) };
+        of = record { owned = ap (λ (x : ℕ). owns w p (Crs q) x (carrierAt (p .cell) (e % T))) (d .2) ∙ d .0; port = omega (arith, d .1) };
       }
 
   -- two ports, and two symbols

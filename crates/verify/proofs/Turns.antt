@@ -28,7 +28,7 @@ use Rattle.compare.specs.declared.Seen.{Seen}
 use Rattle.compare.specs.declared.Seen.the-variants.{Weight}
 use Rattle.compare.specs.Comparing.{Compared, bothOf, Few}
 use Rattle.compare.proofs.Comparing.{none, same, over, few}
-use Rattle.subframe.specs.Elements.{controlInit, userNumber}
+use Rattle.subframe.specs.Elements.{controlInit, nthUser}
 use Rattle.subframe.proofs.OwnerBits.{user-order}
 use Rattle.recovery.specs.Recovery.{payloadIn}
 use Rattle.data.specs.declared.Area.{Area}
@@ -250,11 +250,11 @@ module _ (w : List ℕ) (p : Plan) {g : List ℕ} (given : Given w p g) where
 
   -- ---- a user
   module _ (u : User) (planned : Planned w p u) (a : Area) (unit : ℕ) (ea : a ≡ userArea (p .cell) (p .frame) u) (eu : unit ≡ unitOf (u .order)) where
-    order-ok : (i : ℕ) → i < length (usersOf w p) → u ≡ userNumber w p i → Order (u .order)
+    order-ok : (i : ℕ) → i < length (usersOf w p) → u ≡ nthUser w p i → Order (u .order)
     order-ok i l e = subst (λ (v : User). Order (v .order)) (sym e) (user-order w p ok i l)
 
-    ready-at : (i : ℕ) → i < length (usersOf w p) → u ≡ userNumber w p i → CompareIn (userArea (p .cell) (p .frame) u) (u .order) (unitOf (u .order)) g
-    unfolding userNumber
+    ready-at : (i : ℕ) → i < length (usersOf w p) → u ≡ nthUser w p i → CompareIn (userArea (p .cell) (p .frame) u) (u .order) (unitOf (u .order)) g
+    unfolding nthUser
     ready-at i l e =
         let d : User = record { rnti = 0; order = 0; first = 0; count = 0 } in
         record {
@@ -292,7 +292,7 @@ module _ (w : List ℕ) (p : Plan) {g : List ℕ} (given : Given w p g) where
     in-i : i < length (usersOf w p)
     in-i = omega (arith, valid w p ok .users-count)
 
-    user-is : u ≡ userNumber w p i
+    user-is : u ≡ nthUser w p i
     user-is = eu ∙ from-user w p at i (so .users) in-i more
 
     pub going-planned : Planned w p u

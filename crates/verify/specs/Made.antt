@@ -16,7 +16,7 @@ use Rattle.places.specs.Places.{placesOf}
 use Rattle.grid.specs.Writing.{Room}
 use Rattle.compare.specs.declared.Seen.{Seen}
 use Rattle.compare.specs.Comparing.{Compared}
-use Rattle.subframe.specs.Elements.{userNumber}
+use Rattle.subframe.specs.Elements.{nthUser}
 use Rattle.subframe.specs.Grid.{elementNumbered, gridOf}
 use Rattle.recovery.specs.Recovery.{payloadIn}
 use Rattle.build.specs.Senders.{ownerSends}
@@ -34,11 +34,11 @@ pub record Given (w : List ℕ) (p : Plan) (g : List ℕ) : Type 0 where
 pub record Planned (w : List ℕ) (p : Plan) (u : User) : Type 0 where
   pub number : ℕ
   pub inside : number < length (usersOf w p)
-  pub is : u ≡ userNumber w p number
+  pub is : u ≡ nthUser w p number
 
 -- its elements are compared
 pub record UserSeen (w : List ℕ) (p : Plan) (u : User) (g : List ℕ) (r : Seen) : Type 0 where
-  pub seen : (i : ℕ) → i < length (usersOf w p) → u ≡ userNumber w p i → Compared (ownerSends w p (UserOf i)) (due w p g) g r
+  pub seen : (i : ℕ) → i < length (usersOf w p) → u ≡ nthUser w p i → Compared (ownerSends w p (UserOf i)) (due w p g) g r
 
 -- the answer
 pub record Made (w : List ℕ) (p : Plan) (g : List ℕ) (r : Bool) : Type 0 where
