@@ -44,7 +44,8 @@
  *
  * Threads
  *   The functions keep no state, allocate nothing and always return. Calls may run at the same time, as long as no buffer that
- *   one of them writes is used by another. A call needs less than 16 KiB of stack.
+ *   one of them writes is used by another. mapper_build and mapper_read, the
+ *   deepest calls, were measured below 2 KiB of stack (tests/stack.c).
  *
  * Example
  *
@@ -94,7 +95,7 @@ int64_t mapper_grid_len(const uint8_t *plan, size_t plan_len);
 /*
  * The length of a plan's payload in bytes: the sections of PBCH (in subframe 0), of the HIs, and of each user, one after the other, each from
  * a byte on and filled from the most significant bit: 480 bits of PBCH (432 with the extended prefix), a bit for each HI, and for each user
- * as many bits as its elements have. The spare bits at a section's end are 0.
+ * the bits of its modulation's symbol times the number of its elements. The spare bits at a section's end are 0.
  *
  * Answers the length, or -1 to -7.
  */

@@ -1,6 +1,6 @@
 /* A first program with the mapper: document 01's example plan is checked, built and read back.
 
-       gcc -Iinclude tests/example.c target/staticlib/libmapper.a -o example */
+       gcc -Iinclude tests/example.c target/staticlib/libmapper.a -o target/example */
 #include <stdio.h>
 #include <string.h>
 
