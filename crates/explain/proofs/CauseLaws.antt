@@ -6,7 +6,7 @@ use mathlib.Core.List.{List, [], _∷_}
 use lib.Dec.{leb, ltb, eqb}
 use borrow.Author.Tests.{eq-eqb, ne-eqb, lt-ltb, le-ltb, le-leb, lt-leb}
 use Rattle.plan.specs.Lists.{oneOf, noneOf}
-use Rattle.plan.specs.Commands.{byte}
+use Rattle.plan.specs.Commands.{byte, entries}
 use Rattle.plan.specs.Fields.{widths, portCounts, sixthCounts, orders, groupsOf, sequencesOf, samePair, clash}
 use Rattle.plan.specs.Check.{due}
 use Rattle.plan.specs.declared.Cell.{Cell}
@@ -14,7 +14,7 @@ use Rattle.plan.specs.declared.Frame.{Frame}
 use Rattle.plan.specs.declared.Hi.{Hi}
 use Rattle.plan.specs.declared.User.{User}
 use Rattle.plan.specs.declared.Command.{Command}
-use Rattle.explain.specs.Finding.{demand, cellCause, frameCause, hiCause, sameRnti, sharesBlock, userCause, commandBytes, brokenCause, inOrder, fieldCause, causeAt}
+use Rattle.explain.specs.Finding.{demand, cellCause, frameCause, hiCause, sameRnti, sharesBlock, userCause, brokenCause, inOrder, fieldCause, causeAt}
 use Rattle.explain.specs.declared.Cause.{Cause}
 use Rattle.explain.specs.declared.Cause.the-variants.{Unknown, CutOff, OutOfOrder, AfterEnd, Identity, Blocks, Prefix, Ports, Sixths, FrameNumber, Subframe, Cfi, Group, Sequence, PairUsed, Rnti, Modulation, Count, LastBlock, RntiUsed, BlockUsed}
 use Rattle.explain.specs.declared.Reason.{Reason}
@@ -171,13 +171,13 @@ module _ (c : Cell) (us : List User) (u : User) where
             user-fine f = simp (le-leb _ _ h, le-leb _ _ m, ← eo, to, le-leb _ _ k, le-leb _ _ l, ← ep, tp, ← blocks-new, f)
 
 -- ---- a command that cannot be read
-module _ (l : List ℕ) (b : ℕ) (eb : b ≡ byte l 0) (t : Bool) (et : t ≡ oneOf b commandBytes) where
+module _ (l : List ℕ) (b : ℕ) (eb : b ≡ byte l 0) (t : Bool) (et : t ≡ oneOf b (0x10 ∷ 0x11 ∷ 0x20 ∷ 0x30 ∷ 0x00 ∷ [])) where
   pub broken-cut : t ≡ true → Is CutOff ≡ brokenCause l
-  unfolding brokenCause
+  unfolding brokenCause entries
   broken-cut f = rw (← eb, ← et, f) refl
 
   pub broken-unknown : t ≡ false → Is Unknown ≡ brokenCause l
-  unfolding brokenCause
+  unfolding brokenCause entries
   broken-unknown f = rw (← eb, ← et, f) refl
 
 -- ---- any command; y is the command that the code knows x to be

@@ -8,7 +8,7 @@ use mathlib.Core.List.{List, [], _∷_}
 use lib.Dec.{leb, ltb, eqb}
 use lib.ListN.{drop}
 use Rattle.plan.specs.Lists.{oneOf, noneOf}
-use Rattle.plan.specs.Commands.{byte, sizeOf, commands}
+use Rattle.plan.specs.Commands.{byte, Entry, entries, sizeOf, commands}
 use Rattle.plan.specs.Fields.{widths, portCounts, sixthCounts, orders, groupsOf, sequencesOf, samePair}
 use Rattle.plan.specs.Check.{State, begin, due, after}
 use Rattle.plan.specs.Rows.{past}
@@ -100,10 +100,15 @@ userCause c users u =
     (demand (noneOf (sameRnti u) users) RntiUsed
     (demand (noneOf (sharesBlock u) users) BlockUsed Nothing)))))
 
--- "1 unknown command, or the plan ends before its operands": the bytes l begin with a command that cannot be read
-abbrev pub commandBytes : List ℕ
-commandBytes = 0x10 ∷ 0x11 ∷ 0x20 ∷ 0x30 ∷ 0x00 ∷ []
+-- the bytes of all commands
+abbrev pub codes : List Entry → List ℕ
+codes [] = []
+codes (e ∷ es) = e .code ∷ codes es
 
+abbrev pub commandBytes : List ℕ
+commandBytes = codes entries
+
+-- "1 unknown command, or the plan ends before its operands": the bytes l begin with a command that cannot be read
 unfoldable pub brokenCause : List ℕ → Reason
 brokenCause l = demand (oneOf (byte l 0) commandBytes) Unknown (Is CutOff)
 
