@@ -44,8 +44,8 @@
  *
  * Threads
  *   The functions keep no state, allocate nothing and always return. Calls may run at the same time, as long as no buffer that
- *   one of them writes is used by another. mapper_build and mapper_read, the deepest calls, were measured below 2 KiB of stack
- *   (tests/stack.c).
+ *   one of them writes is used by another. mapper_build and mapper_read, the deepest calls, take at most 4 KiB of stack
+ *   (measured by tests/stack.c, which fails above that).
  *
  * Example
  *

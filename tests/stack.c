@@ -8,7 +8,7 @@
 
 #include "mapper.h"
 
-enum { LIMIT = 16384, STACK = 1 << 20, MAX_PLAN = 2048, MAX_PAYLOAD = 16384, MAX_GRID = 201600 };
+enum { LIMIT = 4096, STACK = 1 << 20, MAX_PLAN = 2048, MAX_PAYLOAD = 16384, MAX_GRID = 201600 };
 
 /* A byte that a call sets to the paint's own value is not seen, so each call is made with two paints. */
 static const uint8_t PAINTS[2] = {0xA5, 0x5A};

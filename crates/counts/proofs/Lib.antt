@@ -11,6 +11,5 @@ pub mod AddUp
 pub mod Groups
 pub mod FixedCounts
 pub mod KindCounts
-pub mod Known
 pub mod Ways
 pub mod KindWays

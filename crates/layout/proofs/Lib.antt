@@ -10,4 +10,5 @@ pub mod Fixed
 pub mod Partition
 mod Ways
 pub mod OneOwner
+pub mod Numbers
 pub mod Asked

@@ -1,7 +1,7 @@
 -- THEOREM C, for the regulator's second question: one owner's data never changes what is sent for another. The grids of any two payloads of
 -- an accepted plan stand to each other as demand 3 says; that the payloads are accepted is not even needed.
 use Prim.Native.Nat.{ℕ}
-use mathlib.Core.Path.{_≡_}
+use mathlib.Core.Path.{_≡_, refl}
 use mathlib.Core.List.{List}
 use Rattle.plan.specs.Check.{checkOf}
 use Rattle.plan.specs.declared.Plan.{Plan}
@@ -18,6 +18,8 @@ pub two-builds :
     → TwoBuilds w p A B (gridOf w p A) (gridOf w p B)
 two-builds w p ok A B =
     record {
+      first = refl;
+      second = refl;
       owner = λ s k place. one-owner w p ok s k (place .0) (place .1);
       crs = crs-builds w p ok A B;
       pss = pss-builds w p ok A B;

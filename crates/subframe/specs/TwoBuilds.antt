@@ -18,6 +18,7 @@ use Rattle.layout.specs.declared.Mark.the-variants.{Primary, Secondary}
 use Rattle.layout.specs.declared.Owner.{Owner}
 use Rattle.layout.specs.declared.Owner.the-variants.{Crs, Sync, Pbch, Pcfich, Phich, User as UserOf, Held, Idle}
 use Rattle.payload.specs.Bits.{ownerBits}
+use Rattle.subframe.specs.Grid.{gridOf}
 
 -- "An owner's elements are the three bytes at each of its places, on each of the P ports": g and h hold the same bytes at all of them.
 -- "An element on port p is three bytes at ((p×S+s)×12N+k)×3"
@@ -32,18 +33,22 @@ SameBits w p o A B = Every (λ (b : ℕ). bitAt A b ≡ bitAt B b) (ownerBits w 
 
 -- the demand's sentences, one after the other
 pub record TwoBuilds (w : List ℕ) (p : Plan) (A B g h : List ℕ) : Type 0 where
-  -- "Each element has exactly one owner"
+  -- "Build A into one and B into the other; each then holds the elements that 36.211 and document 01 give for its payload." (`gridOf` has
+  -- them all, so the lengths too)
+  pub first : g ≡ gridOf w p A
+  pub second : h ≡ gridOf w p B
+  -- "Document 01 gives each element exactly one owner."
   pub owner : (s k : ℕ) → gridPlace (p .cell) s k → (o : Owner) × (owns w p o s k ≡ true) × ((other : Owner) → owns w p other s k ≡ true → other ≡ o)
-  -- "At every element of reference signals, synchronisation, format indicator, and every held or idle one, both grids hold the same
-  -- bytes on all ports"
+  -- "At every element of the reference signals, the synchronisation and the format indicator, and at every held or idle one, the two
+  -- grids hold the same bytes, on all ports."
   pub crs : (q : ℕ) → SameBytes w p (Crs q) g h
   pub pss : SameBytes w p (Sync Primary) g h
   pub sss : SameBytes w p (Sync Secondary) g h
   pub pcfich : SameBytes w p Pcfich g h
   pub held : SameBytes w p Held g h
   pub idle : SameBytes w p Idle g h
-  -- "For the broadcast channel, each acknowledgement unit and each user they hold the same bytes at all of that owner's elements on all
-  -- ports exactly when A and B agree in all of that owner's bits"
+  -- "For the broadcast channel, each acknowledgement unit and each user, the two grids hold the same bytes at all of that owner's
+  -- elements, on all ports, exactly when A and B agree in all of that owner's bits."
   pub pbch : SameBytes w p Pbch g h ↔ SameBits w p Pbch A B
   pub unit : (m : ℕ) → m < unitsOf (p .cell) → SameBytes w p (Phich m) g h ↔ SameBits w p (Phich m) A B
   pub user : (i : ℕ) → i < length (usersOf w p) → SameBytes w p (UserOf i) g h ↔ SameBits w p (UserOf i) A B

@@ -42,10 +42,8 @@ secondAfter w A B g h =
     let kept : Refusal → List ℕ = λ r. h in unlessRefused kept (λ (p : Plan). unlessBoth kept w p A B g h (gridOf w p B)) (checkOf w)
 
 -- DEMAND 3, of what the call leaves in the grids, g′ and h′. Whatever the two grids held before (g and h): if the plan check accepts the
--- plan bytes w with plan p, both payloads A and B are accepted under p and both grids have the length that p asks for, then after the
--- call each place has exactly one owner; at every place of reference signals, synchronisation, PCFICH, held and idle, g′ and h′ hold the
--- same bytes on all ports; and for PBCH, each PHICH unit and each user, they hold the same bytes at all of that owner's places on all
--- ports exactly when A and B agree in all of that owner's bits.
+-- plan bytes w with plan p, both payloads A and B are accepted under p and both grids have the length that p asks for, then g′ and h′
+-- stand to each other as every sentence of the demand says (subframe/specs/TwoBuilds.antt).
 pub record Separate (w A B g h g′ h′ : List ℕ) : Type 0 where
   pub apart :
       (p : Plan) → checkOf w ≡ accepted p → AcceptedPayload w p A → AcceptedPayload w p B → length g ≡ gridLength p → length h ≡ gridLength p

@@ -1,0 +1,97 @@
+-- The witness: document 01's example is accepted, has the counts that it prints, and 564 zero bytes are a payload accepted under it.
+-- Assumes nothing.
+use Prim.Native.Nat.{ℕ}
+use mathlib.Core.Path.{_≡_, refl, sym, ap, _∙_}
+use mathlib.Core.List.{List, [], _∷_, _++_}
+use lib.ListN.{length}
+use borrow.Author.Tests.{eq-eqb}
+use Rattle.base.specs.Tables.{table}
+use Rattle.plan.specs.Lists.{oneOf, noneOf}
+use Rattle.plan.specs.Commands.{cellOf, frameOf, hiOf, userOf, entries, entryIn, sizeOf, commandOf, commandsAfter}
+use Rattle.plan.specs.Fields.{cellOk, frameOk, unitsOf, groupsOf, sequencesOf, hiOk, samePair, userOk, clash}
+use Rattle.plan.specs.Check.{begin, hiFault, userFault, fault, after, planOf, run, checkOf}
+use Rattle.plan.specs.declared.Checked.the-variants.{Plan as accepted}
+use Rattle.plan.specs.Rows.{row, usersOf}
+use Rattle.base.specs.Bits.{bitAt}
+use Rattle.base.specs.Choice.{if_then_else_}
+use Rattle.layout.specs.Rules.{slotLength, inSlot, crsSymbol, marked}
+use Rattle.layout.specs.Owners.{symbols, carriers, controlSymbols}
+use Rattle.counts.specs.Sums.{sumTo, sumOf}
+use Rattle.counts.specs.Counts.{kinds, kindCount}
+use Rattle.counts.specs.Users.{signals, taken, halves, rowElements, userElements, allElements, usersElements}
+use Rattle.counts.specs.Kinds.{crsElements, syncElements, pbchElements, holes, heldElements}
+use Rattle.counts.proofs.AllUsers.{users-kind}
+use Rattle.counts.proofs.KindCounts.{held-kind}
+use Rattle.counts.proofs.KindWays.{nine}
+use Rattle.payload.specs.Sections.{bytesOf, span, spareAt, sparesFrom}
+use Rattle.payload.specs.Payload.{pbchBits, userBits, heads, userSections, sections, payloadLength, gridLength, spareBits, spareClear, AcceptedPayload}
+use Rattle.payload.proofs.Refusals.{payload-clear}
+use Rattle.counted.specs.Gridcount.{acceptedWith, countedOf, gridcountOf}
+use Rattle.known.specs.Example.{example, examplePlan, broadcast, broadcastPlan, zeros, exampleCounts, exampleLines, Example}
+
+example-plan : checkOf example ≡ accepted examplePlan
+unfolding oneOf noneOf cellOf frameOf hiOf userOf entries entryIn sizeOf commandOf commandsAfter cellOk frameOk unitsOf groupsOf sequencesOf hiOk samePair userOk clash begin hiFault userFault fault after planOf run checkOf
+example-plan = refl
+
+broadcast-plan : checkOf broadcast ≡ accepted broadcastPlan
+unfolding oneOf noneOf cellOf frameOf hiOf userOf entries entryIn sizeOf commandOf commandsAfter cellOk frameOk unitsOf groupsOf sequencesOf hiOk samePair userOk clash begin hiFault userFault fault after planOf run checkOf
+broadcast-plan = refl
+
+-- ---- the counts
+example-users : usersElements example examplePlan ≡ 2250
+unfolding usersOf row userOf sizeOf entryIn entries allElements sumOf userElements rowElements signals taken halves sumTo slotLength inSlot crsSymbol marked controlSymbols
+example-users = refl
+
+example-counts : table kinds (kindCount example examplePlan) ≡ exampleCounts
+unfolding crsElements syncElements pbchElements holes heldElements unitsOf slotLength marked
+example-counts =
+    sym (nine example examplePlan example-plan 120 0 0 1 2250 0 refl refl refl refl (sym (users-kind example examplePlan example-plan ∙ example-users)) refl 2520 refl)
+
+broadcast-users : usersElements broadcast broadcastPlan ≡ 1830
+unfolding usersOf row userOf sizeOf entryIn entries allElements sumOf userElements rowElements signals taken halves sumTo slotLength inSlot crsSymbol marked controlSymbols
+broadcast-users = refl
+
+broadcast-holes : heldElements (broadcastPlan .cell) (broadcastPlan .frame) ≡ 56
+unfolding heldElements holes
+broadcast-holes = refl
+
+-- ---- the payload: PBCH has no bit, the HI one, the user 2 × 2250
+example-sections : sections example examplePlan ≡ 0 ∷ 1 ∷ 4500 ∷ []
+unfolding sections heads pbchBits userSections userBits usersOf row userOf sizeOf entryIn entries userElements rowElements signals taken halves sumTo slotLength inSlot crsSymbol marked controlSymbols
+example-sections = refl
+
+example-payload : AcceptedPayload example examplePlan zeros
+unfolding payloadLength spareBits bytesOf sparesFrom spareAt span table bitAt
+example-payload = record { size = rw example-sections refl; spare = rw example-sections (refl, (refl, (refl, (refl, (refl, (refl, (refl, (refl, (refl, (refl, (refl, tt))))))))))) }
+
+grid-bytes : gridLength examplePlan ≡ 7560
+unfolding gridLength slotLength
+grid-bytes = refl
+
+-- the input's parts are the plan and the payload
+example-input : gridcountOf (0 ∷ 0x16 ∷ (example ++ zeros)) ≡ countedOf example zeros
+unfolding gridcountOf table
+example-input = refl
+
+example-lines : countedOf example zeros ≡ exampleLines
+unfolding countedOf acceptedWith
+example-lines =
+    rw (
+      example-plan,
+      eq-eqb (length zeros) (payloadLength example examplePlan) (example-payload .size),
+      payload-clear example examplePlan zeros example-payload,
+      example-counts,
+    ) refl
+
+pub the-example : Example
+the-example =
+    record {
+      plan = example-plan;
+      counts = example-counts;
+      payload = example-payload;
+      grid = grid-bytes;
+      lines = example-input ∙ example-lines;
+      broadcast-plan = broadcast-plan;
+      broadcast-pdsch = users-kind broadcast broadcastPlan broadcast-plan ∙ broadcast-users;
+      broadcast-held = held-kind broadcast broadcastPlan broadcast-plan ∙ broadcast-holes;
+    }

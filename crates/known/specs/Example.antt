@@ -1,0 +1,62 @@
+-- What the witness cites: document 01's example of gridcount, a plan that the plan check accepts, its counts, and a payload accepted
+-- under it. So no premise of the theorems is empty.
+use Prim.Native.Nat.{ℕ}
+use mathlib.Core.Path.{_≡_}
+use mathlib.Core.List.{List, [], _∷_, _++_}
+use Rattle.base.specs.Tables.{table}
+use Rattle.plan.specs.Check.{checkOf}
+use Rattle.plan.specs.declared.Plan.{Plan}
+use Rattle.plan.specs.declared.Checked.the-variants.{Plan as accepted}
+use Rattle.counts.specs.Counts.{kinds, kindCount}
+use Rattle.payload.specs.Payload.{gridLength, AcceptedPayload}
+use Rattle.counted.specs.Gridcount.{gridcountOf}
+use Rattle.counted.specs.declared.Counted.{Counted}
+
+-- "plan 10 0000 0F 00 01 01 11 0000 01 01 20 00 00 30 0001 02 00 0F 00"
+abbrev pub example : List ℕ
+example = 0x10 ∷ 0 ∷ 0 ∷ 0x0F ∷ 0 ∷ 1 ∷ 1 ∷ 0x11 ∷ 0 ∷ 0 ∷ 1 ∷ 1 ∷ 0x20 ∷ 0 ∷ 0 ∷ 0x30 ∷ 0 ∷ 1 ∷ 2 ∷ 0 ∷ 0x0F ∷ 0 ∷ []
+
+abbrev pub examplePlan : Plan
+examplePlan =
+    record {
+      cell = record { identity = 0; blocks = 15; prefix = 0; ports = 1; sixths = 1 };
+      frame = record { number = 0; subframe = 1; cfi = 1 };
+      his = record { at = 12; count = 1 };
+      users = record { at = 15; count = 1 };
+    }
+
+-- "With f = 0, HI removed and PBCH added"
+abbrev pub broadcast : List ℕ
+broadcast = 0x10 ∷ 0 ∷ 0 ∷ 0x0F ∷ 0 ∷ 1 ∷ 1 ∷ 0x11 ∷ 0 ∷ 0 ∷ 0 ∷ 1 ∷ 0x30 ∷ 0 ∷ 1 ∷ 2 ∷ 0 ∷ 0x0F ∷ 0 ∷ []
+
+abbrev pub broadcastPlan : Plan
+broadcastPlan =
+    record {
+      cell = record { identity = 0; blocks = 15; prefix = 0; ports = 1; sixths = 1 };
+      frame = record { number = 0; subframe = 0; cfi = 1 };
+      his = record { at = 12; count = 0 };
+      users = record { at = 12; count = 1 };
+    }
+
+-- "then 564 zero bytes"
+abbrev pub zeros : List ℕ
+zeros = table 564 (λ (i : ℕ). 0)
+
+-- the counts of gridcount's lines: "CRS 120, PSS 0, SSS 0, PBCH 0, PCFICH 16, PHICH 12, PDSCH 2250, held 0, idle 122"
+abbrev pub exampleCounts : List ℕ
+exampleCounts = 120 ∷ 0 ∷ 0 ∷ 0 ∷ 16 ∷ 12 ∷ 2250 ∷ 0 ∷ 122 ∷ []
+
+abbrev pub exampleLines : Counted
+exampleLines = record { refusal = 0; counts = exampleCounts }
+
+pub record Example : Type 0 where
+  pub plan : checkOf example ≡ accepted examplePlan
+  pub counts : table kinds (kindCount example examplePlan) ≡ exampleCounts
+  pub payload : AcceptedPayload example examplePlan zeros
+  pub grid : gridLength examplePlan ≡ 7560
+  -- "Input 00 16, plan .., then 564 zero bytes prints"
+  pub lines : gridcountOf (0 ∷ 0x16 ∷ (example ++ zeros)) ≡ exampleLines
+  -- "PDSCH is 1830, held 56"
+  pub broadcast-plan : checkOf broadcast ≡ accepted broadcastPlan
+  pub broadcast-pdsch : kindCount broadcast broadcastPlan 6 ≡ 1830
+  pub broadcast-held : kindCount broadcast broadcastPlan 7 ≡ 56
