@@ -11,7 +11,7 @@ use borrow.Author.Tests.{eq-eqb, eqb-true}
 use Rattle.plan.specs.Lists.{oneOf, noneOf}
 use Rattle.plan.specs.Commands.{byte, sizeOf, commands}
 use Rattle.plan.specs.Fields.{cellOk, frameOk, hiOk, userOk, clash}
-use Rattle.plan.specs.Check.{State, begin, need, hiFault, userFault, due, fault, after, planOf, unless, run, checkOf}
+use Rattle.plan.specs.Check.{State, begin, need, hiFault, userFault, due, fault, stateAfter, planOf, unless, run, checkOf}
 use Rattle.plan.specs.Rows.{past}
 use Rattle.plan.specs.declared.Cell.{Cell}
 use Rattle.plan.specs.declared.Frame.{Frame}
@@ -118,7 +118,7 @@ unfolding findingFrom run
 agree w [] st n at = agree-last (eqb (st .stage) 4) n at (planOf st)
 agree w (x ∷ xs) st n at =
     rw (← cause-fault st (drop at w) x)
-    (agree-stop (causeOf st (drop at w) x) n at _ _ (agree w xs (after st x) (n + 1) (at + sizeOf (drop at w))))
+    (agree-stop (causeOf st (drop at w) x) n at _ _ (agree w xs (stateAfter st x) (n + 1) (at + sizeOf (drop at w))))
 
 -- THE LAW: the explanation is Accepted exactly where the plan check accepts, and else its refusal is the plan check's
 pub explained-refusal : (w : List ℕ) → Agrees (findingOf w) (checkOf w)
@@ -159,7 +159,7 @@ unfolding findingFrom
 names w [] st m at e = let z : m ≡ m + 1 - 1 = omega arith in name-last w (eqb (st .stage) 4) (m + 1) at (e ∙ ap (past w) z)
 names w (x ∷ xs) st m at e =
     let z : m ≡ m + 1 - 1 = omega arith in
-    name-stop w (causeOf st (drop at w) x) (m + 1) at _ (e ∙ ap (past w) z) (names w xs (after st x) (m + 1) (at + sizeOf (drop at w)) (one-more w m at e))
+    name-stop w (causeOf st (drop at w) x) (m + 1) at _ (e ∙ ap (past w) z) (names w xs (stateAfter st x) (m + 1) (at + sizeOf (drop at w)) (one-more w m at e))
 
 -- THE LAW: a refused explanation has the refusal of its cause, and its offset is where the command of its number stands
 pub explained-place : (w : List ℕ) → Named w (findingOf w)

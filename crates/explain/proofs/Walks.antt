@@ -9,7 +9,7 @@ use lib.ListN.{length, drop, length-drop, drop-of-length-le}
 use borrow.Author.Tests.{eq-eqb, ne-eqb, eqb-true}
 use Rattle.plan.specs.Lists.{oneOf}
 use Rattle.plan.specs.Commands.{byte, cellOf, frameOf, hiOf, userOf, sizeOf, commandOf, commandsAfter, commands}
-use Rattle.plan.specs.Check.{State, begin, due, after}
+use Rattle.plan.specs.Check.{State, begin, due, stateAfter}
 use Rattle.plan.specs.Rows.{past, nextOf, hisFrom, usersFrom}
 use Rattle.plan.specs.declared.Cell.{Cell}
 use Rattle.plan.specs.declared.Frame.{Frame}
@@ -109,7 +109,7 @@ module _ {w : List ℕ} {k : Walk} (g : Going w k) where
     cause-same : causeIs x ≡ causeOf (g .state) At x
     cause-same = rw (g .stage-is, g .cell-is, g .his-is, g .users-is) refl
 
-    onwards : stopAt (causeIs x) (k .number) (k .at) (findingFrom w (after (g .state) x) (k .number + 1) (k .at + sizeOf At) (commands (drop (sizeOf At) At))) ≡ findingOf w
+    onwards : stopAt (causeIs x) (k .number) (k .at) (findingFrom w (stateAfter (g .state) x) (k .number + 1) (k .at + sizeOf At) (commands (drop (sizeOf At) At))) ≡ findingOf w
     unfolding findingFrom
     onwards = rw (cause-same, e) (rw (next At (omega (arith, length-drop (k .at) w))) at (g .same))
 
@@ -126,7 +126,7 @@ module _ {w : List ℕ} {k : Walk} (g : Going w k) where
       unfolding causeAt
       readable = demand-next (inOrder (k .stage) x) OutOfOrder _ (demand-next (not (eqb (k .stage) 4)) AfterEnd _ q)
 
-      rest : findingFrom w (after (g .state) x) (k .number + 1) (k .at + sizeOf At) (commands (drop (sizeOf At) At)) ≡ findingOf w
+      rest : findingFrom w (stateAfter (g .state) x) (k .number + 1) (k .at + sizeOf At) (commands (drop (sizeOf At) At)) ≡ findingOf w
       rest = rw (← q) at onwards
 
       module _ (size : sizeOf At ≤ length At) (to : ℕ) (et : to ≡ nextOf w (k .at)) where
@@ -142,7 +142,7 @@ module _ {w : List ℕ} {k : Walk} (g : Going w k) where
         pub to-drop : drop to w ≡ drop (sizeOf At) At
         to-drop = rw et (drop-next w (k .at))
 
-        same-on : findingFrom w (after (g .state) x) (k .number + 1) to (commands (drop to w)) ≡ findingOf w
+        same-on : findingFrom w (stateAfter (g .state) x) (k .number + 1) to (commands (drop to w)) ≡ findingOf w
         same-on = rw (to-drop, to-is) rest
 
 -- ---- the stages
@@ -176,14 +176,14 @@ module _ {w : List ℕ} {k : Walk} (g : Going w k) (there : k .at < length w) wh
   Next x = x ≡ commandOf (here w k) → Nothing ≡ causeAt (k .stage) (k .cell) (hisIn w k) (usersIn w k) (here w k) x → (to : ℕ) → to ≡ nextOf w (k .at) → Going w (stepTo to k x) × (k .at < to)
 
   at-cell : (c : Cell) → Next (cell c)
-  unfolding stepTo after inOrder
+  unfolding stepTo stateAfter inOrder
   at-cell c e q to et =
       let t = told (here w k) (cell c) (sym e) in
       let stage : k .stage ≡ 0 = eqb-true (k .stage) 0 (in-order g there (cell c) e q) in
       let size : sizeOf (here w k) ≤ length (here w k) = omega (arith, t .1, t .2) in
       let is = to-is g there (cell c) e q size to et in (
         record {
-          state = after (g .state) (cell c);
+          state = stateAfter (g .state) (cell c);
           stage-is = refl;
           cell-is = refl;
           his-is = g .his-is;
@@ -202,7 +202,7 @@ module _ {w : List ℕ} {k : Walk} (g : Going w k) (there : k .at < length w) wh
       )
 
   at-frame : (f : Frame) → Next (frame f)
-  unfolding stepTo after inOrder
+  unfolding stepTo stateAfter inOrder
   at-frame f e q to et =
       let t = told (here w k) (frame f) (sym e) in
       let stage : k .stage ≡ 1 = eqb-true (k .stage) 1 (in-order g there (frame f) e q) in
@@ -211,7 +211,7 @@ module _ {w : List ℕ} {k : Walk} (g : Going w k) (there : k .at < length w) wh
       let no-his : k .his ≡ 0 = g .no-his (omega arith) in
       let no-users : k .users ≡ 0 = g .no-users (omega arith) in (
         record {
-          state = after (g .state) (frame f);
+          state = stateAfter (g .state) (frame f);
           stage-is = refl;
           cell-is = g .cell-is;
           his-is = row-none hiOf (drop to w) (drop (k .start) w) (k .his) no-his ∙ g .his-is;
@@ -230,7 +230,7 @@ module _ {w : List ℕ} {k : Walk} (g : Going w k) (there : k .at < length w) wh
       )
 
   at-hi : (h : Hi) → Next (hi h)
-  unfolding stepTo after inOrder
+  unfolding stepTo stateAfter inOrder
   at-hi h e q to et =
       let t = told (here w k) (hi h) (sym e) in
       let stage : k .stage ≡ 2 = eqb-true (k .stage) 2 (in-order g there (hi h) e q) in
@@ -240,7 +240,7 @@ module _ {w : List ℕ} {k : Walk} (g : Going w k) (there : k .at < length w) wh
       let reached : here w k ≡ past (drop (k .start) w) (k .his) =
       g .users-end (omega arith) (omega arith) ∙ past-none (k .users) (drop (k .mid) w) no-users ∙ g .his-end in (
         record {
-          state = after (g .state) (hi h);
+          state = stateAfter (g .state) (hi h);
           stage-is = stage;
           cell-is = g .cell-is;
           his-is =
@@ -263,7 +263,7 @@ module _ {w : List ℕ} {k : Walk} (g : Going w k) (there : k .at < length w) wh
       )
 
   at-user : (u : User) → Next (user u)
-  unfolding stepTo after inOrder
+  unfolding stepTo stateAfter inOrder
   at-user u e q to et =
       let t = told (here w k) (user u) (sym e) in
       let stage = due-either (k .stage) (in-order g there (user u) e q) in
@@ -271,7 +271,7 @@ module _ {w : List ℕ} {k : Walk} (g : Going w k) (there : k .at < length w) wh
       let is = to-is g there (user u) e q size to et in
       let reached : here w k ≡ past (drop (k .mid) w) (k .users) = g .users-end (omega (arith, stage)) (omega (arith, stage)) in (
         record {
-          state = after (g .state) (user u);
+          state = stateAfter (g .state) (user u);
           stage-is = refl;
           cell-is = g .cell-is;
           his-is = g .his-is;
@@ -294,14 +294,14 @@ module _ {w : List ℕ} {k : Walk} (g : Going w k) (there : k .at < length w) wh
       )
 
   at-end : Next end
-  unfolding stepTo after inOrder
+  unfolding stepTo stateAfter inOrder
   at-end e q to et =
       let t = told (here w k) end (sym e) in
       let stage = due-either (k .stage) (in-order g there end e q) in
       let size : sizeOf (here w k) ≤ length (here w k) = omega (arith, t .1, t .2) in
       let is = to-is g there end e q size to et in (
         record {
-          state = after (g .state) end;
+          state = stateAfter (g .state) end;
           stage-is = refl;
           cell-is = g .cell-is;
           his-is = g .his-is;

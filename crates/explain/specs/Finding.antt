@@ -10,7 +10,7 @@ use lib.ListN.{drop}
 use Rattle.plan.specs.Lists.{oneOf, noneOf}
 use Rattle.plan.specs.Commands.{byte, Entry, entries, sizeOf, commands}
 use Rattle.plan.specs.Fields.{widths, portCounts, sixthCounts, orders, groupsOf, sequencesOf, samePair}
-use Rattle.plan.specs.Check.{State, begin, due, after}
+use Rattle.plan.specs.Check.{State, begin, due, stateAfter}
 use Rattle.plan.specs.Rows.{past}
 use Rattle.plan.specs.declared.Cell.{Cell}
 use Rattle.plan.specs.declared.Frame.{Frame}
@@ -152,7 +152,7 @@ stopAt Nothing n at rest = rest
 -- command number n of the plan w stands at byte at; "the plan ends .. before END" is a fault of the command that is missing there
 unfoldable pub findingFrom : List ℕ → State → ℕ → ℕ → List Command → Explained
 findingFrom w st n at [] = cond (eqb (st .stage) 4) Accepted (refusedAt n at NoEnd)
-findingFrom w st n at (x ∷ xs) = stopAt (causeOf st (drop at w) x) n at (findingFrom w (after st x) (n + 1) (at + sizeOf (drop at w)) xs)
+findingFrom w st n at (x ∷ xs) = stopAt (causeOf st (drop at w) x) n at (findingFrom w (stateAfter st x) (n + 1) (at + sizeOf (drop at w)) xs)
 
 -- THE EXPLANATION of the plan w
 unfoldable pub findingOf : List ℕ → Explained

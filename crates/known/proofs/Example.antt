@@ -9,7 +9,7 @@ use Rattle.base.specs.Tables.{table}
 use Rattle.plan.specs.Lists.{oneOf, noneOf}
 use Rattle.plan.specs.Commands.{cellOf, frameOf, hiOf, userOf, entries, entryIn, sizeOf, commandOf, commandsAfter}
 use Rattle.plan.specs.Fields.{cellOk, frameOk, unitsOf, groupsOf, sequencesOf, hiOk, samePair, userOk, clash}
-use Rattle.plan.specs.Check.{begin, hiFault, userFault, fault, after, planOf, run, checkOf}
+use Rattle.plan.specs.Check.{begin, hiFault, userFault, fault, stateAfter, planOf, run, checkOf}
 use Rattle.plan.specs.declared.Checked.the-variants.{Plan as accepted}
 use Rattle.plan.specs.Rows.{row, usersOf}
 use Rattle.base.specs.Bits.{bitAt}
@@ -30,11 +30,11 @@ use Rattle.counted.specs.Gridcount.{acceptedWith, countedOf, gridcountOf}
 use Rattle.known.specs.Example.{example, examplePlan, broadcast, broadcastPlan, zeros, exampleCounts, exampleLines, Example}
 
 example-plan : checkOf example ≡ accepted examplePlan
-unfolding oneOf noneOf cellOf frameOf hiOf userOf entries entryIn sizeOf commandOf commandsAfter cellOk frameOk unitsOf groupsOf sequencesOf hiOk samePair userOk clash begin hiFault userFault fault after planOf run checkOf
+unfolding oneOf noneOf cellOf frameOf hiOf userOf entries entryIn sizeOf commandOf commandsAfter cellOk frameOk unitsOf groupsOf sequencesOf hiOk samePair userOk clash begin hiFault userFault fault stateAfter planOf run checkOf
 example-plan = refl
 
 broadcast-plan : checkOf broadcast ≡ accepted broadcastPlan
-unfolding oneOf noneOf cellOf frameOf hiOf userOf entries entryIn sizeOf commandOf commandsAfter cellOk frameOk unitsOf groupsOf sequencesOf hiOk samePair userOk clash begin hiFault userFault fault after planOf run checkOf
+unfolding oneOf noneOf cellOf frameOf hiOf userOf entries entryIn sizeOf commandOf commandsAfter cellOk frameOk unitsOf groupsOf sequencesOf hiOk samePair userOk clash begin hiFault userFault fault stateAfter planOf run checkOf
 broadcast-plan = refl
 
 -- ---- the counts

@@ -11,7 +11,7 @@ use denote.Enum.Declared.{tagOf}
 use Rattle.plan.specs.Lists.{oneOf}
 use Rattle.plan.specs.Fields.{cellOk, frameOk}
 use Rattle.plan.specs.Commands.{commandOf, commands}
-use Rattle.plan.specs.Check.{State, begin, need, fault, after, unless, run, checkOf}
+use Rattle.plan.specs.Check.{State, begin, need, fault, stateAfter, unless, run, checkOf}
 use Rattle.plan.specs.Rows.{row}
 use Rattle.plan.specs.Loops.{celled, bodyState}
 use Rattle.plan.specs.declared.Cell.{Cell}
@@ -43,7 +43,7 @@ module _ (w : List ℕ) where
 
   module _ (c : Cell) (e : commandOf w ≡ cell c) where
     run-cell : checkOf w ≡ unless (need (cellOk c) CellField Nothing) (run (celled c 7) (commands (drop 7 w)))
-    unfolding checkOf begin fault after celled
+    unfolding checkOf begin fault stateAfter celled
     run-cell = run-at begin w (cell c) e (omega (arith, told w (cell c) e .2)) ∙ rw (told w (cell c) e .1) refl
 
     module _ (o : Bool) (eo : o ≡ cellOk c) where
@@ -79,7 +79,7 @@ module _ (w : List ℕ) (c : Cell) (at : ℕ) where
     frame-room = omega (arith, told here (frame f) e .2, length-drop at w)
 
     run-frame : run St (commands here) ≡ unless (need (frameOk f) FrameField Nothing) (run (bodyState w c f (at + 5) 0 (at + 5) 0) (commands (drop (at + 5) w)))
-    unfolding fault after celled bodyState row
+    unfolding fault stateAfter celled bodyState row
     run-frame = run-at St here (frame f) e (omega (arith, told here (frame f) e .2)) ∙ rw (told here (frame f) e .1, drop-drop) refl
 
     module _ (o : Bool) (eo : o ≡ frameOk f) where

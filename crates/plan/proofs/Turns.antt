@@ -12,7 +12,7 @@ use lib.Seq.{drop-drop}
 use borrow.Author.Tests.{eq-eqb, ne-eqb}
 use Rattle.plan.specs.Lists.{oneOf}
 use Rattle.plan.specs.Commands.{hiOf, userOf, sizeOf, commandOf, commandsAfter, commands}
-use Rattle.plan.specs.Check.{State, need, due, hiFault, userFault, fault, after, planOf, unless, run}
+use Rattle.plan.specs.Check.{State, need, due, hiFault, userFault, fault, stateAfter, planOf, unless, run}
 use Rattle.plan.specs.Rows.{past, nextOf, hisFrom, usersFrom}
 use Rattle.plan.specs.Loops.{bodyState}
 use Rattle.plan.specs.declared.Cell.{Cell}
@@ -38,7 +38,7 @@ use Rattle.plan.proofs.FaultLaws.{no-user}
 -- ---- any state
 module _ (st : State) (l : List ℕ) where
   -- the run at a command that is there
-  pub run-at : (x : Command) → commandOf l ≡ x → 0 < length l → run st (commands l) ≡ unless (fault st x) (run (after st x) (commands (drop (sizeOf l) l)))
+  pub run-at : (x : Command) → commandOf l ≡ x → 0 < length l → run st (commands l) ≡ unless (fault st x) (run (stateAfter st x) (commands (drop (sizeOf l) l)))
   unfolding run
   run-at x e h = rw (next l h, e) refl
 
@@ -107,7 +107,7 @@ module _ (w : List ℕ) (c : Cell) (f : Frame) (start n mid m at : ℕ) where
 
   -- ---- an HI
   module _ (h : Hi) (e : commandOf here ≡ hi h) where
-    run-hi : run St (commands here) ≡ unless (HiF h) (run (after St (hi h)) (commands (drop (sizeOf here) here)))
+    run-hi : run St (commands here) ≡ unless (HiF h) (run (stateAfter St (hi h)) (commands (drop (sizeOf here) here)))
     unfolding bodyState fault
     run-hi = run-at St here (hi h) e (omega (arith, told here (hi h) e .2)) ∙ rw stage-hi refl
 
@@ -150,8 +150,8 @@ module _ (w : List ℕ) (c : Cell) (f : Frame) (start n mid m at : ℕ) where
             ap (λ (x : Hi). hisFrom (drop start w) n ++ (x ∷ [])) (told here (hi h) e .0 ∙ ap hiOf (at-mid ∙ g .his-end))
             ∙ sym (row-more hiOf n (drop start w))
 
-        after-hi : after St (hi h) ≡ bodyState w c f start (n + 1) (mid + 3) m
-        unfolding after bodyState
+        after-hi : stateAfter St (hi h) ≡ bodyState w c f start (n + 1) (mid + 3) m
+        unfolding stateAfter bodyState
         after-hi =
             let k : _≡_ {A = ℕ} 2 (cond (eqb m 0) 2 3) = rw (eq-eqb m 0 none) refl in
             ap (λ (x : ℕ). made x c f start (hisFrom (drop start w) n ++ (h ∷ [])) (usersFrom (drop mid w) m)) k
@@ -162,7 +162,7 @@ module _ (w : List ℕ) (c : Cell) (f : Frame) (start n mid m at : ℕ) where
 
   -- ---- a USER
   module _ (u : User) (e : commandOf here ≡ user u) where
-    run-user : run St (commands here) ≡ unless (UserF u) (run (after St (user u)) (commands (drop (sizeOf here) here)))
+    run-user : run St (commands here) ≡ unless (UserF u) (run (stateAfter St (user u)) (commands (drop (sizeOf here) here)))
     unfolding bodyState fault
     run-user = run-at St here (user u) e (omega (arith, told here (user u) e .1, told here (user u) e .2)) ∙ rw stage-due refl
 
@@ -195,8 +195,8 @@ module _ (w : List ℕ) (c : Cell) (f : Frame) (start n mid m at : ℕ) where
             ap (λ (x : User). usersFrom (drop mid w) m ++ (x ∷ [])) (told here (user u) e .0 ∙ ap userOf (g .users-end))
             ∙ sym (row-more userOf m (drop mid w))
 
-        after-user : after St (user u) ≡ bodyState w c f start n mid (m + 1)
-        unfolding after bodyState
+        after-user : stateAfter St (user u) ≡ bodyState w c f start n mid (m + 1)
+        unfolding stateAfter bodyState
         after-user =
             let k : _≡_ {A = ℕ} 3 (cond (eqb (m + 1) 0) 2 3) = rw (ne-eqb (m + 1) 0 (λ z. omega arith)) refl in
             ap₂ (λ (x : ℕ) (us : List User). made x c f start (hisFrom (drop start w) n) us) k more-users
@@ -209,7 +209,7 @@ module _ (w : List ℕ) (c : Cell) (f : Frame) (start n mid m at : ℕ) where
     pub end-room : at < length w
     end-room = omega (arith, told here end e .2, length-drop at w)
 
-    pub end-turn : run St (commands here) ≡ run (after St end) (commands (drop (at + 1) w))
+    pub end-turn : run St (commands here) ≡ run (stateAfter St end) (commands (drop (at + 1) w))
     unfolding bodyState fault
     end-turn = run-at St here end e (omega (arith, told here end e .2)) ∙ rw (stage-due, told here end e .1, drop-drop) refl
 
@@ -228,8 +228,8 @@ module _ (w : List ℕ) (c : Cell) (f : Frame) (start n mid m at : ℕ) where
   body-broken e = run-broken St here (stage-last (eqb m 0)) e
 
 -- ---- after END every command is out of order
-ended-fault : (st : State) (x : Command) → fault (after st end) x ≡ Is Order
-unfolding fault after
+ended-fault : (st : State) (x : Command) → fault (stateAfter st end) x ≡ Is Order
+unfolding fault stateAfter
 ended-fault st (cell y) = refl
 ended-fault st (frame y) = refl
 ended-fault st (hi y) = refl
@@ -241,12 +241,12 @@ module _ (w : List ℕ) (c : Cell) (f : Frame) (his users : Row) (to : ℕ) wher
   abbrev Body : State
   Body = bodyState w c f (his .at) (his .count) (users .at) (users .count)
 
-  pub not-last : to < length w → refused Order ≡ run (after Body end) (commands (drop to w))
+  pub not-last : to < length w → refused Order ≡ run (stateAfter Body end) (commands (drop to w))
   not-last h =
-      sym (refused-at (after Body end) (drop to w) (commandOf (drop to w)) Order refl (omega (arith, length-drop to w)) (ended-fault Body (commandOf (drop to w))))
+      sym (refused-at (stateAfter Body end) (drop to w) (commandOf (drop to w)) Order refl (omega (arith, length-drop to w)) (ended-fault Body (commandOf (drop to w))))
 
-  pub last : users .at ≡ his .at + 3 * his .count → length w ≤ to → accepted (record { cell = c; frame = f; his = his; users = users }) ≡ run (after Body end) (commands (drop to w))
-  unfolding run commandsAfter planOf bodyState after
+  pub last : users .at ≡ his .at + 3 * his .count → length w ≤ to → accepted (record { cell = c; frame = f; his = his; users = users }) ≡ run (stateAfter Body end) (commands (drop to w))
+  unfolding run commandsAfter planOf bodyState stateAfter
   last e h =
       rw (drop-of-length-le w h, row-length hiOf (drop (his .at) w) (his .count), row-length userOf (drop (users .at) w) (users .count), ← e) refl
 
@@ -306,7 +306,7 @@ module _ {w : List ℕ} {c : Cell} {f : Frame} {start n mid m at : ℕ} (g : Goi
   pub end-fits : commandOf (drop at w) ≡ end → at + 1 ≤ length w
   end-fits e = omega (arith, end-room w c f start n mid m at e)
 
-  pub end-out : commandOf (drop at w) ≡ end → {a : Checked} → a ≡ run (after (bodyState w c f start n mid m) end) (commands (drop (at + 1) w)) → a ≡ Whole w c f start
+  pub end-out : commandOf (drop at w) ≡ end → {a : Checked} → a ≡ run (stateAfter (bodyState w c f start n mid m) end) (commands (drop (at + 1) w)) → a ≡ Whole w c f start
   end-out e q = q ∙ sym (end-turn w c f start n mid m at e) ∙ g .same
 
   pub broken-out : commandOf (drop at w) ≡ broken → refused Unreadable ≡ Whole w c f start

@@ -11,7 +11,7 @@ use borrow.Author.Tests.{ltb-true, ltb-false, leb-true, lt-ltb, eq-eqb}
 use Rattle.plan.specs.Lists.{oneOf, Every, Apart}
 use Rattle.plan.specs.Fields.{widths, portCounts, sixthCounts, orders, cellOk, frameOk, hiOk, samePair, userOk, clash, groupsOf}
 use Rattle.plan.specs.Commands.{byte, hiOf, userOf, commandOf, commands}
-use Rattle.plan.specs.Check.{need, hiFault, userFault, after, run, checkOf}
+use Rattle.plan.specs.Check.{need, hiFault, userFault, stateAfter, run, checkOf}
 use Rattle.plan.specs.Rows.{nextOf, hisFrom, usersFrom, hisOf, usersOf}
 use Rattle.plan.specs.Loops.{celled, bodyState}
 use Rattle.plan.specs.Valid.{CellIn, FrameIn, HiIn, UserIn, OtherPair, Disjoint, Valid}
@@ -167,7 +167,7 @@ module _ (w : List ℕ) (p : Plan) (c : Cell) (f : Frame) (ci : CellIn c) (fi : 
             (apart-snoc Disjoint (Users mid m) u (g .apart) (none-every (clash u) (λ (x : User). Disjoint x u) (disjoint u) (Users mid m) (user-new c (Users mid m) u q)));
       }
 
-  at-end : (n mid m at : ℕ) (t : Bool) → ltb (at + 1) (length w) ≡ t → Good n mid m at → commandOf (drop at w) ≡ end → run (after (bodyState w c f start n mid m) end) (commands (drop (at + 1) w)) ≡ accepted p → Valid w p
+  at-end : (n mid m at : ℕ) (t : Bool) → ltb (at + 1) (length w) ≡ t → Good n mid m at → commandOf (drop at w) ≡ end → run (stateAfter (bodyState w c f start n mid m) end) (commands (drop (at + 1) w)) ≡ accepted p → Valid w p
   unfolding hisOf usersOf
   at-end n mid m at true l g e r =
       absurd (not-both _ _ p (sym (not-last w c f (record { at = start; count = n }) (record { at = mid; count = m }) (at + 1) (ltb-true _ _ l))) r)

@@ -82,13 +82,13 @@ fault st end = need (due (st .stage)) Order Nothing
 fault st broken = need (not (eqb (st .stage) 4)) Order (Is Unreadable)
 
 -- the state after a command that has no fault
-unfoldable pub after : State → Command → State
-after st (cell c) = record { stage = 1; cell = c; frame = st .frame; start = st .start + 7; his = st .his; users = st .users }
-after st (frame f) = record { stage = 2; cell = st .cell; frame = f; start = st .start + 5; his = st .his; users = st .users }
-after st (hi h) = record { stage = 2; cell = st .cell; frame = st .frame; start = st .start; his = st .his ++ (h ∷ []); users = st .users }
-after st (user u) = record { stage = 3; cell = st .cell; frame = st .frame; start = st .start; his = st .his; users = st .users ++ (u ∷ []) }
-after st end = record { stage = 4; cell = st .cell; frame = st .frame; start = st .start; his = st .his; users = st .users }
-after st broken = st
+unfoldable pub stateAfter : State → Command → State
+stateAfter st (cell c) = record { stage = 1; cell = c; frame = st .frame; start = st .start + 7; his = st .his; users = st .users }
+stateAfter st (frame f) = record { stage = 2; cell = st .cell; frame = f; start = st .start + 5; his = st .his; users = st .users }
+stateAfter st (hi h) = record { stage = 2; cell = st .cell; frame = st .frame; start = st .start; his = st .his ++ (h ∷ []); users = st .users }
+stateAfter st (user u) = record { stage = 3; cell = st .cell; frame = st .frame; start = st .start; his = st .his; users = st .users ++ (u ∷ []) }
+stateAfter st end = record { stage = 4; cell = st .cell; frame = st .frame; start = st .start; his = st .his; users = st .users }
+stateAfter st broken = st
 
 -- the plan of a state: an HI is 3 bytes
 unfoldable pub planOf : State → Plan
@@ -105,7 +105,7 @@ unless Nothing rest = rest
 -- "the plan ends .. before END" is a fault at its end
 unfoldable pub run : State → List Command → Checked
 run st [] = cond (eqb (st .stage) 4) (accepted (planOf st)) (refused Unreadable)
-run st (x ∷ xs) = unless (fault st x) (run (after st x) xs)
+run st (x ∷ xs) = unless (fault st x) (run (stateAfter st x) xs)
 
 unfoldable pub checkOf : List ℕ → Checked
 checkOf w = run begin (commands w)

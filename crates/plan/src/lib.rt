@@ -7,7 +7,7 @@ ghost use lib.Dec.{eqb};
 ghost use Rattle.plan.specs.Lists.{oneOf, noneOf};
 ghost use Rattle.plan.specs.Commands.{byte, cellOf, frameOf, hiOf, userOf, entryFor, commandOf, commands};
 ghost use Rattle.plan.specs.Fields.{cellOk, frameOk, unitsOf, groupsOf, sequencesOf, hiOk, samePair, userOk, clash};
-ghost use Rattle.plan.specs.Check.{refusalNumber, need, hiFault, userFault, after, run, checkOf};
+ghost use Rattle.plan.specs.Check.{refusalNumber, need, hiFault, userFault, stateAfter, run, checkOf};
 ghost use Rattle.plan.specs.Rows.{nextOf, hisFrom, usersFrom};
 ghost use Rattle.plan.specs.Loops.{celled, bodyState};
 ghost use Rattle.plan.specs.declared.Refusal.the-variants.{Order as outOfOrder};
@@ -449,7 +449,7 @@ fn finish(
     next: usize,
 ) -> Checked
     requires { ⌜ mid ≡ start + 3 * his ⌝ }
-    ensures { λ r. ⌜ r ≡ run (after (bodyState (now (plan .entry)) cell frame start his mid users) endCommand) (commands (drop next (now (plan .entry)))) ⌝ }
+    ensures { λ r. ⌜ r ≡ run (stateAfter (bodyState (now (plan .entry)) cell frame start his mid users) endCommand) (commands (drop next (now (plan .entry)))) ⌝ }
 {
     if next < plan.len() {
         return Checked::Refused(Refusal::Order);
