@@ -16,14 +16,15 @@ use Rattle.codeword.specs.Codewords.{dataSymbol}
 use Rattle.codeword.specs.Streams.{outputs, symbolsOf}
 use Rattle.codeword.proofs.Laws.{output-of, outputs-start}
 use Rattle.plan.specs.Check.{checkOf}
-use Rattle.plan.specs.Rows.{usersOf}
+use Rattle.plan.specs.Rows.{usersOf, nthUser}
 use Rattle.plan.specs.declared.User.{User}
 use Rattle.plan.specs.declared.Plan.{Plan}
 use Rattle.plan.specs.declared.Checked.the-variants.{Plan as accepted}
 use Rattle.layout.specs.declared.Owner.the-variants.{Pbch, User as UserOf}
-use Rattle.places.specs.Places.{placesOf, ownsAt, placeCount, indexOf}
+use Rattle.counts.specs.Counts.{countOf}
+use Rattle.places.specs.Places.{placesOf, ownsAt, indexOf}
 use Rattle.grid.specs.Writing.{sends, Room}
-use Rattle.subframe.specs.Elements.{elementFor, ownerBit, pbchFirst, pbchSymbol, nthUser, userInit, userSymbol}
+use Rattle.subframe.specs.Elements.{elementFor, ownerBit, pbchFirst, pbchSymbol, userInit, userSymbol}
 use Rattle.subframe.specs.Grid.{elementNumbered}
 use Rattle.subframe.proofs.Occurs.{pbch-occurs, user-occurs}
 use Rattle.subframe.proofs.OwnerBits.{symbols-of-bits}
@@ -47,12 +48,12 @@ module _ (w : List ℕ) (p : Plan) (ok : checkOf w ≡ accepted p) (payload bits
     unfolding areaSends ownerSends active
     pbch-area e = rw (pbch-place w p ok zero-th (e % T), pbch-index w p ok zero-th (e % T)) refl
 
-    module _ (same : (n : ℕ) → n < 2 * placeCount w p Pbch → bitAt bits n ≡ ownerBit w p payload Pbch n) where
-      pbch-symbols : (j : ℕ) → j < placeCount w p Pbch → symbolsOf 2 bits (pairAt (p .cell .identity) (pbchFirst (p .cell) (p .frame))) j ≡ pbchSymbol w p payload j
+    module _ (same : (n : ℕ) → n < 2 * countOf w p Pbch → bitAt bits n ≡ ownerBit w p payload Pbch n) where
+      pbch-symbols : (j : ℕ) → j < countOf w p Pbch → symbolsOf 2 bits (pairAt (p .cell .identity) (pbchFirst (p .cell) (p .frame))) j ≡ pbchSymbol w p payload j
       unfolding symbolsOf pbchSymbol
       pbch-symbols j l =
           ap (λ (x : ℕ → ℕ). dataSymbol 2 (bitAt bits) x j) (from-bit (p .cell .identity) (pbchFirst (p .cell) (p .frame)))
-          ∙ symbols-of-bits 2 (placeCount w p Pbch) (bitAt bits) (ownerBit w p payload Pbch) (λ (i : ℕ). c (p .cell .identity) (i + pbchFirst (p .cell) (p .frame))) same j l
+          ∙ symbols-of-bits 2 (countOf w p Pbch) (bitAt bits) (ownerBit w p payload Pbch) (λ (i : ℕ). c (p .cell .identity) (i + pbchFirst (p .cell) (p .frame))) same j l
 
       pub pbch-value :
           (e : ℕ) → areaSends (pbchArea (p .cell) (p .frame)) e ≡ true
@@ -63,7 +64,7 @@ module _ (w : List ℕ) (p : Plan) (ok : checkOf w ≡ accepted p) (payload bits
           let o = and-true (ownsAt w p Pbch t) (sends (p .cell .ports) (indexOf w p Pbch t / 2 % 2) (e / T)) (sym (pbch-area e) ∙ h) in
           ap (λ (j : ℕ). placed (p .cell .ports) (j / 2 % 2) 2 (symbolsOf 2 bits (pairAt (p .cell .identity) (pbchFirst (p .cell) (p .frame)))) j (e / T)) (pbch-index w p ok zero-th t)
           ∙ placed-is (pbch-occurs w p ok) 2 (symbolsOf 2 bits (pairAt (p .cell .identity) (pbchFirst (p .cell) (p .frame)))) (pbchSymbol w p payload) pbch-symbols (indexOf w p Pbch t) (e / T) (index-lt w p ok Pbch e (o .0)) (sends-port room (indexOf w p Pbch t / 2 % 2) (e / T) (o .1))
-          ∙ ap (λ (x : ℕ). precoded (p .cell .ports) (placeCount w p Pbch) 2 (pbchSymbol w p payload) (indexOf w p Pbch x) (e / T)) (sym (place-number w p ok e))
+          ∙ ap (λ (x : ℕ). precoded (p .cell .ports) (countOf w p Pbch) 2 (pbchSymbol w p payload) (indexOf w p Pbch x) (e / T)) (sym (place-number w p ok e))
           ∙ sym (numbered w p ok payload Pbch e (o .0))
 
   -- ---- a user
@@ -79,12 +80,12 @@ module _ (w : List ℕ) (p : Plan) (ok : checkOf w ≡ accepted p) (payload bits
     unfolding areaSends ownerSends active nthUser
     user-area e = rw (user-place w p ok i in-i _ (e % T) (place-lt w p ok e), user-index w p ok i in-i _ (e % T) (omega (arith, place-lt w p ok e))) refl
 
-    module _ (same : (n : ℕ) → n < u .order * placeCount w p (UserOf i) → bitAt bits n ≡ ownerBit w p payload (UserOf i) n) where
-      user-symbols : (j : ℕ) → j < placeCount w p (UserOf i) → symbolsOf (u .order) bits (pairAt (userInit (p .cell) (p .frame) u) 0) j ≡ userSymbol w p payload i j
+    module _ (same : (n : ℕ) → n < u .order * countOf w p (UserOf i) → bitAt bits n ≡ ownerBit w p payload (UserOf i) n) where
+      user-symbols : (j : ℕ) → j < countOf w p (UserOf i) → symbolsOf (u .order) bits (pairAt (userInit (p .cell) (p .frame) u) 0) j ≡ userSymbol w p payload i j
       unfolding symbolsOf userSymbol
       user-symbols j l =
           ap (λ (x : ℕ → ℕ). dataSymbol (u .order) (bitAt bits) x j) (outputs-start (userInit (p .cell) (p .frame) u))
-          ∙ symbols-of-bits (u .order) (placeCount w p (UserOf i)) (bitAt bits) (ownerBit w p payload (UserOf i)) (c (userInit (p .cell) (p .frame) u)) same j l
+          ∙ symbols-of-bits (u .order) (countOf w p (UserOf i)) (bitAt bits) (ownerBit w p payload (UserOf i)) (c (userInit (p .cell) (p .frame) u)) same j l
 
       pub user-value :
           (e : ℕ) → areaSends (userArea (p .cell) (p .frame) (nthUser w p i)) e ≡ true
@@ -95,5 +96,5 @@ module _ (w : List ℕ) (p : Plan) (ok : checkOf w ≡ accepted p) (payload bits
           let o = and-true (ownsAt w p (UserOf i) t) (sends (p .cell .ports) (indexOf w p (UserOf i) t / 2 % 2) (e / T)) (sym (user-area e) ∙ h) in
           ap (λ (j : ℕ). placed (p .cell .ports) (j / 2 % 2) (unitOf (u .order)) (symbolsOf (u .order) bits (pairAt (userInit (p .cell) (p .frame) u) 0)) j (e / T)) (index-is t (place-lt w p ok e))
           ∙ placed-is (user-occurs w p ok i in-i) (unitOf (u .order)) (symbolsOf (u .order) bits (pairAt (userInit (p .cell) (p .frame) u) 0)) (userSymbol w p payload i) user-symbols (indexOf w p (UserOf i) t) (e / T) (index-lt w p ok (UserOf i) e (o .0)) (sends-port room (indexOf w p (UserOf i) t / 2 % 2) (e / T) (o .1))
-          ∙ ap (λ (x : ℕ). precoded (p .cell .ports) (placeCount w p (UserOf i)) (unitOf (u .order)) (userSymbol w p payload i) (indexOf w p (UserOf i) x) (e / T)) (sym (place-number w p ok e))
+          ∙ ap (λ (x : ℕ). precoded (p .cell .ports) (countOf w p (UserOf i)) (unitOf (u .order)) (userSymbol w p payload i) (indexOf w p (UserOf i) x) (e / T)) (sym (place-number w p ok e))
           ∙ sym (numbered w p ok payload (UserOf i) e (o .0))

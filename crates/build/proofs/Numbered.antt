@@ -18,7 +18,8 @@ use Rattle.plan.specs.declared.Plan.{Plan}
 use Rattle.plan.specs.declared.Checked.the-variants.{Plan as accepted}
 use Rattle.layout.specs.Owners.{gridPlace}
 use Rattle.layout.specs.declared.Owner.{Owner}
-use Rattle.places.specs.Places.{placeNumber, symbolAt, carrierAt, placesOf, ownsAt, placeCount, indexOf}
+use Rattle.counts.specs.Counts.{countOf}
+use Rattle.places.specs.Places.{placeNumber, symbolAt, carrierAt, placesOf, ownsAt, indexOf}
 use Rattle.places.proofs.Numbers.{place-both, carrier-inside, symbol-inside, first-row}
 use Rattle.places.proofs.Listing.{listed, some-carriers}
 use Rattle.grid.specs.Writing.{sends, Room}
@@ -68,5 +69,5 @@ module _ (w : List ℕ) (p : Plan) (ok : checkOf w ≡ accepted p) where
   pub place-number : (e : ℕ) → placeNumber (p .cell) (symbolAt (p .cell) (e % T)) (carrierAt (p .cell) (e % T)) ≡ e % T
   place-number e = place-both (p .cell) (e % T)
 
-  pub index-lt : (o : Owner) (e : ℕ) → ownsAt w p o (e % T) ≡ true → indexOf w p o (e % T) < placeCount w p o
+  pub index-lt : (o : Owner) (e : ℕ) → ownsAt w p o (e % T) ≡ true → indexOf w p o (e % T) < countOf w p o
   index-lt o e h = listed w p ok o .below (e % T) (place-lt e) h

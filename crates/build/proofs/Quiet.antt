@@ -20,7 +20,7 @@ use Rattle.precoding.specs.Places.{beside}
 use Rattle.precoding.proofs.Diversity.{by-place, phich-by-place}
 use Rattle.plan.specs.Check.{checkOf}
 use Rattle.plan.specs.Fields.{unitsOf}
-use Rattle.plan.specs.Rows.{usersOf}
+use Rattle.plan.specs.Rows.{usersOf, nthUser}
 use Rattle.plan.specs.declared.Plan.{Plan}
 use Rattle.plan.specs.declared.Checked.the-variants.{Plan as accepted}
 use Rattle.layout.specs.Rules.{inSlot, crsSymbol, crs, crsOf, marked, pss, sss, pbch, pbchArea}
@@ -29,11 +29,12 @@ use Rattle.layout.specs.declared.Mark.the-variants.{Primary, Secondary}
 use Rattle.layout.specs.declared.Owner.{Owner}
 use Rattle.layout.specs.declared.Owner.the-variants.{Crs, Sync, Pbch, Pcfich, Phich, User as UserOf, Held, Idle}
 use Rattle.layout.proofs.OneOwner.{one-owner}
-use Rattle.places.specs.Places.{placeNumber, symbolAt, carrierAt, placesOf, ownsAt, placeCount, indexOf}
-use Rattle.places.proofs.Listing.{pcfich-count, phich-count}
+use Rattle.counts.specs.Counts.{countOf}
+use Rattle.counts.proofs.FixedCounts.{phich-count, pcfich-count}
+use Rattle.places.specs.Places.{placeNumber, symbolAt, carrierAt, placesOf, ownsAt, indexOf}
 use Rattle.grid.specs.Writing.{sends}
 use Rattle.grid.proofs.Sending.{silent-port}
-use Rattle.subframe.specs.Elements.{elementFor, crsElement, pssElement, sssElement, pbchSymbol, pcfichSymbol, phichSum, nthUser, userSymbol}
+use Rattle.subframe.specs.Elements.{elementFor, crsElement, pssElement, sssElement, pbchSymbol, pcfichSymbol, phichSum, userSymbol}
 use Rattle.subframe.specs.Grid.{elementNumbered}
 use Rattle.subframe.proofs.Owned.{unit-owner, user-owner}
 use Rattle.subframe.proofs.Occurs.{even-occurs, pbch-occurs, user-occurs}
@@ -159,7 +160,7 @@ module _ (w : List ℕ) (p : Plan) (ok : checkOf w ≡ accepted p) (payload : Li
     unfolding elementFor active ownsAt pbchSends
     quiet-pbch h =
         let a = inactive Pbch (and-false (eqb (p .frame .subframe) 0) _ no-pbch (pbch-zero h)) h in
-        ap (λ (j : ℕ). precoded (p .cell .ports) (placeCount w p Pbch) 2 (pbchSymbol w p payload) j q) (index-at Pbch)
+        ap (λ (j : ℕ). precoded (p .cell .ports) (countOf w p Pbch) 2 (pbchSymbol w p payload) j q) (index-at Pbch)
         ∙ quiet-data (pbch-occurs w p ok) 2 (pbchSymbol w p payload) (indexOf w p Pbch t) q (index-lt w p ok Pbch e h) q-lt a
 
     quiet-pcfich : owns w p Pcfich s k ≡ true → elementFor w p payload Pcfich q s k ≡ silent
@@ -181,7 +182,7 @@ module _ (w : List ℕ) (p : Plan) (ok : checkOf w ≡ accepted p) (payload : Li
     unfolding elementFor active ownsAt usersSend
     quiet-user i h =
         let a = inactive (UserOf i) (none-at (λ (n : ℕ). ownerSends w p (UserOf n) e) (length (usersOf w p)) no-users i (user-owner w p i s k h)) h in
-        ap (λ (j : ℕ). precoded (p .cell .ports) (placeCount w p (UserOf i)) (unitOf (nthUser w p i .order)) (userSymbol w p payload i) j q) (index-at (UserOf i))
+        ap (λ (j : ℕ). precoded (p .cell .ports) (countOf w p (UserOf i)) (unitOf (nthUser w p i .order)) (userSymbol w p payload i) j q) (index-at (UserOf i))
         ∙ quiet-data (user-occurs w p ok i (user-owner w p i s k h)) (unitOf (nthUser w p i .order)) (userSymbol w p payload i) (indexOf w p (UserOf i) t) q (index-lt w p ok (UserOf i) e h) q-lt a
 
     by-owner : (o : Owner) → owns w p o s k ≡ true → elementFor w p payload o q s k ≡ silent

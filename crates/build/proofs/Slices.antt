@@ -8,7 +8,7 @@ use lib.Seq.{getD-take, getD-drop, drop-cons}
 use Rattle.base.specs.Bits.{bitAt}
 use Rattle.plan.specs.Check.{checkOf}
 use Rattle.plan.specs.Commands.{userOf}
-use Rattle.plan.specs.Rows.{nextOf, usersFrom, usersOf}
+use Rattle.plan.specs.Rows.{nextOf, usersFrom, usersOf, nthUser}
 use Rattle.plan.specs.Valid.{UserIn}
 use Rattle.plan.specs.declared.User.{User}
 use Rattle.plan.specs.declared.Plan.{Plan}
@@ -18,15 +18,18 @@ use Rattle.plan.proofs.Listed.{every-at}
 use Rattle.plan.proofs.Valid.{valid}
 use Rattle.layout.specs.declared.Owner.the-variants.{Pbch, User as UserOf}
 use Rattle.counts.specs.Users.{userElements}
-use Rattle.places.specs.Places.{placesOf, ownsAt, placeCount}
+use Rattle.counts.specs.Counts.{countOf}
+use Rattle.counts.proofs.UserElements.{user-elements}
+use Rattle.places.specs.Places.{placesOf, ownsAt}
 use Rattle.places.proofs.Counts.{cnt-most}
-use Rattle.payload.specs.Sections.{sectionBytes, bytesOf, startOf, span, sectionBits}
-use Rattle.payload.specs.Payload.{pbchBits, userBits, heads, userSections, sections, payloadLength, usersStart}
+use Rattle.places.proofs.Elements.{count-is}
+use Rattle.payload.specs.Sections.{sectionBytes, bytesOf, startOf, sectionBits}
+use Rattle.payload.specs.Payload.{pbchBits, userBits, heads, sections, payloadLength, usersStart}
 use Rattle.payload.specs.Bits.{ownerBits}
-use Rattle.payload.specs.Loops.{UserReady}
-use Rattle.payload.proofs.Sections.{length-is, userStart, user-start, user-start-next, user-bits-at}
-use Rattle.subframe.specs.Elements.{ownerBit, hiBit, nthUser}
-use Rattle.subframe.proofs.OwnerBits.{span-length, span-at, pbch-size, user-size, user-places}
+use Rattle.payload.specs.Loops.{computedBits, UserReady}
+use Rattle.payload.proofs.Sections.{span-length, span-at, hi-at, Users, length-is, userStart, user-start, user-start-next, user-bits-at, bits-computed}
+use Rattle.subframe.specs.Elements.{ownerBit, hiBit}
+use Rattle.subframe.proofs.OwnerBits.{pbch-size}
 
 -- bit n of a part that starts at byte a
 pub bit-slice : (s : List ℕ) (a m n : ℕ) → n / 8 < m → bitAt (take m (drop a s)) n ≡ bitAt s (8 * a + n)
@@ -82,7 +85,7 @@ start-le (n ∷ ns) (suc i) = omega (arith, start-le ns i)
 
 module _ (w : List ℕ) (p : Plan) (ok : checkOf w ≡ accepted p) (payload : List ℕ) where
   pub start-room : (i : ℕ) → userStart w p i ≤ payloadLength w p
-  start-room i = omega (arith, user-start w p i, length-is w p, start-le (userSections (p .cell) (p .frame) (usersOf w p)) i)
+  start-room i = omega (arith, user-start w p i, length-is w p, start-le (Users w p) i)
 
   module _ (i : ℕ) (in-i : i < length (usersOf w p)) where
     abbrev u : User
@@ -93,29 +96,32 @@ module _ (w : List ℕ) (p : Plan) (ok : checkOf w ≡ accepted p) (payload : Li
     user-valid = every-at (UserIn (p .cell)) _ (usersOf w p) i (valid w p ok .users) in-i
 
     user-least : userElements (p .cell) (p .frame) (u .first) (u .count) ≤ placesOf (p .cell)
-    unfolding placeCount
-    user-least = omega (arith, user-places w p ok i in-i, cnt-most (ownsAt w p (UserOf i)) (placesOf (p .cell)))
+    unfolding nthUser
+    user-least =
+        let e : countOf w p (UserOf i) ≡ userElements (p .cell) (p .frame) (u .first) (u .count) = user-elements w p ok _ i in-i in
+        omega (arith, count-is w p (UserOf i), cnt-most (ownsAt w p (UserOf i)) (placesOf (p .cell)))
 
     pub user-ready : placesOf (p .cell) ≤ 16800 → UserReady (p .cell) (p .frame) (nthUser w p i)
     user-ready h = record { cell = valid w p ok .cell; frame = valid w p ok .frame; user = user-valid; fits = omega (arith, user-least) }
 
-    pub start-next : userStart w p (i + 1) ≡ userStart w p i + sectionBytes (userBits (p .cell) (p .frame) (nthUser w p i))
-    unfolding nthUser
-    start-next = let e : i + 1 ≡ suc i = omega arith in ap (userStart w p) e ∙ user-start-next w p _ i in-i
+    pub start-next : userStart w p (i + 1) ≡ userStart w p i + sectionBytes (userBits w p i)
+    start-next = let e : i + 1 ≡ suc i = omega arith in ap (userStart w p) e ∙ user-start-next w p i in-i
+
+    -- the end of the user's section, as the code computes it
+    pub section-end : (v : User) (start end : ℕ) → v ≡ nthUser w p i → end ≡ start + sectionBytes (computedBits (p .cell) (p .frame) v) → end ≡ start + sectionBytes (userBits w p i)
+    section-end v start end ev ee =
+        ee ∙ ap (λ (n : ℕ). start + sectionBytes n) (ap (computedBits (p .cell) (p .frame)) ev ∙ sym (bits-computed w p ok i in-i))
 
     pub user-slice :
-        (start end : ℕ) → start ≡ userStart w p i → end ≡ start + sectionBytes (userBits (p .cell) (p .frame) (nthUser w p i))
-        → (n : ℕ) → n < nthUser w p i .order * placeCount w p (UserOf i) → bitAt (take (end - start) (drop start payload)) n ≡ ownerBit w p payload (UserOf i) n
-    unfolding ownerBit nthUser
+        (start end : ℕ) → start ≡ userStart w p i → end ≡ start + sectionBytes (userBits w p i)
+        → (n : ℕ) → n < nthUser w p i .order * countOf w p (UserOf i) → bitAt (take (end - start) (drop start payload)) n ≡ ownerBit w p payload (UserOf i) n
+    unfolding ownerBit userBits
     user-slice start end es ee n l =
-        let size : length (ownerBits w p (UserOf i)) ≡ u .order * placeCount w p (UserOf i) = user-size w p ok i in-i in
-        let bits : ownerBits w p (UserOf i) ≡ span (8 * userStart w p i) (userBits (p .cell) (p .frame) u) = user-bits-at w p _ i in-i in
-        let less : n < userBits (p .cell) (p .frame) u = omega (arith, span-length (8 * userStart w p i) (userBits (p .cell) (p .frame) u), ap length bits, size) in
         bit-slice payload start (end - start) n (omega arith)
-        ∙ ap (bitAt payload) (sym (ap (λ (x : List ℕ). getD x n 0) bits ∙ span-at (8 * userStart w p i) (userBits (p .cell) (p .frame) u) n less ∙ ap (λ (x : ℕ). 8 * x + n) (sym es)))
+        ∙ ap (bitAt payload) (sym (ap (λ (x : List ℕ). getD x n 0) (user-bits-at w p i in-i) ∙ span-at (8 * userStart w p i) (userBits w p i) n l ∙ ap (λ (x : ℕ). 8 * x + n) (sym es)))
 
   -- PBCH's section is the first, the HIs' the second
-  pub pbch-slice : (end : ℕ) → end ≡ sectionBytes (pbchBits (p .cell) (p .frame)) → (n : ℕ) → n < 2 * placeCount w p Pbch → bitAt (take (end - 0) (drop 0 payload)) n ≡ ownerBit w p payload Pbch n
+  pub pbch-slice : (end : ℕ) → end ≡ sectionBytes (pbchBits (p .cell) (p .frame)) → (n : ℕ) → n < 2 * countOf w p Pbch → bitAt (take (end - 0) (drop 0 payload)) n ≡ ownerBit w p payload Pbch n
   unfolding ownerBit ownerBits sectionBits sections heads startOf bytesOf
   pbch-slice end ee n l =
       let less : n < pbchBits (p .cell) (p .frame) = omega (arith, span-length 0 (pbchBits (p .cell) (p .frame)), pbch-size w p ok) in
@@ -128,7 +134,7 @@ module _ (w : List ℕ) (p : Plan) (ok : checkOf w ≡ accepted p) (payload : Li
   unfolding hiBit usersStart sections heads startOf bytesOf
   hi-slice start end es ee n l =
       bit-slice payload start (end - start) n (omega arith)
-      ∙ (let e : 8 * start + n ≡ 8 * (sectionBytes (pbchBits (p .cell) (p .frame)) + 0) + n = omega arith in ap (bitAt payload) e)
+      ∙ (let e : 8 * start + n ≡ 8 * (sectionBytes (pbchBits (p .cell) (p .frame)) + 0) + n = omega arith in ap (bitAt payload) (e ∙ sym (hi-at w p n l)))
 
   pub heads-room : (start end : ℕ) → start ≡ sectionBytes (pbchBits (p .cell) (p .frame)) → end ≡ usersStart p → (start ≤ end) × (end ≤ payloadLength w p)
   unfolding usersStart heads bytesOf

@@ -14,7 +14,7 @@ use Rattle.gold.specs.Sequence.{pairAt}
 use Rattle.plan.specs.Check.{checkOf}
 use Rattle.plan.specs.Commands.{userOf}
 use Rattle.plan.specs.Fields.{unitsOf}
-use Rattle.plan.specs.Rows.{nextOf, usersOf}
+use Rattle.plan.specs.Rows.{nextOf, usersOf, nthUser}
 use Rattle.plan.specs.Valid.{UserIn}
 use Rattle.plan.specs.declared.User.{User}
 use Rattle.plan.specs.declared.Plan.{Plan}
@@ -26,11 +26,10 @@ use Rattle.layout.specs.declared.Owner.the-variants.{Pcfich, Phich, User as Use
 use Rattle.places.specs.Places.{placesOf}
 use Rattle.payload.specs.Sections.{sectionBytes}
 use Rattle.payload.specs.Payload.{pbchBits, userBits, payloadLength, usersStart}
-use Rattle.payload.specs.Loops.{UserReady}
+use Rattle.payload.specs.Loops.{computedBits, UserReady}
 use Rattle.payload.proofs.Sections.{userStart, user-start-first}
 use Rattle.grid.specs.Writing.{Written}
 use Rattle.grid.proofs.Writing.{none, same, over, room-kept, whole}
-use Rattle.subframe.specs.Elements.{nthUser}
 use Rattle.subframe.specs.Grid.{elementNumbered, gridOf}
 use Rattle.subframe.proofs.Bytes.{length-by-port}
 use Rattle.signals.specs.Signals.{markSends, pssSent, sssSent}
@@ -43,7 +42,7 @@ use Rattle.build.proofs.DataValues.{pbch-area, pbch-value, user-area, u
 use Rattle.build.proofs.SignalValues.{crs-numbered, pss-numbered, sss-numbered}
 use Rattle.build.proofs.ControlValues.{pcfich-owned, pcfich-numbered, phich-owned, phich-numbered}
 use Rattle.build.proofs.Quiet.{quiet}
-use Rattle.build.proofs.Slices.{From, from-first, from-user, from-next, start-room, user-valid, user-ready, start-next, user-slice, pbch-slice, hi-slice}
+use Rattle.build.proofs.Slices.{From, from-first, from-user, from-next, start-room, user-valid, user-ready, start-next, section-end, user-slice, pbch-slice, hi-slice}
 
 -- ---- one of several after the other
 module _ (f : ℕ → ℕ → Bool) {E : ℕ → Element} {g₀ : List ℕ} where
@@ -203,9 +202,12 @@ module _ (w : List ℕ) (p : Plan) (payload : List ℕ) {g₀ : List ℕ} (start
     pub going-ready : UserReady (p .cell) (p .frame) u
     going-ready = rw user-is (user-ready w p ok payload i in-i (start .room .fits))
 
-    module _ (end : ℕ) (ee : end ≡ from + sectionBytes (userBits (p .cell) (p .frame) u)) where
+    module _ (end : ℕ) (ee : end ≡ from + sectionBytes (computedBits (p .cell) (p .frame) u)) where
+      ends : end ≡ from + sectionBytes (userBits w p i)
+      ends = section-end w p ok payload i in-i u from end user-is ee
+
       end-is : end ≡ userStart w p (i + 1)
-      end-is = ee ∙ rw (user-is, so .section) (sym (start-next w p ok payload i in-i))
+      end-is = ends ∙ rw (so .section) (sym (start-next w p ok payload i in-i))
 
       pub going-room : (from ≤ end) × (end ≤ payloadLength w p)
       going-room = (omega arith, rw end-is (start-room w p ok payload (i + 1)))
@@ -223,7 +225,7 @@ module _ (w : List ℕ) (p : Plan) (payload : List ℕ) {g₀ : List ℕ} (start
             written =
                 turn-more (λ (n e : ℕ). ownerSends w p (UserOf n) e) i (so .written) (rw user-is at r)
                 (λ e. user-area w p ok payload payload (start .room) i in-i e)
-                (λ e k. user-value w p ok payload (take (end - from) (drop from payload)) (start .room) i in-i (user-slice w p ok payload i in-i from end (so .section) (ee ∙ rw user-is refl)) e k);
+                (λ e k. user-value w p ok payload (take (end - from) (drop from payload)) (start .room) i in-i (user-slice w p ok payload i in-i from end (so .section) ends) e k);
           }
 
   pub users-end : {at from i : ℕ} {g : List ℕ} → Going at from i g → p .users .count ≤ i → Written (usersSend w p (length (usersOf w p))) E g₀ g

@@ -19,7 +19,8 @@ use Rattle.precoding.specs.Phich.{phichPrecoded}
 use Rattle.precoding.specs.Places.{placed}
 use Rattle.precoding.proofs.Diversity.{by-place, phich-by-place}
 use Rattle.phich.specs.Units.{unitSums, SameHiBits}
-use Rattle.phich.proofs.Units.{bit-le, exactly}
+use Rattle.phich.proofs.Units.{bit-le, exactly, length-ok}
+use Rattle.phich.specs.Spreading.{spreadLength}
 use Rattle.plan.specs.Check.{checkOf}
 use Rattle.plan.specs.Fields.{unitsOf}
 use Rattle.plan.specs.Rows.{hisOf}
@@ -34,8 +35,8 @@ use Rattle.layout.specs.declared.Owner.the-variants.{Pcfich, Phich}
 use Rattle.places.specs.Places.{placeNumber, symbolAt, carrierAt, placesOf, ownsAt, orderOf, indexBy, indexOf}
 use Rattle.places.proofs.Numbers.{place-both}
 use Rattle.grid.specs.Writing.{sends, Room}
-use Rattle.subframe.specs.Elements.{controlInit, pcfichSymbol, spreadLength, hiBit, phichSum, elementFor}
-use Rattle.subframe.proofs.Acknowledged.{length-ok, within, distinct}
+use Rattle.subframe.specs.Elements.{controlInit, pcfichSymbol, hiBit, phichSum, elementFor}
+use Rattle.subframe.proofs.Acknowledged.{within, distinct}
 use Rattle.subframe.proofs.Occurs.{even-occurs}
 use Rattle.control.specs.Control.{pcfichIndex, pcfichSends, pcfichSent, phichIndex, phichSends, sumsFrom, phichSent}
 use Rattle.control.specs.Filling.{PcfichIn, PhichIn}

@@ -22,10 +22,11 @@ use Rattle.precoding.specs.Places.{ownPort}
 use Rattle.grid.specs.Elements.{elementIn}
 use Rattle.grid.proofs.Sending.{own-fits}
 use Rattle.phich.specs.His.{hiNumber}
-use Rattle.phich.specs.Spreading.{Length, wordBit}
+use Rattle.phich.specs.Spreading.{Length, wordBit, spreadLength}
 use Rattle.phich.specs.Units.{mappingUnit, Within}
 use Rattle.phich.specs.Recovery.{along, bitIn}
 use Rattle.phich.proofs.Chips.{bit-chips}
+use Rattle.phich.proofs.Units.{length-ok}
 use Rattle.plan.specs.Commands.{hiOf}
 use Rattle.plan.specs.Rows.{hisFrom, nextOf}
 use Rattle.plan.specs.declared.Cell.{Cell}
@@ -35,8 +36,6 @@ use Rattle.plan.proofs.RowLaws.{row-length, row-next}
 use Rattle.places.specs.Places.{placesOf}
 use Rattle.places.specs.Quads.{quadPlace, unitGroup}
 use Rattle.payload.specs.Sections.{sectionBytes}
-use Rattle.subframe.proofs.Acknowledged.{length-ok}
-use Rattle.subframe.specs.Elements.{spreadLength}
 use Rattle.recovery.specs.Recovery.{sectionOf}
 use Rattle.control.specs.Reading.{ownElement, sumRead, sumsOf, ackRead, ackFrom, pushed, PushIn, UnitRead, HiRead, ReadIn}
 use Rattle.control.proofs.Listings.{few-groups, place-inside, phich-groups}

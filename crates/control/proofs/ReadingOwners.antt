@@ -16,6 +16,8 @@ use Rattle.grid.specs.Writing.{Room}
 use Rattle.phich.specs.His.{hiNumber}
 use Rattle.phich.specs.Units.{mappingUnit}
 use Rattle.phich.specs.Recovery.{bitIn}
+use Rattle.phich.specs.Spreading.{spreadLength}
+use Rattle.phich.proofs.Units.{hi-unit}
 use Rattle.plan.specs.Check.{checkOf}
 use Rattle.plan.specs.Rows.{hisOf}
 use Rattle.plan.specs.Valid.{HiIn}
@@ -29,10 +31,9 @@ use Rattle.places.specs.Places.{placesOf, placeOf}
 use Rattle.places.specs.Quads.{quadPlace, unitGroup}
 use Rattle.places.proofs.Listing.{phich-place}
 use Rattle.payload.specs.Sections.{sectionBytes}
-use Rattle.subframe.specs.Elements.{controlInit, spreadLength}
+use Rattle.subframe.specs.Elements.{controlInit}
 use Rattle.subframe.proofs.Acknowledged.{within}
 use Rattle.recovery.specs.Recovery.{symbolIn, sumsIn, ackBit}
-use Rattle.recovery.proofs.Units.{hi-unit}
 use Rattle.control.specs.Reading.{ownElement, sumRead, sumsOf, ackFrom, ReadIn}
 
 module _ (w : List ℕ) (p : Plan) (g : List ℕ) where

@@ -9,16 +9,14 @@ use Rattle.base.specs.Bits.{bitAt}
 use Rattle.gold.specs.declared.Registers.{Registers}
 use Rattle.gold.specs.Steps.{wordOf}
 use Rattle.codeword.specs.Streams.{outputs}
-use Rattle.phich.specs.Spreading.{wordBit}
+use Rattle.phich.specs.Spreading.{wordBit, spreadLength}
 use Rattle.phich.specs.Units.{unitSums, Ready}
-use Rattle.phich.proofs.Units.{ready, small}
+use Rattle.phich.proofs.Units.{ready, small, length-ok}
 use Rattle.phich.proofs.Chips.{sums-chips}
 use Rattle.plan.specs.Rows.{hisFrom}
 use Rattle.plan.specs.declared.Cell.{Cell}
 use Rattle.plan.specs.declared.Row.{Row}
 use Rattle.grid.specs.Writing.{Written}
-use Rattle.subframe.proofs.Acknowledged.{length-ok}
-use Rattle.subframe.specs.Elements.{spreadLength}
 use Rattle.control.specs.Control.{phichSends, sumsFrom, phichSent}
 use Rattle.control.specs.Filling.{PhichIn, UnitIn, unitSent}
 use Rattle.control.proofs.Words.{word-bits}

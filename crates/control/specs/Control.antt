@@ -1,6 +1,6 @@
 -- For the inner contracts and loops only: the elements that PCFICH and the PHICH units write. T is the number of places on a port, an
 -- element's number is port × T + place.
-use Prim.Native.Nat.{ℕ, _+_, _*_, _/_, _%_}
+use Prim.Native.Nat.{ℕ, _+_, _/_, _%_}
 use mathlib.Core.Bool.{Bool, _&&_}
 use mathlib.Core.List.{List}
 use lib.ListN.{getD}
@@ -13,6 +13,7 @@ use Rattle.codeword.specs.Codewords.{dataSymbol, cfiBit}
 use Rattle.codeword.specs.Streams.{outputs}
 use Rattle.precoding.specs.Places.{placed}
 use Rattle.phich.specs.Units.{unitSums}
+use Rattle.phich.specs.Spreading.{spreadLength}
 use Rattle.plan.specs.Fields.{unitsOf}
 use Rattle.plan.specs.declared.Cell.{Cell}
 use Rattle.plan.specs.declared.Hi.{Hi}
@@ -20,7 +21,6 @@ use Rattle.layout.specs.Rules.{pcfich, phich, formatGroup}
 use Rattle.places.specs.Places.{symbolAt, carrierAt, placesOf}
 use Rattle.places.specs.Quads.{unitGroup, quadsIndex}
 use Rattle.grid.specs.Writing.{sends}
-use Rattle.subframe.specs.Elements.{spreadLength}
 
 -- which of PCFICH's places t is, and which of unit m's
 unfoldable pub pcfichIndex : Cell → ℕ → ℕ

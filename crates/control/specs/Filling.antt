@@ -8,6 +8,7 @@ use Rattle.base.specs.Pairs.{nil, Small}
 use Rattle.precoding.specs.Places.{onPort, placed}
 use Rattle.phich.specs.His.{Distinct}
 use Rattle.phich.specs.Units.{Within}
+use Rattle.phich.specs.Spreading.{spreadLength}
 use Rattle.plan.specs.Fields.{unitsOf}
 use Rattle.plan.specs.Rows.{hisFrom}
 use Rattle.plan.specs.Valid.{CellIn}
@@ -15,7 +16,6 @@ use Rattle.plan.specs.declared.Cell.{Cell}
 use Rattle.plan.specs.declared.Row.{Row}
 use Rattle.places.specs.Places.{placesOf}
 use Rattle.grid.specs.Writing.{sentAt, Written, Room}
-use Rattle.subframe.specs.Elements.{spreadLength}
 use Rattle.control.specs.Control.{phichIndex}
 
 -- "CFI (1–3)", and a grid of the cell

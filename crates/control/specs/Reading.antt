@@ -17,6 +17,7 @@ use Rattle.grid.specs.Writing.{Room}
 use Rattle.phich.specs.His.{hiNumber}
 use Rattle.phich.specs.Units.{mappingUnit, Within}
 use Rattle.phich.specs.Recovery.{bitIn}
+use Rattle.phich.specs.Spreading.{spreadLength}
 use Rattle.plan.specs.Fields.{unitsOf}
 use Rattle.plan.specs.Rows.{hisFrom}
 use Rattle.plan.specs.Valid.{CellIn}
@@ -26,7 +27,6 @@ use Rattle.plan.specs.declared.Row.{Row}
 use Rattle.places.specs.Places.{placesOf}
 use Rattle.places.specs.Quads.{quadPlace, unitGroup}
 use Rattle.payload.specs.Sections.{sectionBytes}
-use Rattle.subframe.specs.Elements.{spreadLength}
 
 -- the number of the element at place i of unit m, on the port that sends the sum itself: quad i / 4 uses one port or the other by i / 4 + m
 unfoldable pub ownElement : Cell → ℕ → ℕ → ℕ

@@ -15,6 +15,7 @@ use Rattle.phich.specs.His.{hiNumber}
 use Rattle.phich.specs.Units.{unitSums, SameHiBits}
 use Rattle.phich.specs.Recovery.{bitIn}
 use Rattle.phich.proofs.Units.{same-sums}
+use Rattle.phich.specs.Spreading.{spreadLength}
 use Rattle.plan.specs.Check.{checkOf}
 use Rattle.plan.specs.Fields.{unitsOf}
 use Rattle.plan.specs.Rows.{hisOf}
@@ -23,7 +24,7 @@ use Rattle.plan.specs.declared.Checked.the-variants.{Plan as accepted}
 use Rattle.plan.proofs.Valid.{valid}
 use Rattle.layout.specs.declared.Owner.the-variants.{Phich}
 use Rattle.places.specs.Places.{symbolAt, carrierAt, placesOf}
-use Rattle.subframe.specs.Elements.{controlInit, spreadLength, hiBit, phichSum, elementFor}
+use Rattle.subframe.specs.Elements.{controlInit, hiBit, phichSum, elementFor}
 use Rattle.recovery.specs.Recovery.{sumsIn, ackBit, payloadIn}
 use Rattle.recovery.proofs.Payload.{hi-bit}
 use Rattle.control.specs.Control.{phichIndex, phichSends}

@@ -12,20 +12,18 @@ use Rattle.gold.specs.declared.Registers.{Registers}
 use Rattle.gold.specs.Steps.{wordOf}
 use Rattle.codeword.specs.Streams.{outputs}
 use Rattle.phich.specs.His.{hiNumber}
-use Rattle.phich.specs.Spreading.{wordBit, Length}
+use Rattle.phich.specs.Spreading.{wordBit, Length, spreadLength}
 use Rattle.phich.specs.Units.{mappingUnit, unitSums, Ready}
 use Rattle.phich.specs.Recovery.{bitIn}
 use Rattle.phich.specs.Loops.{withHi}
 use Rattle.phich.proofs.Chips.{sums-chips, bit-chips}
 use Rattle.phich.proofs.Turns as turns
 use Rattle.phich.proofs.Turns.{Turn, here, split, here-known}
-use Rattle.phich.proofs.Units.{small}
+use Rattle.phich.proofs.Units.{small, length-ok}
 use Rattle.plan.specs.Rows.{hisFrom, nextOf}
 use Rattle.plan.specs.declared.Cell.{Cell}
 use Rattle.plan.specs.declared.Hi.{Hi}
 use Rattle.plan.specs.declared.Row.{Row}
-use Rattle.subframe.specs.Elements.{spreadLength}
-use Rattle.subframe.proofs.Acknowledged.{length-ok}
 use Rattle.compare.specs.declared.Seen.{Seen}
 use Rattle.compare.specs.Comparing.{Compared}
 use Rattle.control.specs.Control.{phichSends}

@@ -7,9 +7,9 @@ use Rattle.codeword.specs.Streams.{outputs}
 use Rattle.phich.specs.His.{hiNumber}
 use Rattle.phich.specs.Units.{unitSums}
 use Rattle.phich.specs.Recovery.{bitIn}
+use Rattle.phich.specs.Spreading.{spreadLength}
 use Rattle.plan.specs.declared.Cell.{Cell}
 use Rattle.plan.specs.declared.Hi.{Hi}
-use Rattle.subframe.specs.Elements.{spreadLength}
 use Rattle.control.specs.Reading.{sumsOf}
 
 -- the bits of the HIs hs that the sums give with the scrambling bits x; those of other units' HIs play no part

@@ -1,4 +1,4 @@
--- What the promises cite: a user's count without a look at each place. proofs/UserElements.antt: it is the number of its places.
+-- For the inner contracts only: a user's count without a look at each place. proofs/UserElements.antt: it is the number of its places.
 -- In document 01's letters: N blocks, P ports, f subframe, l a symbol's number in its slot; L is the number of symbols of a slot.
 use Prim.Native.Nat.{ℕ, _+_, _-_, _*_, min, max}
 use mathlib.Core.Bool.{Bool, _&&_, _||_}

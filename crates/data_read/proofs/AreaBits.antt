@@ -11,17 +11,19 @@ use Rattle.modulation.specs.Demapping.{demapOf}
 use Rattle.codeword.proofs.Laws.{output-of, outputs-start}
 use Rattle.precoding.specs.Places.{ownPort}
 use Rattle.plan.specs.Check.{checkOf}
-use Rattle.plan.specs.Rows.{usersOf}
+use Rattle.plan.specs.Rows.{usersOf, nthUser}
 use Rattle.plan.specs.declared.User.{User}
 use Rattle.plan.specs.declared.Plan.{Plan}
 use Rattle.plan.specs.declared.Checked.the-variants.{Plan as accepted}
 use Rattle.layout.specs.declared.Owner.the-variants.{Pbch, User as UserOf}
-use Rattle.places.specs.Places.{placesOf, ownsAt, placeCount, placeOf, placeBy, orderOf}
+use Rattle.counts.specs.Counts.{countOf}
+use Rattle.places.specs.Places.{placesOf, ownsAt, placeOf, placeBy, orderOf}
 use Rattle.places.proofs.Counts.{cnt-same, nth-same}
+use Rattle.places.proofs.Elements.{count-is}
 use Rattle.grid.specs.Elements.{elementIn}
 use Rattle.payload.specs.Payload.{pbchBits, userBits}
-use Rattle.subframe.specs.Elements.{pbchFirst, userInit, nthUser}
-use Rattle.subframe.proofs.OwnerBits.{pbch-size, user-places}
+use Rattle.subframe.specs.Elements.{pbchFirst, userInit}
+use Rattle.subframe.proofs.OwnerBits.{pbch-size}
 use Rattle.recovery.specs.Recovery.{wordOf, symbolIn, dataBit, pbchBit, userBit, sectionOf}
 use Rattle.recovery.proofs.Channels.{pbch-length}
 use Rattle.data.specs.Areas.{areaAt, pbchArea, userArea}
@@ -39,9 +41,9 @@ module _ (w : List ℕ) (p : Plan) (ok : checkOf w ≡ accepted p) where
       (nth-same (areaAt (pbchArea (p .cell) (p .frame))) (ownsAt w p Pbch) (placesOf (p .cell)) (λ t l. pbch-place w p ok z t) (i / 2))
       (output-of (p .cell .identity) (pbchFirst (p .cell) (p .frame)) i ∙ ap (c (p .cell .identity)) (add-comm (pbchFirst (p .cell) (p .frame)) i))
 
-  pub pbch-count : p .frame .subframe ≡ 0 → areaCount (pbchArea (p .cell) (p .frame)) ≡ placeCount w p Pbch
-  unfolding areaCount placeCount
-  pbch-count z = cnt-same (areaAt (pbchArea (p .cell) (p .frame))) (ownsAt w p Pbch) (placesOf (p .cell)) (λ t l. pbch-place w p ok z t)
+  pub pbch-count : p .frame .subframe ≡ 0 → areaCount (pbchArea (p .cell) (p .frame)) ≡ countOf w p Pbch
+  unfolding areaCount
+  pbch-count z = cnt-same (areaAt (pbchArea (p .cell) (p .frame))) (ownsAt w p Pbch) (placesOf (p .cell)) (λ t l. pbch-place w p ok z t) ∙ count-is w p Pbch
 
   module _ (i : ℕ) (in-i : i < length (usersOf w p)) (d : User) where
     abbrev u : User
@@ -56,9 +58,11 @@ module _ (w : List ℕ) (p : Plan) (ok : checkOf w ≡ accepted p) where
         (nth-same (areaAt (userArea (p .cell) (p .frame) u)) (ownsAt w p (UserOf i)) (placesOf (p .cell)) (λ t l. user-place w p ok i in-i d t l) (n / u .order))
         (ap (λ (x : ℕ → ℕ). x n) (outputs-start (userInit (p .cell) (p .frame) u)))
 
-    pub user-count : areaCount (userArea (p .cell) (p .frame) u) ≡ placeCount w p (UserOf i)
-    unfolding areaCount placeCount
-    user-count = cnt-same (areaAt (userArea (p .cell) (p .frame) u)) (ownsAt w p (UserOf i)) (placesOf (p .cell)) (λ t l. user-place w p ok i in-i d t l)
+    pub user-count : areaCount (userArea (p .cell) (p .frame) u) ≡ countOf w p (UserOf i)
+    unfolding areaCount
+    user-count =
+        cnt-same (areaAt (userArea (p .cell) (p .frame) u)) (ownsAt w p (UserOf i)) (placesOf (p .cell)) (λ t l. user-place w p ok i in-i d t l)
+        ∙ count-is w p (UserOf i)
 
   -- ---- the sections
   pub pbch-section :
@@ -71,8 +75,8 @@ module _ (w : List ℕ) (p : Plan) (ok : checkOf w ≡ accepted p) where
   pub user-section :
       (i : ℕ) → i < length (usersOf w p) → (g : List ℕ)
       → sectionOf (areaBit (userArea (p .cell) (p .frame) (nthUser w p i)) (nthUser w p i .order) g (pairAt (userInit (p .cell) (p .frame) (nthUser w p i)) 0)) (nthUser w p i .order * areaCount (userArea (p .cell) (p .frame) (nthUser w p i)))
-      ≡ sectionOf (userBit w p g i (nthUser w p i)) (userBits (p .cell) (p .frame) (nthUser w p i))
+      ≡ sectionOf (userBit w p g i (nthUser w p i)) (userBits w p i)
   unfolding nthUser userBits
   user-section i in-i g =
       ap₂ sectionOf (λ t n. user-bits i in-i (record { rnti = 0; order = 0; first = 0; count = 0 }) g n t)
-      (ap (λ (n : ℕ). nthUser w p i .order * n) (user-count i in-i (record { rnti = 0; order = 0; first = 0; count = 0 }) ∙ user-places w p ok i in-i))
+      (ap (λ (n : ℕ). nthUser w p i .order * n) (user-count i in-i (record { rnti = 0; order = 0; first = 0; count = 0 })))

@@ -25,11 +25,12 @@ use Rattle.plan.proofs.Answers.{no-number}
 use Rattle.plan.proofs.Valid.{valid}
 use Rattle.plan.proofs.Counts.{his-most, users-most}
 use Rattle.base.specs.Choice.{if_then_else_}
-use Rattle.counts.specs.Users.{userElements}
+use Rattle.counts.specs.Sums.{sumOf}
+use Rattle.counts.specs.Users.{userElements, allElements}
 use Rattle.payload.specs.Sections.{bytesOf}
-use Rattle.payload.specs.Payload.{pbchBits, userBits, heads, userSections, sections, payloadLength}
-use Rattle.payload.specs.Bits.{tally}
-use Rattle.payload.specs.Loops.{elementsOf}
+use Rattle.payload.specs.Payload.{pbchBits, heads, payloadLength}
+use Rattle.payload.specs.Loops.{computedBits, computedSections}
+use Rattle.payload.proofs.Sections.{sections-computed}
 use Rattle.payload.proofs.Room.{ready}
 use Rattle.mapper.specs.Calls.{answerWith, numberAnswer, payloadLengthOf}
 use Rattle.mapper.specs.declared.Number.{Number}
@@ -45,23 +46,24 @@ broadcast-most c f = pick (eqb (f .subframe) 0) (eqb (c .prefix) 1)
     pick true false = omega arith
     pick false u = omega arith
 
-user-bits-most : (c : Cell) (f : Frame) (u : User) → UserIn c u → userBits c f u ≤ 6 * userElements c f (u .first) (u .count)
-unfolding userBits
+user-bits-most : (c : Cell) (f : Frame) (u : User) → UserIn c u → computedBits c f u ≤ 6 * userElements c f (u .first) (u .count)
+unfolding computedBits
 user-bits-most c f u h =
     mul-le-mul {n₂ = 6} {m₂ = userElements c f (u .first) (u .count)} (leb→le (u .order) 6 (among-holds (λ n. leb n 6) orders (u .order) tt (h .order))) (omega arith)
 
-users-bytes-most : (c : Cell) (f : Frame) (us : List User) → Every (UserIn c) us → 8 * bytesOf (userSections c f us) ≤ 6 * elementsOf c f us + 7 * length us
-unfolding userSections bytesOf elementsOf tally
+users-bytes-most : (c : Cell) (f : Frame) (us : List User) → Every (UserIn c) us → 8 * bytesOf (computedSections c f us) ≤ 6 * allElements c f us + 7 * length us
+unfolding computedSections bytesOf allElements sumOf
 users-bytes-most c f [] h = omega arith
 users-bytes-most c f (u ∷ us) h = omega (arith, user-bits-most c f u (h .0), users-bytes-most c f us (h .1))
 
 -- ---- the payload
 module _ (w : List ℕ) where
   payload-most : (p : Plan) → checkOf w ≡ accepted p → payloadLength w p ≤ 12800
-  unfolding payloadLength sections heads bytesOf
+  unfolding payloadLength heads bytesOf
   payload-most p e =
       omega (
         arith,
+        ap bytesOf (sections-computed w p e),
         broadcast-most (p .cell) (p .frame),
         his-most w p e,
         users-bytes-most (p .cell) (p .frame) (usersOf w p) (valid w p e .users),

@@ -1,7 +1,7 @@
 -- An owner that has a bit is one of the plan's owners. Assumes nothing.
 use Prim.Native.Nat.{ℕ, zero, suc, _+_, _*_, _≤_, _<_}
 use mathlib.Core.Path.{_≡_, refl, ap, subst}
-use mathlib.Core.Bool.{Bool, true, false, cond, _||_}
+use mathlib.Core.Bool.{Bool, true, false}
 use mathlib.Core.List.{List, [], _∷_, _++_, List·Memᴰ, List·Memᴰ·head, List·Memᴰ·tail, Memᴰ·append-left, Memᴰ·append-right}
 use native.Mathlib.Nat.{not-suc-le-zero, le-of-suc-le-suc}
 use native.Mathlib.Omega.{arith}
@@ -10,20 +10,23 @@ use lib.ListN.{length, length-append, List·getD-eq-default}
 use borrow.Author.Tests.{ltb-true, ltb-false, eqb-true}
 use Rattle.base.specs.Tables.{table}
 use Rattle.plan.specs.Lists.{Among, Every}
-use Rattle.plan.specs.Fields.{unitsOf, groupsOf}
+use Rattle.plan.specs.Fields.{unitsOf}
 use Rattle.plan.specs.Rows.{hisOf, usersOf}
 use Rattle.plan.specs.Valid.{HiIn, Valid}
 use Rattle.plan.specs.declared.Cell.{Cell}
 use Rattle.plan.specs.declared.Hi.{Hi}
 use Rattle.plan.specs.declared.Plan.{Plan}
 use Rattle.base.specs.Choice.{if_then_else_}
+use Rattle.phich.specs.Spreading.{spreadLength}
+use Rattle.phich.specs.Units.{mappingUnit}
+use Rattle.phich.proofs.Units.{hi-unit}
 use Rattle.layout.specs.Owners.{above, owners}
 use Rattle.layout.specs.declared.Owner.{Owner}
 use Rattle.layout.specs.declared.Owner.the-variants.{Crs, Sync, Pbch, Pcfich, Phich, User as UserOf, Held, Idle}
 use Rattle.payload.specs.Sections.{startOf, span, sectionBits}
-use Rattle.payload.specs.Payload.{heads, userSections, sections}
-use Rattle.payload.specs.Bits.{hasGroup, unitBits, ownerBits}
-use Rattle.payload.proofs.Sections.{users-length}
+use Rattle.payload.specs.Payload.{heads, sections}
+use Rattle.payload.specs.Bits.{hiBits, unitBits, ownerBits}
+use Rattle.payload.proofs.Sections.{Users, users-length}
 
 table-member : {A : Type 0} (n : ℕ) (g : ℕ → A) (i : ℕ) → i < n → List·Memᴰ (g i) (table n g)
 unfolding table
@@ -31,26 +34,18 @@ table-member zero g i h = absurd (not-suc-le-zero h)
 table-member (suc n) g zero h = List·Memᴰ·head refl
 table-member (suc n) g (suc i) h = List·Memᴰ·tail (table-member n (λ k. g (suc k)) i (le-of-suc-le-suc h))
 
--- a unit that has a group below the count
-group-unit : (c : Cell) (m g : ℕ) → hasGroup c m g ≡ true → g < groupsOf c → m < unitsOf c
-unfolding hasGroup groupsOf
-group-unit c m g e h = pick (eqb (c .prefix) 1) e h
-  where
-    pair : (t : Bool) → eqb g (2 * m) ≡ t → t || eqb g (2 * m + 1) ≡ true → g < 2 * unitsOf c → m < unitsOf c
-    pair true q r l = omega (arith, eqb-true g (2 * m) q)
-    pair false q r l = omega (arith, eqb-true g (2 * m + 1) r)
-
-    pick : (t : Bool) → (if t then eqb g (2 * m) || eqb g (2 * m + 1) else eqb g m) ≡ true → g < cond t (2 * unitsOf c) (unitsOf c) → m < unitsOf c
-    pick true r l = pair (eqb g (2 * m)) refl r l
-    pick false r l = omega (arith, eqb-true g m r)
-
-unit-below : (c : Cell) (m at b : ℕ) (hs : List Hi) → Every (HiIn c) hs → Among b (unitBits c m at hs) → m < unitsOf c
+-- a unit that has a bit is one of the cell's
+unit-below : (c : Cell) (m b : ℕ) (hs : List Hi) (bs : List ℕ) → Every (HiIn c) hs → Among b (unitBits (spreadLength c) m hs bs) → m < unitsOf c
 unfolding unitBits
-unit-below c m at b [] h a = absurd a
-unit-below c m at b (x ∷ hs) h a = pick (hasGroup c m (x .group)) refl a (unit-below c m (at + 1) b hs (h .1))
+unit-below c m b [] bs h a = absurd a
+unit-below c m b (g ∷ hs) [] h a = absurd a
+unit-below c m b (g ∷ hs) (x ∷ bs) h a = pick (eqb (mappingUnit (spreadLength c) g) m) refl a (unit-below c m b hs bs (h .1))
   where
-    pick : (t : Bool) → hasGroup c m (x .group) ≡ t → Among b (if t then at ∷ unitBits c m (at + 1) hs else unitBits c m (at + 1) hs) → (Among b (unitBits c m (at + 1) hs) → m < unitsOf c) → m < unitsOf c
-    pick true e q ih = group-unit c m (x .group) e (h .0 .group)
+    rest : List ℕ
+    rest = unitBits (spreadLength c) m hs bs
+
+    pick : (t : Bool) → eqb (mappingUnit (spreadLength c) g) m ≡ t → Among b (if t then x ∷ rest else rest) → (Among b rest → m < unitsOf c) → m < unitsOf c
+    pick true e q ih = omega (arith, eqb-true (mappingUnit (spreadLength c) g) m e, hi-unit c g (h .0))
     pick false e q ih = ih q
 
 -- no section, no bits
@@ -62,14 +57,11 @@ user-below : (w : List ℕ) (p : Plan) (i b : ℕ) → Among b (sectionBits (sec
 unfolding sections
 user-below w p i b a = pick (ltb i (length (usersOf w p))) refl
   where
-    us : List ℕ
-    us = userSections (p .cell) (p .frame) (usersOf w p)
-
     pick : (t : Bool) → ltb i (length (usersOf w p)) ≡ t → i < length (usersOf w p)
     pick true e = ltb-true _ _ e
     pick false e =
-        let l : length (heads p ++ us) ≤ length (heads p) + i = omega (arith, ltb-false i (length (usersOf w p)) e, length-append (heads p) us, users-length (p .cell) (p .frame) (usersOf w p)) in
-        absurd (subst (λ (xs : List ℕ). Among b xs) (section-beyond (heads p ++ us) (length (heads p) + i) l) a)
+        let l : length (heads p ++ Users w p) ≤ length (heads p) + i = omega (arith, ltb-false i (length (usersOf w p)) e, length-append (heads p) (Users w p), users-length w p) in
+        absurd (subst (λ (xs : List ℕ). Among b xs) (section-beyond (heads p ++ Users w p) (length (heads p) + i) l) a)
 
 module _ (w : List ℕ) (p : Plan) where
   -- the units and the users come after the ten first owners
@@ -94,7 +86,7 @@ module _ (w : List ℕ) (p : Plan) where
   unfolding ownerBits
   listed v Pbch b a = pbch-listed
   listed v (Phich m) b a =
-      later (Phich m) (Memᴰ·append-left _ (table-member (unitsOf (p .cell)) Phich m (unit-below (p .cell) m (8 * startOf (sections w p) 1) b (hisOf w p) (v .his) a)))
+      later (Phich m) (Memᴰ·append-left _ (table-member (unitsOf (p .cell)) Phich m (unit-below (p .cell) m b (hisOf w p) (hiBits w p) (v .his) a)))
   listed v (UserOf i) b a =
       later (UserOf i) (Memᴰ·append-right (table (unitsOf (p .cell)) Phich) (table-member (length (usersOf w p)) UserOf i (user-below w p i b a)))
   listed v (Crs q) b a = absurd a

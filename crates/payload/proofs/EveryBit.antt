@@ -25,17 +25,19 @@ use Rattle.layout.specs.declared.Mark.{Mark}
 use Rattle.layout.specs.declared.Mark.the-variants.{Primary, Secondary}
 use Rattle.layout.specs.declared.Owner.{Owner}
 use Rattle.layout.specs.declared.Owner.the-variants.{Crs, Sync, Pbch, Pcfich, Phich, User as UserOf, Held, Idle}
+use Rattle.counts.specs.Sums.{sumTo, sumOf}
+use Rattle.counts.proofs.Sums.{sum-same, list-append}
 use Rattle.payload.specs.Sections.{sectionBytes, bytesOf, startOf, sectionBits, sparesFrom}
-use Rattle.payload.specs.Payload.{pbchBits, heads, userSections, sections, payloadLength, spareBits, AcceptedPayload}
-use Rattle.payload.specs.Bits.{tally, occurs, ownerBits, bitsOfAll}
-use Rattle.payload.proofs.Sums.{sumBelow, sum-same, tally-append, tally-table, occurs-nil, occurs-append, occurs-span, within, within-in, within-above, among-occurs, occurs-among, every-among, tally-member, tally-find, tally-one}
-use Rattle.payload.proofs.Sections.{start-append, fills, cover, sections-sum, users-length}
+use Rattle.payload.specs.Payload.{pbchBits, heads, sections, payloadLength, spareBits, AcceptedPayload}
+use Rattle.payload.specs.Bits.{occurs, hiBits, ownerBits, bitsOfAll}
+use Rattle.payload.proofs.Sums.{sum-table, occurs-nil, occurs-append, occurs-span, within, within-in, within-above, among-occurs, occurs-among, every-among, list-member, list-find, list-one}
+use Rattle.payload.proofs.Sections.{start-append, fills, cover, sections-sum, hi-length, Users, users-length}
 use Rattle.payload.proofs.Units.{units-sum}
 use Rattle.payload.proofs.Bearers.{listed}
 
 -- ---- counting over the owners of a plan
-occurs-all : (b : ℕ) (bits : Owner → List ℕ) (os : List Owner) → occurs b (bitsOfAll bits os) ≡ tally (λ (o : Owner). occurs b (bits o)) os
-unfolding bitsOfAll tally
+occurs-all : (b : ℕ) (bits : Owner → List ℕ) (os : List Owner) → occurs b (bitsOfAll bits os) ≡ sumOf os (λ (o : Owner). occurs b (bits o))
+unfolding bitsOfAll sumOf
 occurs-all b bits [] = occurs-nil b
 occurs-all b bits (o ∷ os) = occurs-append b (bits o) (bitsOfAll bits os) ∙ ap (λ (n : ℕ). occurs b (bits o) + n) (occurs-all b bits os)
 
@@ -45,9 +47,11 @@ section-occurs b ns i = occurs-span (8 * startOf ns i) (getD ns i 0) b
 
 module _ (w : List ℕ) (p : Plan) where
   -- a count that only PBCH, the units and the users have
-  owners-tally : (B : Owner → ℕ) → B Idle ≡ 0 → ((q : ℕ) → B (Crs q) ≡ 0) → ((m : Mark) → B (Sync m) ≡ 0) → B Pcfich ≡ 0 → B Held ≡ 0 → tally B (owners w p) ≡ B Pbch + (sumBelow (λ m. B (Phich m)) (unitsOf (p .cell)) + sumBelow (λ i. B (UserOf i)) (length (usersOf w p)))
-  unfolding owners above tally
-  owners-tally B idle crs sync pcfich held =
+  owners-sum :
+      (B : Owner → ℕ) → B Idle ≡ 0 → ((q : ℕ) → B (Crs q) ≡ 0) → ((m : Mark) → B (Sync m) ≡ 0) → B Pcfich ≡ 0 → B Held ≡ 0
+      → sumOf (owners w p) B ≡ B Pbch + (sumTo (unitsOf (p .cell)) (λ m. B (Phich m)) + sumTo (length (usersOf w p)) (λ i. B (UserOf i)))
+  unfolding owners above sumOf
+  owners-sum B idle crs sync pcfich held =
       omega (
         arith,
         crs 0,
@@ -56,13 +60,10 @@ module _ (w : List ℕ) (p : Plan) where
         crs 3,
         sync Primary,
         sync Secondary,
-        tally-append B (table (unitsOf (p .cell)) Phich) (table (length (usersOf w p)) UserOf),
-        tally-table B (unitsOf (p .cell)) Phich,
-        tally-table B (length (usersOf w p)) UserOf,
+        list-append (table (unitsOf (p .cell)) Phich) (table (length (usersOf w p)) UserOf) B,
+        sum-table B (unitsOf (p .cell)) Phich,
+        sum-table B (length (usersOf w p)) UserOf,
       )
-
-  abbrev Users : List ℕ
-  Users = userSections (p .cell) (p .frame) (usersOf w p)
 
   module _ (b : ℕ) where
     abbrev B : Owner → ℕ
@@ -75,32 +76,35 @@ module _ (w : List ℕ) (p : Plan) where
     unfolding ownerBits sections heads startOf bytesOf
     pbch-occurs = section-occurs b (sections w p) 0
 
-    users-occur : sumBelow (λ i. B (UserOf i)) (length (usersOf w p)) ≡ fills (bytesOf (heads p)) Users b
+    users-occur : sumTo (length (usersOf w p)) (λ i. B (UserOf i)) ≡ fills (bytesOf (heads p)) (Users w p) b
     unfolding ownerBits sections
     users-occur =
-        sum-same (λ i. B (UserOf i)) (λ i. within (8 * (bytesOf (heads p) + startOf Users i)) (getD Users i 0) b)
-        (λ i.
+        let F : ℕ → ℕ = λ i. within (8 * (bytesOf (heads p) + startOf (Users w p) i)) (getD (Users w p) i 0) b in
+        sum-same (length (usersOf w p)) (λ i. B (UserOf i)) F
+        (λ i l.
         section-occurs b (sections w p) (length (heads p) + i)
-        ∙ ap₂ (λ (s n : ℕ). within (8 * s) n b) (start-append (heads p) Users i) (getD-append-add (heads p) Users i 0))
-        (length (usersOf w p))
-        ∙ ap (sumBelow (λ i. within (8 * (bytesOf (heads p) + startOf Users i)) (getD Users i 0) b)) (sym (users-length (p .cell) (p .frame) (usersOf w p)))
-        ∙ sections-sum (bytesOf (heads p)) Users b
+        ∙ ap₂ (λ (s n : ℕ). within (8 * s) n b) (start-append (heads p) (Users w p) i) (getD-append-add (heads p) (Users w p) i 0))
+        ∙ ap (λ (n : ℕ). sumTo n F) (sym (users-length w p))
+        ∙ sections-sum (bytesOf (heads p)) (Users w p) b
 
-    units-occur : Valid w p → sumBelow (λ m. B (Phich m)) (unitsOf (p .cell)) ≡ within (8 * sectionBytes (pbchBits (p .cell) (p .frame))) (p .his .count) b
-    unfolding ownerBits sections heads startOf bytesOf
+    units-occur : Valid w p → sumTo (unitsOf (p .cell)) (λ m. B (Phich m)) ≡ within (8 * sectionBytes (pbchBits (p .cell) (p .frame))) (p .his .count) b
+    unfolding ownerBits hiBits sections heads startOf bytesOf
     units-occur v =
         let e : 8 * (sectionBytes (pbchBits (p .cell) (p .frame)) + 0) ≡ 8 * sectionBytes (pbchBits (p .cell) (p .frame)) = omega arith in
-        units-sum (p .cell) (8 * startOf (sections w p) 1) b (hisOf w p) (v .his)
-        ∙ ap₂ (λ (a n : ℕ). within a n b) e (v .his-count)
+        units-sum (p .cell) b (hisOf w p) (hiBits w p) (v .his-count ∙ sym (hi-length w p)) (v .his)
+        ∙ section-occurs b (sections w p) 1
+        ∙ ap (λ (a : ℕ). within a (p .his .count) b) e
 
-    heads-fill : fills 0 (sections w p) b ≡ within 0 (pbchBits (p .cell) (p .frame)) b + (within (8 * sectionBytes (pbchBits (p .cell) (p .frame))) (p .his .count) b + fills (bytesOf (heads p)) Users b)
+    heads-fill :
+        fills 0 (sections w p) b
+        ≡ within 0 (pbchBits (p .cell) (p .frame)) b + (within (8 * sectionBytes (pbchBits (p .cell) (p .frame))) (p .his .count) b + fills (bytesOf (heads p)) (Users w p) b)
     unfolding sections heads fills bytesOf
     heads-fill =
         let s : ℕ = sectionBytes (pbchBits (p .cell) (p .frame)) in
         let n : ℕ = sectionBytes (p .his .count) in
         let e : 0 + s ≡ s = omega arith in
         let d : 0 + s + n ≡ s + (n + 0) = omega arith in
-        ap₂ (λ (x y : ℕ). within 0 (pbchBits (p .cell) (p .frame)) b + (within (8 * x) (p .his .count) b + fills y Users b)) e d
+        ap₂ (λ (x y : ℕ). within 0 (pbchBits (p .cell) (p .frame)) b + (within (8 * x) (p .his .count) b + fills y (Users w p) b)) e d
 
     all-occur : Valid w p → occurs b (spareBits w p ++ bitsOfAll (ownerBits w p) (owners w p)) ≡ within 0 (8 * payloadLength w p) b
     unfolding spareBits payloadLength ownerBits
@@ -109,7 +113,7 @@ module _ (w : List ℕ) (p : Plan) where
           arith,
           occurs-append b (sparesFrom 0 (sections w p)) (bitsOfAll (ownerBits w p) (owners w p)),
           occurs-all b (ownerBits w p) (owners w p),
-          owners-tally (λ (o : Owner). occurs b (ownerBits w p o)) (nobody Idle refl) (λ q. nobody (Crs q) refl) (λ m. nobody (Sync m) refl) (nobody Pcfich refl) (nobody Held refl),
+          owners-sum (λ (o : Owner). occurs b (ownerBits w p o)) (nobody Idle refl) (λ q. nobody (Crs q) refl) (λ m. nobody (Sync m) refl) (nobody Pcfich refl) (nobody Held refl),
           pbch-occurs,
           units-occur v,
           users-occur,
@@ -144,18 +148,18 @@ module _ (w : List ℕ) (p : Plan) (plan : checkOf w ≡ accepted p) where
   abbrev Occurs : ℕ → Owner → ℕ
   Occurs b o = occurs b (ownerBits w p o)
 
-  total : (b : ℕ) → occurs b (spareBits w p) + tally (Occurs b) (owners w p) ≡ occurs b (spareBits w p ++ bitsOfAll (ownerBits w p) (owners w p))
+  total : (b : ℕ) → occurs b (spareBits w p) + sumOf (owners w p) (Occurs b) ≡ occurs b (spareBits w p ++ bitsOfAll (ownerBits w p) (owners w p))
   total b = sym (occurs-append b (spareBits w p) (bitsOfAll (ownerBits w p) (owners w p)) ∙ ap (λ (n : ℕ). occurs b (spareBits w p) + n) (occurs-all b (ownerBits w p) (owners w p)))
 
-  once : (b : ℕ) → occurs b (spareBits w p) + tally (Occurs b) (owners w p) ≤ 1
+  once : (b : ℕ) → occurs b (spareBits w p) + sumOf (owners w p) (Occurs b) ≤ 1
   once b = pick (ltb b (8 * payloadLength w p)) refl
     where
-      pick : (t : Bool) → ltb b (8 * payloadLength w p) ≡ t → occurs b (spareBits w p) + tally (Occurs b) (owners w p) ≤ 1
+      pick : (t : Bool) → ltb b (8 * payloadLength w p) ≡ t → occurs b (spareBits w p) + sumOf (owners w p) (Occurs b) ≤ 1
       pick true e = omega (arith, total b, exactly-once b (ltb-true b (8 * payloadLength w p) e))
       pick false e = omega (arith, total b, never-beyond b (ltb-false b (8 * payloadLength w p) e))
 
-  owned : (b : ℕ) (o : Owner) → Owns o b → (1 ≤ Occurs b o) × (Occurs b o ≤ tally (Occurs b) (owners w p))
-  owned b o h = (among-occurs b (ownerBits w p o) h, tally-member (Occurs b) o (owners w p) (owner-listed b o h))
+  owned : (b : ℕ) (o : Owner) → Owns o b → (1 ≤ Occurs b o) × (Occurs b o ≤ sumOf (owners w p) (Occurs b))
+  owned b o h = (among-occurs b (ownerBits w p o) h, list-member (Occurs b) o (owners w p) (owner-listed b o h))
 
   -- so each bit of the payload is spare or some owner's
   pub spare-or-owned : (b : ℕ) → b < 8 * payloadLength w p → Spare b ⊎ Someone b
@@ -164,7 +168,7 @@ module _ (w : List ℕ) (p : Plan) (plan : checkOf w ≡ accepted p) where
       pick : (t : Bool) → ltb 0 (occurs b (spareBits w p)) ≡ t → Spare b ⊎ Someone b
       pick true e = inl (occurs-among b (spareBits w p) (omega (arith, ltb-true 0 (occurs b (spareBits w p)) e)))
       pick false e =
-          let found = tally-find (Occurs b) (owners w p) (omega (arith, total b, exactly-once b h, ltb-false 0 (occurs b (spareBits w p)) e)) in
+          let found = list-find (Occurs b) (owners w p) (omega (arith, total b, exactly-once b h, ltb-false 0 (occurs b (spareBits w p)) e)) in
           inr (found .0, found .1, occurs-among b (ownerBits w p (found .0)) (found .2))
 
   -- never both
@@ -174,7 +178,7 @@ module _ (w : List ℕ) (p : Plan) (plan : checkOf w ≡ accepted p) where
   -- and never two owners'
   pub one-owner : (b : ℕ) (o q : Owner) → Owns o b → Owns q b → o ≡ q
   one-owner b o q h k =
-      tally-one (Occurs b) o q (owners w p) (omega (arith, once b)) (owned b o h .0) (owned b q k .0) (owner-listed b o h) (owner-listed b q k)
+      list-one (Occurs b) o q (owners w p) (omega (arith, once b)) (owned b o h .0) (owned b q k .0) (owner-listed b o h) (owner-listed b q k)
 
   -- an owner's list has no position twice, and none beyond the payload
   pub none-twice : (b : ℕ) (o : Owner) → occurs b (ownerBits w p o) ≤ 1

@@ -1,6 +1,6 @@
 -- The lengths, as the code finds them. Assumes nothing.
 use Prim.Native.Nat.{ℕ, zero, suc, _+_, _-_, _*_, _/_, _≤_, _<_}
-use mathlib.Core.Path.{_≡_, refl, sym, ap, subst}
+use mathlib.Core.Path.{_≡_, refl, sym, ap, _∙_, subst}
 use mathlib.Core.Bool.{Bool, true, false}
 use mathlib.Core.List.{List, [], _∷_}
 use native.Mathlib.Nat.{mul-le-mul, not-suc-le-zero}
@@ -26,12 +26,12 @@ use Rattle.plan.proofs.RowLaws.{row-next, row-zero}
 use Rattle.base.specs.Choice.{if_then_else_}
 use Rattle.layout.specs.Rules.{slotLength}
 use Rattle.layout.specs.Owners.{symbols}
-use Rattle.counts.specs.Users.{userElements}
+use Rattle.counts.specs.Sums.{sumOf}
+use Rattle.counts.specs.Users.{userElements, allElements}
 use Rattle.payload.specs.Sections.{sectionBytes, bytesOf}
-use Rattle.payload.specs.Payload.{pbchBits, userBits, heads, userSections, payloadLength, usersStart, gridLength}
-use Rattle.payload.specs.Bits.{tally}
-use Rattle.payload.specs.Loops.{elementsOf, UserReady, Ready}
-use Rattle.payload.proofs.Sections.{length-is}
+use Rattle.payload.specs.Payload.{pbchBits, heads, payloadLength, usersStart, gridLength}
+use Rattle.payload.specs.Loops.{computedBits, computedSections, UserReady, Ready}
+use Rattle.payload.proofs.Sections.{length-is, users-computed}
 use Rattle.payload.proofs.Room.{ready}
 
 -- ---- PBCH, symbols, the grid
@@ -78,19 +78,19 @@ grid-is p n s q en es eq = rw (en, es, eq) refl
 order-most : (c : Cell) (u : User) → UserIn c u → u .order ≤ 6
 order-most c u h = leb→le (u .order) 6 (among-holds (λ n. leb n 6) orders (u .order) tt (h .order))
 
-bits-most : (c : Cell) (f : Frame) (u : User) → UserIn c u → userBits c f u ≤ 6 * userElements c f (u .first) (u .count)
-unfolding userBits
+bits-most : (c : Cell) (f : Frame) (u : User) → UserIn c u → computedBits c f u ≤ 6 * userElements c f (u .first) (u .count)
+unfolding computedBits
 bits-most c f u h = mul-le-mul {n₂ = 6} {m₂ = userElements c f (u .first) (u .count)} (order-most c u h) (omega arith)
 
-pub user-fits : (c : Cell) (f : Frame) (u : User) → UserReady c f u → userBits c f u ≤ 100800
+pub user-fits : (c : Cell) (f : Frame) (u : User) → UserReady c f u → computedBits c f u ≤ 100800
 user-fits c f u h = omega (arith, bits-most c f u (h .user), h .fits)
 
-pub bits-is : (c : Cell) (f : Frame) (u : User) (o g : ℕ) → o ≡ u .order → g ≡ userElements c f (u .first) (u .count) → o * g ≡ userBits c f u
-unfolding userBits
+pub bits-is : (c : Cell) (f : Frame) (u : User) (o g : ℕ) → o ≡ u .order → g ≡ userElements c f (u .first) (u .count) → o * g ≡ computedBits c f u
+unfolding computedBits
 bits-is c f u o g eo eg = rw (eo, eg) refl
 
-bytes-most : (c : Cell) (f : Frame) (us : List User) → Every (UserIn c) us → bytesOf (userSections c f us) ≤ 6 * elementsOf c f us
-unfolding userSections bytesOf elementsOf tally
+bytes-most : (c : Cell) (f : Frame) (us : List User) → Every (UserIn c) us → bytesOf (computedSections c f us) ≤ 6 * allElements c f us
+unfolding computedSections bytesOf allElements sumOf
 bytes-most c f [] h = omega arith
 bytes-most c f (u ∷ us) h = omega (arith, bits-most c f u (h .0), bytes-most c f us (h .1))
 
@@ -104,22 +104,22 @@ module _ (c : Cell) (f : Frame) (u : User) (us rest : List User) (e : us ≡ u �
   cons-ready r = subst (λ (l : List User). Ready c f l) e r
 
   pub ready-user : Ready c f us → UserReady c f u
-  unfolding elementsOf tally
+  unfolding allElements sumOf
   ready-user r = let s = cons-ready r in record { cell = s .cell; frame = s .frame; user = s .users .0; fits = omega (arith, s .fits) }
 
   pub ready-rest : Ready c f us → Ready c f rest
-  unfolding elementsOf tally
+  unfolding allElements sumOf
   ready-rest r = let s = cons-ready r in record { cell = s .cell; frame = s .frame; users = s .users .1; fits = omega (arith, s .fits) }
 
-  pub bytes-next : bytesOf (userSections c f us) ≡ sectionBytes (userBits c f u) + bytesOf (userSections c f rest)
-  unfolding userSections bytesOf
-  bytes-next = ap (λ (l : List User). bytesOf (userSections c f l)) e
+  pub bytes-next : bytesOf (computedSections c f us) ≡ sectionBytes (computedBits c f u) + bytesOf (computedSections c f rest)
+  unfolding computedSections bytesOf
+  bytes-next = ap (λ (l : List User). bytesOf (computedSections c f l)) e
 
-pub ready-fits : (c : Cell) (f : Frame) (us : List User) → Ready c f us → bytesOf (userSections c f us) ≤ 100800
+pub ready-fits : (c : Cell) (f : Frame) (us : List User) → Ready c f us → bytesOf (computedSections c f us) ≤ 100800
 ready-fits c f us r = omega (arith, bytes-most c f us (r .users), r .fits)
 
-pub bytes-none : (w : List ℕ) (c : Cell) (f : Frame) (at n : ℕ) → n ≤ 0 → bytesOf (userSections c f (usersFrom (drop at w) n)) ≡ 0
-unfolding userSections bytesOf
+pub bytes-none : (w : List ℕ) (c : Cell) (f : Frame) (at n : ℕ) → n ≤ 0 → bytesOf (computedSections c f (usersFrom (drop at w) n)) ≡ 0
+unfolding computedSections bytesOf
 bytes-none w c f at n h = rw (row-zero userOf (drop at w) n (omega arith)) refl
 
 -- ---- the start of the users' sections, and all sections
@@ -146,32 +146,32 @@ module _ (w : List ℕ) (p : Plan) (e : checkOf w ≡ accepted p) where
   unfolding usersOf
   plan-ready = ready w p e
 
-  module _ (a b : ℕ) (ea : a ≡ usersStart p) (eb : b ≡ bytesOf (userSections (p .cell) (p .frame) (usersFrom (drop (p .users .at) w) (p .users .count)))) where
+  module _ (a b : ℕ) (ea : a ≡ usersStart p) (eb : b ≡ bytesOf (computedSections (p .cell) (p .frame) (usersFrom (drop (p .users .at) w) (p .users .count)))) where
     pub length-room : a + b ≤ 100861 + length w / 24
     length-room = omega (arith, start-most w p (valid w p e), ready-fits (p .cell) (p .frame) (usersFrom (drop (p .users .at) w) (p .users .count)) plan-ready)
 
     pub length-found : a + b ≡ payloadLength w p
     unfolding usersOf
-    length-found = rw (ea, eb) (sym (length-is w p))
+    length-found = rw (ea, eb) (sym (length-is w p ∙ ap (λ (ns : List ℕ). usersStart p + bytesOf ns) (users-computed w p e)))
 
 -- ---- the loop of users_length: so many bytes for the users before position at, and left users from there on
 pub record Going (w : List ℕ) (c : Cell) (f : Frame) (start count bytes at left : ℕ) : Type 0 where
   pub ready : Ready c f (usersFrom (drop at w) left)
-  pub so-far : bytes + bytesOf (userSections c f (usersFrom (drop at w) left)) ≡ bytesOf (userSections c f (usersFrom (drop start w) count))
-  pub most : bytesOf (userSections c f (usersFrom (drop start w) count)) ≤ 100800
+  pub so-far : bytes + bytesOf (computedSections c f (usersFrom (drop at w) left)) ≡ bytesOf (computedSections c f (usersFrom (drop start w) count))
+  pub most : bytesOf (computedSections c f (usersFrom (drop start w) count)) ≤ 100800
 
 pub going-first : (w : List ℕ) (c : Cell) (f : Frame) (start count : ℕ) → Ready c f (usersFrom (drop start w) count) → Going w c f start count 0 start count
 going-first w c f start count r = record { ready = r; so-far = omega arith; most = ready-fits c f (usersFrom (drop start w) count) r }
 
 module _ {w : List ℕ} {c : Cell} {f : Frame} {start count bytes at left : ℕ} (g : Going w c f start count bytes at left) where
-  pub going-end : left ≤ 0 → bytes ≡ bytesOf (userSections c f (usersFrom (drop start w) count))
+  pub going-end : left ≤ 0 → bytes ≡ bytesOf (computedSections c f (usersFrom (drop start w) count))
   going-end h = omega (arith, g .so-far, bytes-none w c f at left h)
 
   module _ (h : 0 < left) (u : User) (e : u ≡ userOf (drop at w)) where
     pub going-user : UserReady c f u
     going-user = ready-user c f u (usersFrom (drop at w) left) (usersFrom (drop (nextOf w at) w) (left - 1)) (next-user w at left u h e (nextOf w at) refl) (g .ready)
 
-    module _ (s : ℕ) (es : s ≡ sectionBytes (userBits c f u)) where
+    module _ (s : ℕ) (es : s ≡ sectionBytes (computedBits c f u)) where
       pub going-room : bytes + s ≤ 100800
       going-room =
           omega (

@@ -1,4 +1,4 @@
--- Laws that the proofs cite. For the crates above: EveryBit, the theorem of a payload's bits; Sections, where each section starts;
+-- Laws that the proofs cite. For the crates above: EveryBit, the theorem of a payload's bits; Sections, where each section starts and how the code computes them;
 -- Refusals, what 10, 11 and 12 say; Room, bounds of element counts; Lengths, the users in turn.
 mod Sums
 pub mod Sections

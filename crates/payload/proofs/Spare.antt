@@ -15,16 +15,18 @@ use Rattle.base.proofs.Computed.{below-at}
 use Rattle.base.proofs.Tables.{table-same}
 use Rattle.plan.specs.Lists.{noneOf}
 use Rattle.plan.specs.Commands.{userOf}
+use Rattle.plan.specs.Check.{checkOf}
 use Rattle.plan.specs.Rows.{nextOf, usersFrom, usersOf}
 use Rattle.plan.specs.declared.Cell.{Cell}
 use Rattle.plan.specs.declared.Frame.{Frame}
 use Rattle.plan.specs.declared.User.{User}
 use Rattle.plan.specs.declared.Plan.{Plan}
+use Rattle.plan.specs.declared.Checked.the-variants.{Plan as accepted}
 use Rattle.plan.proofs.RowLaws.{row-zero}
 use Rattle.payload.specs.Sections.{sectionBytes, bytesOf, span, spareAt, sparesFrom}
-use Rattle.payload.specs.Payload.{pbchBits, userBits, heads, userSections, sections, payloadLength, usersStart, spareBits, noneSet, spareClear}
-use Rattle.payload.specs.Loops.{UserReady, Ready}
-use Rattle.payload.proofs.Sections.{length-is, spares-append}
+use Rattle.payload.specs.Payload.{pbchBits, heads, payloadLength, usersStart, spareBits, noneSet, spareClear}
+use Rattle.payload.specs.Loops.{computedBits, computedSections, UserReady, Ready}
+use Rattle.payload.proofs.Sections.{length-is, users-computed, sections-computed, spares-append}
 use Rattle.payload.proofs.Lengths.{next-user, ready-user, ready-rest, bytes-next}
 
 -- ---- the k lowest bits of a byte, the most significant of them first
@@ -107,14 +109,14 @@ spares-none s at = refl
 -- ---- the loop of users_clear
 pub record Clearing (w : List ℕ) (c : Cell) (f : Frame) (start count : ℕ) (s : List ℕ) (first byte at left : ℕ) : Type 0 where
   pub ready : Ready c f (usersFrom (drop at w) left)
-  pub room : byte + bytesOf (userSections c f (usersFrom (drop at w) left)) ≤ length s
-  pub same : noneSet s (sparesFrom byte (userSections c f (usersFrom (drop at w) left))) ≡ noneSet s (sparesFrom first (userSections c f (usersFrom (drop start w) count)))
+  pub room : byte + bytesOf (computedSections c f (usersFrom (drop at w) left)) ≤ length s
+  pub same : noneSet s (sparesFrom byte (computedSections c f (usersFrom (drop at w) left))) ≡ noneSet s (sparesFrom first (computedSections c f (usersFrom (drop start w) count)))
 
 module _ {w : List ℕ} {c : Cell} {f : Frame} {start count : ℕ} {s : List ℕ} {first byte at left : ℕ} (g : Clearing w c f start count s first byte at left) where
-  pub clearing-end : left ≤ 0 → true ≡ noneSet s (sparesFrom first (userSections c f (usersFrom (drop start w) count)))
-  unfolding userSections
+  pub clearing-end : left ≤ 0 → true ≡ noneSet s (sparesFrom first (computedSections c f (usersFrom (drop start w) count)))
+  unfolding computedSections
   clearing-end h =
-      sym (ap (λ (l : List User). noneSet s (sparesFrom byte (userSections c f l))) (row-zero userOf (drop at w) left (omega arith)) ∙ spares-none s byte) ∙ g .same
+      sym (ap (λ (l : List User). noneSet s (sparesFrom byte (computedSections c f l))) (row-zero userOf (drop at w) left (omega arith)) ∙ spares-none s byte) ∙ g .same
 
   module _ (h : 0 < left) (u : User) (e : u ≡ userOf (drop at w)) where
     abbrev All : List User
@@ -123,20 +125,23 @@ module _ {w : List ℕ} {c : Cell} {f : Frame} {start count : ℕ} {s : List ℕ
     pub clearing-user : UserReady c f u
     clearing-user = ready-user c f u All (usersFrom (drop (nextOf w at) w) (left - 1)) (next-user w at left u h e (nextOf w at) refl) (g .ready)
 
-    module _ (n : ℕ) (en : n ≡ userBits c f u) where
+    module _ (n : ℕ) (en : n ≡ computedBits c f u) where
       pub clearing-room : byte + sectionBytes n ≤ length s
       clearing-room =
           let z = bytes-next c f u All (usersFrom (drop (nextOf w at) w) (left - 1)) (next-user w at left u h e (nextOf w at) refl) in
           rw en (omega (arith, z, g .room))
 
-      split : (to : ℕ) → to ≡ nextOf w at → noneSet s (sparesFrom byte (userSections c f All)) ≡ noneSet s (spareAt byte n) && noneSet s (sparesFrom (byte + sectionBytes n) (userSections c f (usersFrom (drop to w) (left - 1))))
-      unfolding userSections
+      split :
+          (to : ℕ) → to ≡ nextOf w at
+          → noneSet s (sparesFrom byte (computedSections c f All))
+          ≡ noneSet s (spareAt byte n) && noneSet s (sparesFrom (byte + sectionBytes n) (computedSections c f (usersFrom (drop to w) (left - 1))))
+      unfolding computedSections
       split to q =
           rw en
-          (ap (λ (l : List User). noneSet s (sparesFrom byte (userSections c f l))) (next-user w at left u h e to q)
-          ∙ spares-clear s byte (userBits c f u) (userSections c f (usersFrom (drop to w) (left - 1))))
+          (ap (λ (l : List User). noneSet s (sparesFrom byte (computedSections c f l))) (next-user w at left u h e to q)
+          ∙ spares-clear s byte (computedBits c f u) (computedSections c f (usersFrom (drop to w) (left - 1))))
 
-      pub clearing-set : (t : Bool) → t ≡ noneSet s (spareAt byte n) → t ≡ false → false ≡ noneSet s (sparesFrom first (userSections c f (usersFrom (drop start w) count)))
+      pub clearing-set : (t : Bool) → t ≡ noneSet s (spareAt byte n) → t ≡ false → false ≡ noneSet s (sparesFrom first (computedSections c f (usersFrom (drop start w) count)))
       clearing-set t et q = sym (split (nextOf w at) refl ∙ rw (← et, q) refl) ∙ g .same
 
       pub clearing-next : (t : Bool) → t ≡ noneSet s (spareAt byte n) → t ≡ true → (k : ℕ) → k ≡ sectionBytes n → (to : ℕ) → to ≡ nextOf w at → Clearing w c f start count s first (byte + k) to (left - 1)
@@ -179,22 +184,23 @@ module _ (p : Plan) (s : List ℕ) (h : usersStart p ≤ length s) (a : ℕ) (ea
     unfolding heads
     second-clear q k ek r er = er ∙ sym (rw (← ea) (two-clear s a (p .his .count) ∙ rw (← et, q, ek) refl))
 
-module _ (w : List ℕ) (p : Plan) (s : List ℕ) (h : length s ≡ payloadLength w p) where
+module _ (w : List ℕ) (p : Plan) (ok : checkOf w ≡ accepted p) (s : List ℕ) (h : length s ≡ payloadLength w p) where
   abbrev Sections : List ℕ
-  Sections = userSections (p .cell) (p .frame) (usersFrom (drop (p .users .at) w) (p .users .count))
+  Sections = computedSections (p .cell) (p .frame) (usersFrom (drop (p .users .at) w) (p .users .count))
 
   pub heads-room : usersStart p ≤ length s
   heads-room = omega (arith, length-is w p)
 
   pub users-room : (k : ℕ) → k ≡ usersStart p → k + bytesOf Sections ≤ length s
   unfolding usersOf
-  users-room k ek = omega (arith, length-is w p)
+  users-room k ek = omega (arith, length-is w p, ap bytesOf (users-computed w p ok))
 
   all-clear : spareClear w p s ≡ noneSet s (sparesFrom 0 (heads p)) && noneSet s (sparesFrom (usersStart p) Sections)
-  unfolding spareClear spareBits sections usersStart usersOf
+  unfolding spareClear spareBits usersStart usersOf
   all-clear =
       let e : 0 + bytesOf (heads p) ≡ bytesOf (heads p) = omega arith in
-      ap (noneSet s) (spares-append 0 (heads p) Sections)
+      ap (λ (ns : List ℕ). noneSet s (sparesFrom 0 ns)) (sections-computed w p ok)
+      ∙ ap (noneSet s) (spares-append 0 (heads p) Sections)
       ∙ none-append s (sparesFrom 0 (heads p)) (sparesFrom (0 + bytesOf (heads p)) Sections)
       ∙ ap (λ (k : ℕ). noneSet s (sparesFrom 0 (heads p)) && noneSet s (sparesFrom k Sections)) e
 

@@ -1,5 +1,5 @@
 -- Sums over lists and over numbers, and how often a position stands in a list. Nothing here is about payloads. Assumes nothing.
-use Prim.Native.Nat.{ℕ, zero, suc, _+_, _-_, _≤_, _<_}
+use Prim.Native.Nat.{ℕ, zero, suc, _+_, _≤_, _<_}
 use mathlib.Core.Path.{_≡_, refl, sym, ap, ap₂, _∙_, subst}
 use mathlib.Core.Bool.{Bool, true, false, _&&_}
 use mathlib.Core.Logic.{_⊎_, inl, inr}
@@ -7,76 +7,43 @@ use mathlib.Core.List.{List, [], _∷_, _++_, List·Memᴰ, List·Memᴰ·head, 
 use native.Mathlib.Nat.{not-suc-le-zero}
 use native.Mathlib.Omega.{arith}
 use lib.Dec.{leb, ltb, eqb}
-use borrow.Author.Tests.{ltb-true, ltb-false, lt-ltb, le-ltb, le-leb, lt-leb, eq-eqb, eqb-true, eqb-false}
-use Rattle.base.specs.Tables.{table}
-use Rattle.plan.specs.Lists.{Among, Every}
+use borrow.Author.Tests.{ltb-true, ltb-false, lt-ltb, le-ltb, le-leb, lt-leb, eq-eqb, ne-eqb, eqb-true, eqb-false}
 use Rattle.base.specs.Choice.{if_then_else_, one}
+use Rattle.base.specs.Tables.{table}
+use Rattle.base.proofs.Tests.{by-test}
+use Rattle.plan.specs.Lists.{Among, Every}
+use Rattle.counts.specs.Sums.{sumTo, sumOf}
+use Rattle.counts.proofs.Sums.{sum-none, list-append}
 use Rattle.payload.specs.Sections.{span}
-use Rattle.payload.specs.Bits.{tally, occurs}
+use Rattle.payload.specs.Bits.{occurs}
 
--- f 0 + f 1 + .. + f (n - 1)
-unfoldable pub sumBelow : (ℕ → ℕ) → ℕ → ℕ
-sumBelow f zero = 0
-sumBelow f (suc n) = sumBelow f n + f n
+pub sum-first : (n : ℕ) (f : ℕ → ℕ) → sumTo (suc n) f ≡ f 0 + sumTo n (λ i. f (suc i))
+unfolding sumTo
+sum-first zero f = omega arith
+sum-first (suc n) f = omega (arith, sum-first n f)
 
-pub sum-same : (f g : ℕ → ℕ) → ((i : ℕ) → f i ≡ g i) → (n : ℕ) → sumBelow f n ≡ sumBelow g n
-unfolding sumBelow
-sum-same f g h zero = refl
-sum-same f g h (suc n) = ap₂ (λ (x y : ℕ). x + y) (sum-same f g h n) (h n)
-
-pub sum-add : (f g : ℕ → ℕ) (n : ℕ) → sumBelow (λ i. f i + g i) n ≡ sumBelow f n + sumBelow g n
-unfolding sumBelow
-sum-add f g zero = refl
-sum-add f g (suc n) = omega (arith, sum-add f g n)
-
-pub sum-none : (n : ℕ) → sumBelow (λ i. 0) n ≡ 0
-unfolding sumBelow
-sum-none zero = refl
-sum-none (suc n) = omega (arith, sum-none n)
-
-pub sum-first : (f : ℕ → ℕ) (n : ℕ) → sumBelow f (suc n) ≡ f 0 + sumBelow (λ i. f (suc i)) n
-unfolding sumBelow
-sum-first f zero = omega arith
-sum-first f (suc n) = omega (arith, sum-first f n)
-
--- the sum of x over the numbers that pass a test which k alone passes
-module _ (test : ℕ → Bool) (k : ℕ) (hit : test k ≡ true) (miss : (m : ℕ) → (m ≡ k → ⊥) → test m ≡ false) (x : ℕ) where
-  pub sum-before : (n : ℕ) → n ≤ k → sumBelow (λ m. if test m then x else 0) n ≡ 0
-  unfolding sumBelow
-  sum-before zero h = refl
-  sum-before (suc n) h = rw (miss n (λ e. omega arith)) (omega (arith, sum-before n (omega arith)))
-
-  pub sum-one : (n : ℕ) → k < n → sumBelow (λ m. if test m then x else 0) n ≡ x
-  unfolding sumBelow
-  sum-one zero h = absurd (omega arith)
-  sum-one (suc n) h = pick (ltb k n) refl (sum-one n)
-    where
-      pick : (t : Bool) → ltb k n ≡ t → (k < n → sumBelow (λ m. if test m then x else 0) n ≡ x) → sumBelow (λ m. if test m then x else 0) n + (if test n then x else 0) ≡ x
-      pick true e ih = let l : k < n = ltb-true k n e in rw (miss n (λ q. omega arith)) (omega (arith, ih l))
-      pick false e ih =
-          let q : n ≡ k = omega (arith, ltb-false k n e) in
-          rw (ap test q ∙ hit) (omega (arith, sum-before n (omega arith)))
+-- the sum of x over the one number that is k
+pub sum-one : (k x n : ℕ) → k < n → sumTo n (λ m. if eqb k m then x else 0) ≡ x
+unfolding sumTo
+sum-one k x zero h = absurd (not-suc-le-zero h)
+sum-one k x (suc n) h =
+    by-test (eqb k n)
+    (λ e. let q : k ≡ n = eqb-true k n e in rw e (omega (arith, sum-none n (λ m. if eqb k m then x else 0) (λ m l. rw (ne-eqb k m (λ d. omega arith)) refl))))
+    (λ e. let q : k ≡ n → ⊥ = eqb-false k n e in rw e (omega (arith, sum-one k x n (omega arith))))
 
 -- ---- sums over lists
-module _ {A : Type 0} (f : A → ℕ) where
-  pub tally-append : (xs ys : List A) → tally f (xs ++ ys) ≡ tally f xs + tally f ys
-  unfolding tally
-  tally-append [] ys = omega arith
-  tally-append (x ∷ xs) ys = omega (arith, tally-append xs ys)
-
-  pub tally-table : (n : ℕ) (g : ℕ → A) → tally f (table n g) ≡ sumBelow (λ i. f (g i)) n
-  unfolding tally table sumBelow
-  tally-table zero g = refl
-  tally-table (suc n) g =
-      ap (λ (x : ℕ). f (g 0) + x) (tally-table n (λ i. g (suc i))) ∙ sym (sum-first (λ i. f (g i)) n)
+pub sum-table : {A : Type 0} (f : A → ℕ) (n : ℕ) (g : ℕ → A) → sumOf (table n g) f ≡ sumTo n (λ i. f (g i))
+unfolding sumOf table sumTo
+sum-table f zero g = refl
+sum-table f (suc n) g = ap (λ (x : ℕ). f (g 0) + x) (sum-table f n (λ i. g (suc i))) ∙ sym (sum-first n (λ i. f (g i)))
 
 pub occurs-nil : (b : ℕ) → occurs b [] ≡ 0
-unfolding occurs tally
+unfolding occurs sumOf
 occurs-nil b = refl
 
 pub occurs-append : (b : ℕ) (xs ys : List ℕ) → occurs b (xs ++ ys) ≡ occurs b xs + occurs b ys
 unfolding occurs
-occurs-append b xs ys = tally-append (λ (x : ℕ). one (eqb x b)) xs ys
+occurs-append b xs ys = list-append xs ys (λ (x : ℕ). one (eqb x b))
 
 -- ---- position b is one of the n from a on: 1 or 0
 unfoldable pub within : ℕ → ℕ → ℕ → ℕ
@@ -134,8 +101,8 @@ within-one a b = pick (eqb a b) refl
     pick false e = off (ltb b a) refl (eqb-false a b e)
 
 -- how often b stands among the n positions from a on
-span-sum : (a b n : ℕ) → sumBelow (λ j. one (eqb (a + j) b)) n ≡ within a n b
-unfolding sumBelow
+span-sum : (a b n : ℕ) → sumTo n (λ j. one (eqb (a + j) b)) ≡ within a n b
+unfolding sumTo
 span-sum a b zero = sym (within-none a b)
 span-sum a b (suc n) =
     let e : n + 1 ≡ suc n = omega arith in
@@ -143,17 +110,17 @@ span-sum a b (suc n) =
 
 pub occurs-span : (a n b : ℕ) → occurs b (span a n) ≡ within a n b
 unfolding occurs span
-occurs-span a n b = tally-table (λ (x : ℕ). one (eqb x b)) n (λ (j : ℕ). a + j) ∙ span-sum a b n
+occurs-span a n b = sum-table (λ (x : ℕ). one (eqb x b)) n (λ (j : ℕ). a + j) ∙ span-sum a b n
 
 -- ---- membership
 pub among-occurs : (b : ℕ) (xs : List ℕ) → Among b xs → 1 ≤ occurs b xs
-unfolding occurs tally
+unfolding occurs sumOf
 among-occurs b [] h = absurd h
 among-occurs b (x ∷ xs) (inl e) = rw (eq-eqb x b (sym e)) (omega arith)
 among-occurs b (x ∷ xs) (inr h) = omega (arith, among-occurs b xs h)
 
 pub occurs-among : (b : ℕ) (xs : List ℕ) → 1 ≤ occurs b xs → Among b xs
-unfolding occurs tally
+unfolding occurs sumOf
 occurs-among b [] h = absurd (not-suc-le-zero h)
 occurs-among b (x ∷ xs) h = pick (eqb x b) refl h (occurs-among b xs)
   where
@@ -167,32 +134,32 @@ every-among P (x ∷ xs) h b (inl e) = subst P (sym e) (h .0)
 every-among P (x ∷ xs) h b (inr a) = every-among P xs (h .1) b a
 
 module _ {A : Type 0} (f : A → ℕ) where
-  pub tally-member : (a : A) (xs : List A) → List·Memᴰ a xs → f a ≤ tally f xs
-  unfolding tally
-  tally-member a [] m = absurd (List·Memᴰ·not-nil m)
-  tally-member a (x ∷ xs) (List·Memᴰ·head e) = omega (arith, ap f e)
-  tally-member a (x ∷ xs) (List·Memᴰ·tail m) = omega (arith, tally-member a xs m)
+  pub list-member : (a : A) (xs : List A) → List·Memᴰ a xs → f a ≤ sumOf xs f
+  unfolding sumOf
+  list-member a [] m = absurd (List·Memᴰ·not-nil m)
+  list-member a (x ∷ xs) (List·Memᴰ·head e) = omega (arith, ap f e)
+  list-member a (x ∷ xs) (List·Memᴰ·tail m) = omega (arith, list-member a xs m)
 
   -- an entry that counts
-  pub tally-find : (xs : List A) → 1 ≤ tally f xs → (a : A) × List·Memᴰ a xs × (1 ≤ f a)
-  unfolding tally
-  tally-find [] h = absurd (not-suc-le-zero h)
-  tally-find (x ∷ xs) h = pick (ltb 0 (f x)) refl (tally-find xs)
+  pub list-find : (xs : List A) → 1 ≤ sumOf xs f → (a : A) × List·Memᴰ a xs × (1 ≤ f a)
+  unfolding sumOf
+  list-find [] h = absurd (not-suc-le-zero h)
+  list-find (x ∷ xs) h = pick (ltb 0 (f x)) refl (list-find xs)
     where
-      pick : (t : Bool) → ltb 0 (f x) ≡ t → (1 ≤ tally f xs → (a : A) × List·Memᴰ a xs × (1 ≤ f a)) → (a : A) × List·Memᴰ a (x ∷ xs) × (1 ≤ f a)
+      pick : (t : Bool) → ltb 0 (f x) ≡ t → (1 ≤ sumOf xs f → (a : A) × List·Memᴰ a xs × (1 ≤ f a)) → (a : A) × List·Memᴰ a (x ∷ xs) × (1 ≤ f a)
       pick true e ih = (x, List·Memᴰ·head refl, omega (arith, ltb-true 0 (f x) e))
       pick false e ih =
           let more = ih (omega (arith, ltb-false 0 (f x) e)) in
           (more .0, List·Memᴰ·tail (more .1), more .2)
 
   -- and there is no other one where the sum is 1
-  pub tally-one : (a b : A) (xs : List A) → tally f xs ≤ 1 → 1 ≤ f a → 1 ≤ f b → List·Memᴰ a xs → List·Memᴰ b xs → a ≡ b
-  unfolding tally
-  tally-one a b [] l h k m n = absurd (List·Memᴰ·not-nil m)
-  tally-one a b (x ∷ xs) l h k m n = pick (List·Memᴰ·cases-cons m) (List·Memᴰ·cases-cons n) (tally-one a b xs (omega arith) h k)
+  pub list-one : (a b : A) (xs : List A) → sumOf xs f ≤ 1 → 1 ≤ f a → 1 ≤ f b → List·Memᴰ a xs → List·Memᴰ b xs → a ≡ b
+  unfolding sumOf
+  list-one a b [] l h k m n = absurd (List·Memᴰ·not-nil m)
+  list-one a b (x ∷ xs) l h k m n = pick (List·Memᴰ·cases-cons m) (List·Memᴰ·cases-cons n) (list-one a b xs (omega arith) h k)
     where
       pick : (a ≡ x) ⊎ List·Memᴰ a xs → (b ≡ x) ⊎ List·Memᴰ b xs → (List·Memᴰ a xs → List·Memᴰ b xs → a ≡ b) → a ≡ b
       pick (inl p) (inl q) ih = p ∙ sym q
-      pick (inl p) (inr q) ih = absurd (omega (arith, ap f p, tally-member b xs q))
-      pick (inr p) (inl q) ih = absurd (omega (arith, ap f q, tally-member a xs p))
+      pick (inl p) (inr q) ih = absurd (omega (arith, ap f p, list-member b xs q))
+      pick (inr p) (inl q) ih = absurd (omega (arith, ap f q, list-member a xs p))
       pick (inr p) (inr q) ih = ih p q

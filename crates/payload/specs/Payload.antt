@@ -1,45 +1,41 @@
 -- What the promises cite: a plan's sections, the lengths of payload and grid, and the refusals 10 to 12. w is a plan's bytes, p the
 -- plan that the plan check answers with.
-use Prim.Native.Nat.{ℕ, _+_, _*_}
+use Prim.Native.Nat.{ℕ, _*_}
 use mathlib.Core.Path.{_≡_}
 use mathlib.Core.Bool.{Bool}
 use mathlib.Core.List.{List, [], _∷_, _++_}
 use lib.Dec.{eqb}
 use lib.ListN.{length}
 use Rattle.base.specs.Bits.{bitAt}
+use Rattle.base.specs.Tables.{table}
 use Rattle.plan.specs.Lists.{noneOf, Every}
-use Rattle.plan.specs.Rows.{usersOf}
+use Rattle.plan.specs.Rows.{usersOf, nthUser}
 use Rattle.plan.specs.declared.Cell.{Cell}
 use Rattle.plan.specs.declared.Frame.{Frame}
-use Rattle.plan.specs.declared.User.{User}
 use Rattle.plan.specs.declared.Plan.{Plan}
 use Rattle.plan.specs.declared.Refusal.{Refusal}
 use Rattle.plan.specs.declared.Refusal.the-variants.{GridLength, PayloadLength, SpareBit}
 use Rattle.base.specs.Choice.{if_then_else_}
 use Rattle.layout.specs.Owners.{symbols}
-use Rattle.counts.specs.Users.{userElements}
+use Rattle.layout.specs.declared.Owner.the-variants.{User as UserOf}
+use Rattle.counts.specs.Counts.{countOf}
 use Rattle.payload.specs.Sections.{bytesOf, sparesFrom}
 
 -- "PBCH when f = 0 (480 bits, extended 432)"
 unfoldable pub pbchBits : Cell → Frame → ℕ
 pbchBits c f = if eqb (f .subframe) 0 then (if eqb (c .prefix) 1 then 432 else 480) else 0
 
--- "per user Q × G bits, G its element count"
-unfoldable pub userBits : Cell → Frame → User → ℕ
-userBits c f u = u .order * userElements c f (u .first) (u .count)
+-- "per user Q × G bits, G its element count": of user i
+unfoldable pub userBits : List ℕ → Plan → ℕ → ℕ
+userBits w p i = nthUser w p i .order * countOf w p (UserOf i)
 
 -- the sections before the users': PBCH, "one bit per HI in plan order, if there are HIs"
 unfoldable pub heads : Plan → List ℕ
 heads p = pbchBits (p .cell) (p .frame) ∷ p .his .count ∷ []
 
--- the users' sections
-unfoldable pub userSections : Cell → Frame → List User → List ℕ
-userSections c f [] = []
-userSections c f (u ∷ us) = userBits c f u ∷ userSections c f us
-
 -- THE SECTIONS of a plan's payload, in their order
 unfoldable pub sections : List ℕ → Plan → List ℕ
-sections w p = heads p ++ userSections (p .cell) (p .frame) (usersOf w p)
+sections w p = heads p ++ table (length (usersOf w p)) (userBits w p)
 
 -- the payload's bytes
 unfoldable pub payloadLength : List ℕ → Plan → ℕ

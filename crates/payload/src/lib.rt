@@ -1,14 +1,14 @@
 // The payload of a plan (document 01, Plan and payload; Refusals 10 to 12): its sections, its length, and its spare bits.
 ghost use mathlib.Core.Path.{_≡_};
-ghost use Prim.Native.Nat.{ℕ, _+_, _≤_};
+ghost use Prim.Native.Nat.{_+_, _≤_};
 ghost use lib.ListN.{length, drop};
 ghost use Rattle.plan.specs.Check.{checkOf};
 ghost use Rattle.plan.specs.Rows.{usersFrom};
 ghost use Rattle.plan.specs.declared.Checked.the-variants.{Plan as accepted};
 ghost use Rattle.layout.specs.Owners.{symbols};
 ghost use Rattle.payload.specs.Sections.{sectionBytes, bytesOf, spareAt, sparesFrom};
-ghost use Rattle.payload.specs.Payload.{pbchBits, userBits, heads, userSections, payloadLength, usersStart, gridLength, noneSet, spareClear};
-ghost use Rattle.payload.specs.Loops.{UserReady, Ready};
+ghost use Rattle.payload.specs.Payload.{pbchBits, heads, payloadLength, usersStart, gridLength, noneSet, spareClear};
+ghost use Rattle.payload.specs.Loops.{computedBits, computedSections, UserReady, Ready};
 use base::wide;
 use counts::user_count;
 use plan::Cell;
@@ -38,7 +38,7 @@ pub fn pbch_bits(c: Cell, f: Frame) -> usize
 // The bits of a user's section. Whoever calls has the user from an accepted plan.
 pub fn user_bits(c: Cell, f: Frame, u: User) -> usize
     requires { ⌜ UserReady c f u ⌝ }
-    ensures { λ r. ⌜ r ≡ userBits c f u ⌝ }
+    ensures { λ r. ⌜ r ≡ computedBits c f u ⌝ }
 {
     wide(u.order) * user_count(c, f, u.first, u.count)
 }
@@ -68,7 +68,7 @@ pub fn users_start(p: Plan) -> usize
 // The bytes of the sections of count users, whose commands stand from position start on.
 fn users_length(plan: &[u8], c: Cell, f: Frame, start: usize, count: usize) -> usize
     requires { ⌜ Ready c f (usersFrom (drop start (now plan)) count) ⌝ }
-    ensures { λ r. ⌜ r ≡ bytesOf (userSections c f (usersFrom (drop start (now (plan .entry))) count)) ⌝ }
+    ensures { λ r. ⌜ r ≡ bytesOf (computedSections c f (usersFrom (drop start (now (plan .entry))) count)) ⌝ }
 {
     let mut bytes: usize = 0;
     let mut at = start;
@@ -125,8 +125,8 @@ fn users_clear(
     payload: &[u8],
     first: usize,
 ) -> bool
-    requires { ⌜ Ready c f (usersFrom (drop start (now plan)) count) × (first + bytesOf (userSections c f (usersFrom (drop start (now plan)) count)) ≤ length (now payload)) ⌝ }
-    ensures { λ r. ⌜ r ≡ noneSet (now (payload .entry)) (sparesFrom first (userSections c f (usersFrom (drop start (now (plan .entry))) count))) ⌝ }
+    requires { ⌜ Ready c f (usersFrom (drop start (now plan)) count) × (first + bytesOf (computedSections c f (usersFrom (drop start (now plan)) count)) ≤ length (now payload)) ⌝ }
+    ensures { λ r. ⌜ r ≡ noneSet (now (payload .entry)) (sparesFrom first (computedSections c f (usersFrom (drop start (now (plan .entry))) count))) ⌝ }
 {
     let mut byte = first;
     let mut at = start;

@@ -10,16 +10,20 @@ use native.Mathlib.Omega.{arith}
 use borrow.Author.Tests.{ne-eqb}
 use lib.Dec.{eqb}
 use lib.ListN.{length, getD, drop}
+use Rattle.base.specs.Choice.{if_then_else_}
 use Rattle.base.specs.Signs.{below}
 use Rattle.base.specs.Pairs.{nil, plus, Small}
 use Rattle.base.specs.Bits.{bitAt}
 use Rattle.base.specs.Tables.{table}
 use Rattle.base.proofs.Pairs.{plus-small}
 use Rattle.base.proofs.Tables.{table-at, table-same}
+use Rattle.plan.specs.declared.Cell.{Cell}
 use Rattle.plan.specs.declared.Hi.{Hi}
+use Rattle.plan.specs.Fields.{unitsOf, groupsOf}
 use Rattle.plan.specs.Rows.{hisFrom}
+use Rattle.plan.specs.Valid.{HiIn}
 use Rattle.phich.specs.His.{hiNumber, Distinct}
-use Rattle.phich.specs.Spreading.{Length}
+use Rattle.phich.specs.Spreading.{spreadLength, Length}
 use Rattle.phich.specs.Units.{mappingUnit, firstPlace, partAt, addedAt, sumAt, unitSums, countIn, Within, Ready, SameHiBits}
 use Rattle.phich.specs.Recovery.{bitIn}
 use Rattle.phich.proofs.Parts.{part-small}
@@ -43,6 +47,24 @@ first-normal h = omega arith
 pub first-extended : (h : Hi) → firstPlace 2 h ≡ 2 * (h .group % 2)
 unfolding firstPlace
 first-extended h = omega arith
+
+-- ---- a cell's length, and the unit of an HI, which is one of the cell's
+module _ (cell : Cell) where
+  pub length-ok : Length (spreadLength cell)
+  unfolding spreadLength
+  length-ok = pick (eqb (cell .prefix) 1)
+    where
+      pick : (t : Bool) → Length (if t then 2 else 4)
+      pick true = (omega arith, omega arith, omega arith)
+      pick false = (omega arith, omega arith, omega arith)
+
+  pub hi-unit : (h : Hi) → HiIn cell h → mappingUnit (spreadLength cell) h < unitsOf cell
+  unfolding spreadLength groupsOf
+  hi-unit h i = pick (eqb (cell .prefix) 1) (i .group)
+    where
+      pick : (t : Bool) → h .group < cond t (2 * unitsOf cell) (unitsOf cell) → mappingUnit (if t then 2 else 4) h < unitsOf cell
+      pick true l = omega (arith, unit-extended h)
+      pick false l = omega (arith, unit-normal h)
 
 -- ---- payload bits
 pub bit-le : (s : List ℕ) (n : ℕ) → bitAt s n ≤ 1

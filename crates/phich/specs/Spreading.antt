@@ -6,12 +6,18 @@ use mathlib.Core.List.{List, [], _∷_}
 use lib.ListN.{getD}
 use lib.Dec.{eqb}
 use lib.IntN.{pos, negsuc, _+ℤ_, _-ℤ_}
+use Rattle.base.specs.Choice.{if_then_else_}
 use Rattle.base.specs.declared.Pair.{Pair}
 use Rattle.base.specs.Pairs.{turned}
 use Rattle.base.specs.Digits.{dig}
+use Rattle.plan.specs.declared.Cell.{Cell}
 use Rattle.phich.specs.declared.SignPair.{SignPair}
 
--- N_SF: 4 with the normal prefix, 2 with the extended one; said in linear facts
+-- N_SF: 4 with the normal prefix, 2 with the extended one
+unfoldable pub spreadLength : Cell → ℕ
+spreadLength cell = if eqb (cell .prefix) 1 then 2 else 4
+
+-- such a length, in linear facts
 abbrev pub Length : ℕ → Type 0
 Length l = (0 < l) × (l ≤ 4) × (l % 2 ≡ 0)
 

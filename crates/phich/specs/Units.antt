@@ -14,7 +14,7 @@ use Rattle.phich.specs.His.{hiNumber}
 use Rattle.phich.specs.Spreading.{Length, chipAt}
 
 -- A group has l of the four places of each quad, and groups lie side by side: document 01's unit, "normal unit = group,
--- extended unit = groups 2m, 2m+1" (laws unit-normal, unit-extended)
+-- extended unit = groups 2m, 2m+1" (laws unit-normal, unit-extended). A unit's sums and its bits go by it
 unfoldable pub mappingUnit : ℕ → Hi → ℕ
 mappingUnit l h = h .group * l / 4
 

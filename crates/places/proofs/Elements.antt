@@ -1,5 +1,5 @@
--- The places that are listed are as many as the element count says: `placeCount` of the crate counts. Assumes nothing.
-use Prim.Native.Nat.{ℕ, zero, suc, _+_, _*_, _≤_, _<_}
+-- The places, by their numbers, are as many as the element count says. Assumes nothing.
+use Prim.Native.Nat.{ℕ, zero, suc, _+_, _*_, _≤_}
 use mathlib.Core.Path.{_≡_, refl, ap, ap₂, _∙_}
 use mathlib.Core.Bool.{Bool, true, false, cond}
 use mathlib.Core.List.{List}
@@ -10,9 +10,9 @@ use Rattle.base.specs.Choice.{one}
 use Rattle.layout.specs.Owners.{symbols, carriers, owns}
 use Rattle.layout.specs.declared.Owner.{Owner}
 use Rattle.counts.specs.Sums.{sumTo}
-use Rattle.counts.specs.Counts.{countOf as elementsOf}
+use Rattle.counts.specs.Counts.{countOf}
 use Rattle.places.specs.Counts.{cnt}
-use Rattle.places.specs.Places.{placeNumber, placesOf, ownsAt, placeCount}
+use Rattle.places.specs.Places.{placeNumber, placesOf, ownsAt}
 use Rattle.places.proofs.Counts.{cnt-add}
 use Rattle.places.proofs.Numbers.{owns-at}
 
@@ -34,6 +34,6 @@ module _ (w : List ℕ) (p : Plan) (o : Owner) where
       ∙ cnt-add (ownsAt w p o) (n * carriers (p .cell)) (carriers (p .cell))
       ∙ ap₂ _+_ (rows n) (row n (carriers (p .cell)) (omega arith))
 
-  pub count-is : placeCount w p o ≡ elementsOf w p o
-  unfolding placeCount elementsOf
+  pub count-is : cnt (ownsAt w p o) (placesOf (p .cell)) ≡ countOf w p o
+  unfolding countOf
   count-is = rows (symbols (p .cell))

@@ -24,11 +24,13 @@ use Rattle.layout.specs.Owners.{symbols, carriers, slotOfCell, controlSymbols, 
 use Rattle.layout.specs.Chain.{syncArea}
 use Rattle.layout.specs.declared.Owner.{Owner}
 use Rattle.layout.specs.declared.Owner.the-variants.{Crs, Pbch, User as UserOf}
+use Rattle.counts.specs.Counts.{countOf}
 use Rattle.places.specs.Counts.{cnt}
-use Rattle.places.specs.Places.{placeNumber, symbolAt, carrierAt, placesOf, ownsAt, placeCount, orderOf, ascending, indexBy, indexOf}
+use Rattle.places.specs.Places.{placeNumber, symbolAt, carrierAt, placesOf, ownsAt, orderOf, ascending, indexBy, indexOf}
 use Rattle.places.specs.Halves.{without, openPlace, openOfFour, signals, inPbch, taken, openTo, before}
 use Rattle.places.proofs.Counts.{cnt-none, cnt-empty, cnt-add, cnt-same, cnt-skip, cnt-all}
 use Rattle.places.proofs.Numbers.{slot-length, owns-at, place-both, carrier-inside}
+use Rattle.places.proofs.Elements.{count-is}
 use Rattle.places.proofs.Inserted.{one-small}
 use Rattle.places.proofs.Free.{free-late}
 
@@ -226,9 +228,10 @@ module _ (w : List ℕ) (p : Plan) (o : Owner) where
           ∙ h (symbolAt (p .cell) t) (carrierAt (p .cell) t) (div-lt-iff-lt-mul some .1 (omega arith)) (carrier-inside (p .cell) some t)
 
   -- the count is what stands before the end of the grid
-  pub count-before : placeCount w p o ≡ before w p o (symbols (p .cell)) 0
-  unfolding placeCount
-  count-before = let e : placesOf (p .cell) ≡ placeNumber (p .cell) (symbols (p .cell)) 0 = omega arith in ap (cnt (ownsAt w p o)) e
+  pub count-before : countOf w p o ≡ before w p o (symbols (p .cell)) 0
+  count-before =
+      let e : placesOf (p .cell) ≡ placeNumber (p .cell) (symbols (p .cell)) 0 = omega arith in
+      sym (count-is w p o) ∙ ap (cnt (ownsAt w p o)) e
 
   -- an owner that goes in ascending order: a place's index is what stands before it
   module _ (e : orderOf (p .cell) o ≡ ascending) where

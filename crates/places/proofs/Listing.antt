@@ -1,7 +1,7 @@
 -- THE LAW OF PLACES: under an accepted plan each owner's places are listed by placeOf, each once, and indexOf undoes it.
 -- Assumes nothing beyond the plan check's answer.
 use Prim.Native.Nat.{ℕ, _+_, _*_, _/_, _%_, _≤_, _<_}
-use mathlib.Core.Path.{_≡_, refl, sym, ap, _∙_}
+use mathlib.Core.Path.{_≡_, refl, sym, ap, _∙_, subst}
 use mathlib.Core.Logic.{_↔_}
 use mathlib.Core.Bool.{Bool, true, false, not, _&&_, and-assoc}
 use mathlib.Core.List.{List}
@@ -22,13 +22,14 @@ use Rattle.layout.specs.declared.Owner.{Owner}
 use Rattle.layout.specs.declared.Owner.the-variants.{Crs, Sync, Pbch, Pcfich, Phich, User as UserOf, Held, Idle}
 use Rattle.layout.proofs.Few.{blocks-least, blocks-most, sixths-most}
 use Rattle.layout.proofs.Units.{units-fit}
-use Rattle.places.specs.Counts.{Listed}
+use Rattle.places.specs.Counts.{cnt, Listed}
 use Rattle.places.specs.Quads.{keeps, quadPlace, unitGroup, quadsPlace, quadsIndex, InQuads}
-use Rattle.places.specs.Places.{placeNumber, symbolAt, carrierAt, placesOf, ownsAt, placeCount, orderOf, placeBy, indexBy, placeOf, indexOf, PlacesListed}
+use Rattle.places.specs.Places.{placeNumber, symbolAt, carrierAt, placesOf, ownsAt, FillingOrder, ascending, orderOf, placeBy, indexBy, placeOf, indexOf, PlacesListed}
 use Rattle.places.proofs.Counts.{listed-nth, listed-none, listed-count}
 use Rattle.places.proofs.Quads.{Groups, quads-listed, quads-exactly, quads-at}
 use Rattle.places.proofs.Channels.{format-groups, unit-groups}
 use Rattle.places.proofs.Numbers.{first-row}
+use Rattle.places.proofs.Elements.{count-is}
 
 -- ---- a rule of symbol 0, over the numbers of all places
 module _ (own rule : ℕ → Bool) (W T m : ℕ) (at index : ℕ → ℕ) (some : 0 < W) (fit : W ≤ T) (same : (t : ℕ) → own t ≡ eqb (t / W) 0 && rule (t % W)) (l : Listed rule W m at index) where
@@ -114,13 +115,9 @@ module _ (c : Cell) (n : ℕ) (group : ℕ → ℕ) (has : ℕ → Bool) (some :
       from : (s ≡ 0) × InQuads (c .identity) n group k → r ≡ true
       from h = e ∙ rw (eq-eqb s 0 (h .0)) (exactly .1 (h .1))
 
-module _ (w : List ℕ) (p : Plan) (o : Owner) (m : ℕ) (l : Listed (ownsAt w p o) (placesOf (p .cell)) m (placeOf w p o) (indexOf w p o)) where
-  count-is : placeCount w p o ≡ m
-  unfolding placeCount
-  count-is = listed-count m (ownsAt w p o) (placesOf (p .cell)) (placeOf w p o) (indexOf w p o) l
-
-  counted : PlacesListed w p o
-  counted = rw count-is l
+-- places that are listed are as many as the owner's count says
+counted : (w : List ℕ) (p : Plan) (o : Owner) (m : ℕ) → Listed (ownsAt w p o) (placesOf (p .cell)) m (placeOf w p o) (indexOf w p o) → PlacesListed w p o
+counted w p o m l = rw (sym (count-is w p o) ∙ listed-count m (ownsAt w p o) (placesOf (p .cell)) (placeOf w p o) (indexOf w p o) l) l
 
 module _ (w : List ℕ) (p : Plan) (ok : checkOf w ≡ accepted p) where
   pub some-carriers : 0 < carriers (p .cell)
@@ -166,12 +163,13 @@ module _ (w : List ℕ) (p : Plan) (ok : checkOf w ≡ accepted p) where
   unfolding placeOf indexOf placeBy indexBy orderOf
   phich-listed m h = by-quads (p .cell) 3 (unitGroup (p .cell .identity) (p .cell .blocks) m) (unitHas (p .cell .identity) (p .cell .blocks) m 0) some-carriers (phich-groups m h) (ownsAt w p (Phich m)) (phich-at m h)
 
-  -- PCFICH has sixteen places, a unit twelve
-  pub pcfich-count : placeCount w p Pcfich ≡ 16
-  pcfich-count = count-is w p Pcfich 16 pcfich-listed
-
-  pub phich-count : (m : ℕ) → m < unitsOf (p .cell) → placeCount w p (Phich m) ≡ 12
-  phich-count m h = count-is w p (Phich m) 12 (phich-listed m h)
+  ascending-listed : (o : Owner) → orderOf (p .cell) o ≡ ascending → PlacesListed w p o
+  unfolding placeOf indexOf placeBy indexBy
+  ascending-listed o e =
+      let own : ℕ → Bool = ownsAt w p o in
+      let n : ℕ = placesOf (p .cell) in
+      counted w p o (cnt own n)
+      (subst (λ (x : FillingOrder). Listed own n (cnt own n) (placeBy (p .cell) own x) (indexBy (p .cell) own x)) (sym e) (listed-nth own n))
 
   unit-listed : (m : ℕ) → PlacesListed w p (Phich m)
   unit-listed m =
@@ -181,15 +179,15 @@ module _ (w : List ℕ) (p : Plan) (ok : checkOf w ≡ accepted p) where
 
   -- THE LAW
   pub listed : (o : Owner) → PlacesListed w p o
-  unfolding placeCount placeOf indexOf placeBy indexBy orderOf
-  listed (Crs q) = listed-nth (ownsAt w p (Crs q)) (placesOf (p .cell))
-  listed (Sync m) = listed-nth (ownsAt w p (Sync m)) (placesOf (p .cell))
-  listed Pbch = listed-nth (ownsAt w p Pbch) (placesOf (p .cell))
+  unfolding orderOf
+  listed (Crs q) = ascending-listed (Crs q) refl
+  listed (Sync m) = ascending-listed (Sync m) refl
+  listed Pbch = ascending-listed Pbch refl
   listed Pcfich = counted w p Pcfich 16 pcfich-listed
   listed (Phich m) = unit-listed m
-  listed (UserOf i) = listed-nth (ownsAt w p (UserOf i)) (placesOf (p .cell))
-  listed Held = listed-nth (ownsAt w p Held) (placesOf (p .cell))
-  listed Idle = listed-nth (ownsAt w p Idle) (placesOf (p .cell))
+  listed (UserOf i) = ascending-listed (UserOf i) refl
+  listed Held = ascending-listed Held refl
+  listed Idle = ascending-listed Idle refl
 
   -- THE LAW OF QUADS: PCFICH's rule holds just at the places of its four quads, a unit's at those of its three
   pub pcfich-exactly :

@@ -9,6 +9,7 @@ use Rattle.layout.specs.Rules.{formatGroup}
 use Rattle.layout.specs.Owners.{symbols, carriers, owns}
 use Rattle.layout.specs.declared.Owner.{Owner}
 use Rattle.layout.specs.declared.Owner.the-variants.{Crs, Sync, Pbch, Pcfich, Phich, User as UserOf, Held, Idle}
+use Rattle.counts.specs.Counts.{countOf}
 use Rattle.places.specs.Counts.{cnt, nth, Listed}
 use Rattle.places.specs.Quads.{unitGroup, quadsPlace, quadsIndex}
 
@@ -28,10 +29,6 @@ placesOf c = symbols c * carriers c
 -- the owner's rule at place number t
 unfoldable pub ownsAt : List ℕ → Plan → Owner → ℕ → Bool
 ownsAt w p o t = owns w p o (symbolAt (p .cell) t) (carrierAt (p .cell) t)
-
--- "its element count (a user's G) is the number of its places, ports not multiplied"
-unfoldable pub placeCount : List ℕ → Plan → Owner → ℕ
-placeCount w p o = cnt (ownsAt w p o) (placesOf (p .cell))
 
 -- the order of an owner's places: "k first, then s", or by quads, n of them, quad i in group `group i` of symbol 0
 pub data FillingOrder : Type 0 where
@@ -66,4 +63,4 @@ indexOf w p o t = indexBy (p .cell) (ownsAt w p o) (orderOf (p .cell) o) t
 -- the two undo each other on the owner's places and on the indices below its count. proofs/Listing.antt: so for every owner of an
 -- accepted plan
 abbrev pub PlacesListed : List ℕ → Plan → Owner → Type 0
-PlacesListed w p o = Listed (ownsAt w p o) (placesOf (p .cell)) (placeCount w p o) (placeOf w p o) (indexOf w p o)
+PlacesListed w p o = Listed (ownsAt w p o) (placesOf (p .cell)) (countOf w p o) (placeOf w p o) (indexOf w p o)

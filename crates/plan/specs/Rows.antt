@@ -3,7 +3,7 @@ use Prim.Native.Nat.{ℕ, zero, suc, _+_}
 use mathlib.Core.Bool.{cond}
 use mathlib.Core.List.{List, [], _∷_}
 use lib.Dec.{leb}
-use lib.ListN.{length, drop}
+use lib.ListN.{length, drop, getD}
 use Rattle.plan.specs.Commands.{hiOf, userOf, sizeOf}
 use Rattle.plan.specs.declared.Hi.{Hi}
 use Rattle.plan.specs.declared.User.{User}
@@ -34,3 +34,7 @@ hisOf w p = hisFrom (drop (p .his .at) w) (p .his .count)
 
 unfoldable pub usersOf : List ℕ → Plan → List User
 usersOf w p = usersFrom (drop (p .users .at) w) (p .users .count)
+
+-- the i-th of the users, from 0 on
+unfoldable pub nthUser : List ℕ → Plan → ℕ → User
+nthUser w p i = getD (usersOf w p) i (record { rnti = 0; order = 0; first = 0; count = 0 })

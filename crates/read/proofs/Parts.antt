@@ -1,35 +1,22 @@
 -- The sections of the payload of a grid, each as the part of the payload that it is read into. Assumes nothing.
-use Prim.Native.Nat.{ℕ, zero, suc, _+_, _-_, _*_, _≤_, _<_}
-use mathlib.Core.Path.{_≡_, refl, sym, ap, _∙_}
-use mathlib.Core.List.{List, [], _∷_, _++_}
-use native.Mathlib.Nat.{not-suc-le-zero, le-of-suc-le-suc}
+use Prim.Native.Nat.{ℕ, suc, _+_, _-_, _≤_, _<_}
+use mathlib.Core.Path.{_≡_, refl, sym, ap, ap₂, _∙_}
+use mathlib.Core.List.{List, _++_}
 use native.Mathlib.Omega.{arith}
-use lib.Dec.{ltb}
 use lib.ListN.{length, getD, take, drop}
-use lib.Seq.{length-take-le, take-length, take-append-add, drop-append-add, take-add, take-at}
+use lib.Seq.{length-take-le, take-length, take-append-add, take-add, take-at}
 use borrow.Rule.Slice.PartMut.{putMid, postOf, mid-len, same-len-mid}
-use Rattle.base.proofs.Tables.{table-length}
-use Rattle.gold.specs.Sequence.{binary}
-use Rattle.plan.specs.Rows.{usersOf}
-use Rattle.plan.specs.declared.User.{User}
+use Rattle.plan.specs.Rows.{usersOf, nthUser}
 use Rattle.plan.specs.declared.Plan.{Plan}
-use Rattle.base.specs.Choice.{if_then_else_}
 use Rattle.payload.specs.Sections.{sectionBytes, bytesOf, startOf}
-use Rattle.payload.specs.Payload.{pbchBits, userBits, heads, userSections, payloadLength, usersStart}
-use Rattle.payload.proofs.Sections.{userStart, user-start}
-use Rattle.subframe.specs.Elements.{nthUser}
-use Rattle.recovery.specs.Recovery.{pbchBit, ackBit, userBit, sectionOf, usersIn, payloadIn}
-use Rattle.recovery.proofs.Payload.{size}
+use Rattle.payload.specs.Payload.{pbchBits, userBits, heads, sections, payloadLength, usersStart}
+use Rattle.payload.proofs.Sections.{userStart, user-number}
+use Rattle.recovery.specs.Recovery.{pbchBit, ackBit, userBit, sectionOf, sectionBit, payloadIn}
+use Rattle.recovery.proofs.Sections.{sections-part}
+use Rattle.recovery.proofs.Payload.{size, user-section}
 use Rattle.read.specs.Reading.{ReadTo}
 
 -- ---- lists
-section-length : (bit : ℕ → ℕ) (n : ℕ) → length (sectionOf bit n) ≡ sectionBytes n
-unfolding sectionOf
-section-length bit n = table-length (sectionBytes n) (λ (m : ℕ). binary (λ (i : ℕ). if ltb i n then bit i else 0) (8 * m) 8)
-
-past : (xs ys : List ℕ) (m n : ℕ) → length xs ≡ m → drop (m + n) (xs ++ ys) ≡ drop n ys
-past xs ys m n e = ap (λ (k : ℕ). drop (k + n) (xs ++ ys)) (sym e) ∙ drop-append-add xs ys n
-
 -- a list that begins as F does, with a part of F put after that
 put-more :
     (s F ys : List ℕ) (a e : ℕ) → a ≤ e → e ≤ length s → e ≤ length F → take a s ≡ take a F → ys ≡ take (e - a) (drop a F)
@@ -50,67 +37,35 @@ module _ (w : List ℕ) (p : Plan) (g : List ℕ) where
   abbrev F : List ℕ
   F = payloadIn w p g
 
-  -- ---- where the sections are
-  pub pbch-part : (end : ℕ) → end ≡ sectionBytes (pbchBits (p .cell) (p .frame)) → take (end - 0) (drop 0 (payloadIn w p g)) ≡ sectionOf (pbchBit w p g) (pbchBits (p .cell) (p .frame))
+  -- ---- where the sections are: number k, from byte `start` to byte `end`
+  section-part :
+      (k start end : ℕ) → k < length (sections w p) → start ≡ startOf (sections w p) k → end ≡ start + sectionBytes (getD (sections w p) k 0)
+      → take (end - start) (drop start (payloadIn w p g)) ≡ sectionOf (sectionBit w p g k) (getD (sections w p) k 0)
   unfolding payloadIn
-  pbch-part end ee =
-      take-at (sectionOf (pbchBit w p g) (pbchBits (p .cell) (p .frame))) (sectionOf (ackBit w p g) (p .his .count) ++ usersIn w p g 0 (usersOf w p)) (end - 0)
-      (omega (arith, section-length (pbchBit w p g) (pbchBits (p .cell) (p .frame))))
+  section-part k start end l es ee =
+      let m : end - start ≡ sectionBytes (getD (sections w p) k 0) = omega arith in
+      ap₂ (λ (x y : ℕ). take x (drop y (payloadIn w p g))) m es ∙ sections-part (sectionBit w p g) (sections w p) k l
+
+  pub pbch-part : (end : ℕ) → end ≡ sectionBytes (pbchBits (p .cell) (p .frame)) → take (end - 0) (drop 0 (payloadIn w p g)) ≡ sectionOf (pbchBit w p g) (pbchBits (p .cell) (p .frame))
+  unfolding sections heads startOf bytesOf sectionBit
+  pbch-part end ee = section-part 0 0 end (omega arith) refl (omega arith)
 
   pub acks-part :
       (start end : ℕ) → start ≡ sectionBytes (pbchBits (p .cell) (p .frame)) → end ≡ usersStart p
       → take (end - start) (drop start (payloadIn w p g)) ≡ sectionOf (ackBit w p g) (p .his .count)
-  unfolding payloadIn usersStart heads bytesOf
-  acks-part start end es ee =
-      let a : List ℕ = sectionOf (pbchBit w p g) (pbchBits (p .cell) (p .frame)) in
-      let b : List ℕ = sectionOf (ackBit w p g) (p .his .count) in
-      let us : List ℕ = usersIn w p g 0 (usersOf w p) in
-      let z : start ≡ sectionBytes (pbchBits (p .cell) (p .frame)) + 0 = omega arith in
-      ap (λ (n : ℕ). take (end - start) (drop n (a ++ (b ++ us)))) z
-      ∙ ap (take (end - start)) (past a (b ++ us) (sectionBytes (pbchBits (p .cell) (p .frame))) 0 (section-length (pbchBit w p g) (pbchBits (p .cell) (p .frame))))
-      ∙ take-at b us (end - start) (omega (arith, section-length (ackBit w p g) (p .his .count)))
-
-  user-parts :
-      (d : User) (us : List User) (i k : ℕ) → k < length us
-      → take (sectionBytes (userBits (p .cell) (p .frame) (getD us k d))) (drop (startOf (userSections (p .cell) (p .frame) us) k) (usersIn w p g i us))
-      ≡ sectionOf (userBit w p g (i + k) (getD us k d)) (userBits (p .cell) (p .frame) (getD us k d))
-  unfolding usersIn userSections startOf bytesOf
-  user-parts d [] i k h = absurd (not-suc-le-zero h)
-  user-parts d (u ∷ us) i zero h =
-      let n : ℕ = userBits (p .cell) (p .frame) u in
-      let z : i ≡ i + 0 = omega arith in
-      take-at (sectionOf (userBit w p g i u) n) (usersIn w p g (suc i) us) (sectionBytes n) (section-length (userBit w p g i u) n)
-      ∙ ap (λ (m : ℕ). sectionOf (userBit w p g m u) n) z
-  user-parts d (u ∷ us) i (suc k) h =
-      let n : ℕ = userBits (p .cell) (p .frame) u in
-      let v : User = getD us k d in
-      let z : suc i + k ≡ i + suc k = omega arith in
-      ap (take (sectionBytes (userBits (p .cell) (p .frame) v)))
-      (past (sectionOf (userBit w p g i u) n) (usersIn w p g (suc i) us) (sectionBytes n) (startOf (userSections (p .cell) (p .frame) us) k) (section-length (userBit w p g i u) n))
-      ∙ user-parts d us (suc i) k (le-of-suc-le-suc h)
-      ∙ ap (λ (m : ℕ). sectionOf (userBit w p g m v) (userBits (p .cell) (p .frame) v)) z
+  unfolding usersStart sections heads startOf bytesOf sectionBit
+  acks-part start end es ee = section-part 1 start end (omega arith) (omega arith) (omega arith)
 
   pub user-part :
       (i : ℕ) → i < length (usersOf w p) → (start end : ℕ) → start ≡ userStart w p i
-      → end ≡ start + sectionBytes (userBits (p .cell) (p .frame) (nthUser w p i))
-      → take (end - start) (drop start (payloadIn w p g)) ≡ sectionOf (userBit w p g i (nthUser w p i)) (userBits (p .cell) (p .frame) (nthUser w p i))
-  unfolding payloadIn usersStart heads bytesOf nthUser
+      → end ≡ start + sectionBytes (userBits w p i)
+      → take (end - start) (drop start (payloadIn w p g)) ≡ sectionOf (userBit w p g i (nthUser w p i)) (userBits w p i)
+  unfolding heads sectionBit
   user-part i in-i start end es ee =
-      let d : User = record { rnti = 0; order = 0; first = 0; count = 0 } in
-      let x : ℕ = sectionBytes (pbchBits (p .cell) (p .frame)) in
-      let y : ℕ = sectionBytes (p .his .count) in
-      let t : ℕ = startOf (userSections (p .cell) (p .frame) (usersOf w p)) i in
-      let a : List ℕ = sectionOf (pbchBit w p g) (pbchBits (p .cell) (p .frame)) in
-      let b : List ℕ = sectionOf (ackBit w p g) (p .his .count) in
-      let us : List ℕ = usersIn w p g 0 (usersOf w p) in
-      let z : start ≡ x + (y + t) = omega (arith, user-start w p i) in
-      let m : end - start ≡ sectionBytes (userBits (p .cell) (p .frame) (getD (usersOf w p) i d)) = omega arith in
-      let n : 0 + i ≡ i = omega arith in
-      ap (λ (k : ℕ). take (end - start) (drop k (a ++ (b ++ us)))) z
-      ∙ ap (take (end - start)) (past a (b ++ us) x (y + t) (section-length (pbchBit w p g) (pbchBits (p .cell) (p .frame))) ∙ past b us y t (section-length (ackBit w p g) (p .his .count)))
-      ∙ ap (λ (k : ℕ). take k (drop t us)) m
-      ∙ user-parts d (usersOf w p) 0 i in-i
-      ∙ ap (λ (k : ℕ). sectionOf (userBit w p g k (getD (usersOf w p) i d)) (userBits (p .cell) (p .frame) (getD (usersOf w p) i d))) n
+      let k : ℕ = length (heads p) + i in
+      let e : k ≡ suc (suc i) = omega arith in
+      section-part k start end (user-number w p i in-i) es (ee ∙ ap (λ (n : ℕ). start + sectionBytes n) (sym (user-section w p g i in-i)))
+      ∙ ap₂ sectionOf (ap (sectionBit w p g) e) (user-section w p g i in-i)
 
   -- ---- how far the payload is read
   module _ {payload : List ℕ} (right : length payload ≡ payloadLength w p) where

@@ -9,7 +9,7 @@ use Rattle.gold.specs.declared.Registers.{Registers}
 use Rattle.gold.specs.Sequence.{pairAt}
 use Rattle.plan.specs.Check.{checkOf}
 use Rattle.plan.specs.Commands.{userOf}
-use Rattle.plan.specs.Rows.{nextOf, hisFrom, hisOf, usersOf}
+use Rattle.plan.specs.Rows.{nextOf, hisFrom, hisOf, usersOf, nthUser}
 use Rattle.plan.specs.Valid.{CellIn, FrameIn, UserIn}
 use Rattle.plan.specs.declared.User.{User}
 use Rattle.plan.specs.declared.Plan.{Plan}
@@ -18,11 +18,11 @@ use Rattle.plan.proofs.Valid.{valid}
 use Rattle.plan.proofs.Counts.{blocks-least, units-least}
 use Rattle.payload.specs.Sections.{sectionBytes, bytesOf}
 use Rattle.payload.specs.Payload.{pbchBits, userBits, heads, payloadLength, usersStart}
-use Rattle.payload.specs.Loops.{UserReady}
+use Rattle.payload.specs.Loops.{computedBits, UserReady}
 use Rattle.payload.proofs.Lengths.{pbch-none}
 use Rattle.payload.proofs.Sections.{userStart, user-start-first, user-start-end}
-use Rattle.subframe.specs.Elements.{userInit, nthUser}
-use Rattle.subframe.proofs.OwnerBits.{pbch-size, user-order, user-places}
+use Rattle.subframe.specs.Elements.{userInit}
+use Rattle.subframe.proofs.OwnerBits.{pbch-size, user-order}
 use Rattle.recovery.specs.Recovery.{sectionOf, payloadIn}
 use Rattle.recovery.proofs.Channels.{pbch-length}
 use Rattle.data.specs.declared.Area.{Area}
@@ -35,7 +35,7 @@ use Rattle.control.specs.Reading.{ackFrom, ReadIn}
 use Rattle.control.proofs.ReadingOwners.{acks-are, read-in}
 use Rattle.channels.specs.declared.Channel.the-variants.{Pbch as PbchChannel, Phich as PhichChannel, User as UserChannel}
 use Rattle.channels.specs.Channels.{initOf, firstBit, Among}
-use Rattle.build.proofs.Slices.{From, from-first, from-user, from-next, start-room, user-valid, user-ready, start-next, heads-room}
+use Rattle.build.proofs.Slices.{From, from-first, from-user, from-next, start-room, user-valid, user-ready, start-next, section-end, heads-room}
 use Rattle.verify.specs.Made.{Given}
 use Rattle.verify.proofs.Known.{pbch-known, pbch-even, user-known, user-even}
 use Rattle.read.specs.Reading.{Readable, ReadTo}
@@ -149,12 +149,12 @@ module _ (w : List ℕ) (p : Plan) (g : List ℕ) {before : List ℕ} (start : R
     unfolding Among
     going-begins = (valid w p ok .cell, valid w p ok .frame, subst (UserIn (p .cell)) (sym user-is) (user-valid w p ok [] i in-i))
 
-    module _ (end : ℕ) (ee : end ≡ from + sectionBytes (userBits (p .cell) (p .frame) u)) where
+    module _ (end : ℕ) (ee : end ≡ from + sectionBytes (computedBits (p .cell) (p .frame) u)) where
+      ends : end ≡ from + sectionBytes (userBits w p i)
+      ends = section-end w p ok [] i in-i u from end user-is ee
+
       end-is : end ≡ userStart w p (i + 1)
-      end-is =
-          ee
-          ∙ ap₂ (λ (n : ℕ) (v : User). n + sectionBytes (userBits (p .cell) (p .frame) v)) (so .section) user-is
-          ∙ sym (start-next w p ok [] i in-i)
+      end-is = ends ∙ ap (λ (n : ℕ). n + sectionBytes (userBits w p i)) (so .section) ∙ sym (start-next w p ok [] i in-i)
 
       end-room : end ≤ payloadLength w p
       end-room = omega (arith, end-is, start-room w p ok [] (i + 1))
@@ -163,13 +163,9 @@ module _ (w : List ℕ) (p : Plan) (g : List ℕ) {before : List ℕ} (start : R
       going-room = (omega arith, omega (arith, end-room, so .read .size))
 
       module _ (a : Area) (ea : a ≡ userArea (p .cell) (p .frame) u) where
-        user-bits : nthUser w p i .order * areaCount (userArea (p .cell) (p .frame) (nthUser w p i)) ≡ userBits (p .cell) (p .frame) (nthUser w p i)
+        user-bits : nthUser w p i .order * areaCount (userArea (p .cell) (p .frame) (nthUser w p i)) ≡ userBits w p i
         unfolding userBits nthUser
-        user-bits =
-            ap (λ (n : ℕ). nthUser w p i .order * n) (user-count w p ok i in-i (record { rnti = 0; order = 0; first = 0; count = 0 }) ∙ user-places w p ok i in-i)
-
-        ends : end ≡ from + sectionBytes (userBits (p .cell) (p .frame) (nthUser w p i))
-        ends = ee ∙ ap (λ (v : User). from + sectionBytes (userBits (p .cell) (p .frame) v)) user-is
+        user-bits = ap (λ (n : ℕ). nthUser w p i .order * n) (user-count w p ok i in-i _)
 
         area-is : a ≡ userArea (p .cell) (p .frame) (nthUser w p i)
         area-is = ea ∙ ap (userArea (p .cell) (p .frame)) user-is

@@ -25,21 +25,23 @@ use Rattle.precoding.specs.Places.{ownPort, beside}
 use Rattle.precoding.proofs.Ports.{own-inside}
 use Rattle.precoding.proofs.Diversity.{by-place}
 use Rattle.plan.specs.Check.{checkOf}
-use Rattle.plan.specs.Rows.{usersOf}
+use Rattle.plan.specs.Rows.{usersOf, nthUser}
 use Rattle.plan.specs.declared.Plan.{Plan}
 use Rattle.plan.specs.declared.Checked.the-variants.{Plan as accepted}
 use Rattle.layout.specs.declared.Owner.{Owner}
 use Rattle.layout.specs.declared.Owner.the-variants.{Pbch, User as UserOf}
-use Rattle.places.specs.Places.{symbolAt, carrierAt, placeCount, placeOf}
+use Rattle.counts.specs.Counts.{countOf}
+use Rattle.places.specs.Places.{symbolAt, carrierAt, placeOf}
 use Rattle.payload.specs.Sections.{startOf, sectionBits}
 use Rattle.payload.specs.Payload.{pbchBits, userBits, heads, sections}
 use Rattle.payload.specs.Bits.{ownerBits}
-use Rattle.subframe.specs.Elements.{ownerBit, pbchFirst, pbchSymbol, userInit, nthUser, userSymbol, elementFor}
+use Rattle.payload.proofs.Sections.{span-length}
+use Rattle.subframe.specs.Elements.{ownerBit, pbchFirst, pbchSymbol, userInit, userSymbol, elementFor}
 use Rattle.subframe.specs.Grid.{gridOf}
 use Rattle.subframe.proofs.DataBuilds.{Sends}
 use Rattle.subframe.proofs.Owned.{index-back}
 use Rattle.subframe.proofs.Occurs.{pbch-occurs, user-occurs}
-use Rattle.subframe.proofs.OwnerBits.{bit-two, span-length, pbch-size, user-order, user-places}
+use Rattle.subframe.proofs.OwnerBits.{bit-two, pbch-size, user-order}
 use Rattle.recovery.specs.Recovery.{symbolIn, wordOf, dataBit, pbchBit, userBit}
 use Rattle.recovery.proofs.Symbols.{own-read, symbol-in}
 
@@ -68,10 +70,10 @@ bit-back Q b x some i two =
 module _
     (w : List ℕ) (p : Plan) (ok : checkOf w ≡ accepted p) (A : List ℕ) (o : Owner) (Q u : ℕ) (x : ℕ → ℕ)
     (order : Order Q)
-    (occurs : Occurs (p .cell .ports) (placeCount w p o))
+    (occurs : Occurs (p .cell .ports) (countOf w p o))
     (sends : Sends w p o u (dataSymbol Q (ownerBit w p A o) x) A)
   where
-    symbol-back : (j : ℕ) → j < placeCount w p o → symbolIn w p (gridOf w p A) o (j / 2) j ≡ dataSymbol Q (ownerBit w p A o) x j
+    symbol-back : (j : ℕ) → j < countOf w p o → symbolIn w p (gridOf w p A) o (j / 2) j ≡ dataSymbol Q (ownerBit w p A o) x j
     symbol-back j l =
         let d : ℕ → Pair = dataSymbol Q (ownerBit w p A o) x in
         let q : ℕ = ownPort (p .cell .ports) (j / 2) in
@@ -82,15 +84,15 @@ module _
         symbol-in w p ok o A (j / 2) j l in-port
         ∙ ap pairOf
         (sends q s k
-        ∙ ap (λ (n : ℕ). precoded (p .cell .ports) (placeCount w p o) u d n q) (index-back w p ok o j l)
+        ∙ ap (λ (n : ℕ). precoded (p .cell .ports) (countOf w p o) u d n q) (index-back w p ok o j l)
         ∙ by-place occurs u d j q l in-port)
         ∙ own-read (p .cell .ports) (j / 2) u (j % 2) (d j) (d (beside j)) (omega arith, omega arith)
 
-    data-back : (i : ℕ) → i < Q * placeCount w p o → dataBit w p (gridOf w p A) o Q x i ≡ ownerBit w p A o i
+    data-back : (i : ℕ) → i < Q * countOf w p o → dataBit w p (gridOf w p A) o Q x i ≡ ownerBit w p A o i
     unfolding dataBit
     data-back i l =
         let some : 0 < Q = omega arith in
-        let k : i / Q < placeCount w p o = div-lt-iff-lt-mul some .1 (omega (arith, mul-comm Q (placeCount w p o))) in
+        let k : i / Q < countOf w p o = div-lt-iff-lt-mul some .1 (omega (arith, mul-comm Q (countOf w p o))) in
         ap (λ (y : Pair). (dig (wordOf (demapOf Q y)) (Q - 1 - i % Q) + x i) % 2) (symbol-back (i / Q) k)
         ∙ bit-back Q (ownerBit w p A o) x some i (bit-two w p o A i)
 
@@ -100,14 +102,8 @@ module _ (w : List ℕ) (p : Plan) (ok : checkOf w ≡ accepted p) where
   unfolding ownerBits sectionBits sections heads
   pbch-length = span-length (8 * startOf (sections w p) 0) (pbchBits (p .cell) (p .frame))
 
-  pbch-fits : (i : ℕ) → i < pbchBits (p .cell) (p .frame) → i < 2 * placeCount w p Pbch
+  pbch-fits : (i : ℕ) → i < pbchBits (p .cell) (p .frame) → i < 2 * countOf w p Pbch
   pbch-fits i l = omega (arith, pbch-length, pbch-size w p ok)
-
-  user-fits :
-      (i : ℕ) → i < length (usersOf w p) → (n : ℕ) → n < userBits (p .cell) (p .frame) (nthUser w p i)
-      → n < nthUser w p i .order * placeCount w p (UserOf i)
-  unfolding userBits
-  user-fits i in-i n l = rw (user-places w p ok i in-i) l
 
 -- ---- THE LAWS
 module _ (w : List ℕ) (p : Plan) (ok : checkOf w ≡ accepted p) where
@@ -118,9 +114,9 @@ module _ (w : List ℕ) (p : Plan) (ok : checkOf w ≡ accepted p) where
       (λ port s k. refl) i (pbch-fits w p ok i l)
 
   pub user-recovered :
-      (i : ℕ) → i < length (usersOf w p) → (A : List ℕ) (n : ℕ) → n < userBits (p .cell) (p .frame) (nthUser w p i)
+      (i : ℕ) → i < length (usersOf w p) → (A : List ℕ) (n : ℕ) → n < userBits w p i
       → userBit w p (gridOf w p A) i (nthUser w p i) n ≡ ownerBit w p A (UserOf i) n
-  unfolding userBit elementFor userSymbol
+  unfolding userBits userBit elementFor userSymbol
   user-recovered i in-i A n l =
       data-back w p ok A (UserOf i) (nthUser w p i .order) (unitOf (nthUser w p i .order)) (c (userInit (p .cell) (p .frame) (nthUser w p i)))
-      (user-order w p ok i in-i) (user-occurs w p ok i in-i) (λ port s k. refl) n (user-fits w p ok i in-i n l)
+      (user-order w p ok i in-i) (user-occurs w p ok i in-i) (λ port s k. refl) n l

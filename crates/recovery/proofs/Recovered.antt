@@ -9,6 +9,7 @@ use lib.ListN.{length, length-append, List·getD-eq-default}
 use Rattle.base.proofs.Tests.{by-test}
 use Rattle.base.specs.Bits.{bitAt}
 use Rattle.base.specs.Tables.{table}
+use Rattle.phich.specs.Spreading.{spreadLength}
 use Rattle.plan.specs.Lists.{Every}
 use Rattle.plan.specs.Check.{checkOf}
 use Rattle.plan.specs.Rows.{hisOf, usersOf}
@@ -17,12 +18,12 @@ use Rattle.plan.specs.declared.Checked.the-variants.{Plan as accepted-plan}
 use Rattle.plan.proofs.Valid.{valid}
 use Rattle.layout.specs.declared.Owner.{Owner}
 use Rattle.layout.specs.declared.Owner.the-variants.{Crs, Sync, Pbch, Pcfich, Phich, User as UserOf, Held, Idle}
-use Rattle.payload.specs.Sections.{startOf, span, sectionBits}
-use Rattle.payload.specs.Payload.{pbchBits, userBits, heads, userSections, sections, payloadLength, AcceptedPayload}
-use Rattle.payload.specs.Bits.{ownerBits}
-use Rattle.payload.proofs.Sections.{userStart, users-length}
+use Rattle.payload.specs.Sections.{span, sectionBits}
+use Rattle.payload.specs.Payload.{pbchBits, userBits, heads, sections, payloadLength, AcceptedPayload}
+use Rattle.payload.specs.Bits.{hiBits, ownerBits}
+use Rattle.payload.proofs.Sections.{userStart, Users, users-length}
 use Rattle.payload.proofs.EveryBit.{same-bits}
-use Rattle.subframe.specs.Elements.{hiBit, nthUser}
+use Rattle.subframe.specs.Elements.{hiBit}
 use Rattle.subframe.specs.Grid.{gridOf}
 use Rattle.subframe.specs.TwoBuilds.{SameBits}
 use Rattle.subframe.proofs.OwnerBits.{bits-same}
@@ -37,9 +38,8 @@ use Rattle.recovery.proofs.Digits.{bytes-same}
 no-user : (w : List ℕ) (p : Plan) (i : ℕ) → length (usersOf w p) ≤ i → ownerBits w p (UserOf i) ≡ []
 unfolding ownerBits sectionBits sections span table
 no-user w p i h =
-    let U : List ℕ = userSections (p .cell) (p .frame) (usersOf w p) in
-    let l : length (heads p ++ U) ≤ length (heads p) + i = omega (arith, length-append (heads p) U, users-length (p .cell) (p .frame) (usersOf w p)) in
-    ap (λ (n : ℕ). span (8 * userStart w p i) n) (List·getD-eq-default (heads p ++ U) 0 l)
+    let l : length (heads p ++ Users w p) ≤ length (heads p) + i = omega (arith, length-append (heads p) (Users w p), users-length w p) in
+    ap (λ (n : ℕ). span (8 * userStart w p i) n) (List·getD-eq-default (heads p ++ Users w p) 0 l)
 
 module _ (w : List ℕ) (p : Plan) (ok : checkOf w ≡ accepted-plan p) (A : List ℕ) where
   -- the payload that is read
@@ -57,7 +57,7 @@ module _ (w : List ℕ) (p : Plan) (ok : checkOf w ≡ accepted-plan p) (A : Lis
   unit-same : (m : ℕ) → SameBits w p (Phich m) B A
   unfolding ownerBits hiBit
   unit-same m =
-      from-his (p .cell) m (λ (b : ℕ). bitAt B b ≡ bitAt A b) (hisOf w p) (8 * startOf (sections w p) 1)
+      from-his (spreadLength (p .cell)) m (λ (b : ℕ). bitAt B b ≡ bitAt A b) (hisOf w p) (hiBits w p)
       (λ n l u.
       let k : n < p .his .count = omega (arith, valid w p ok .his-count) in
       hi-bit w p (gridOf w p A) n k ∙ ack-recovered w p ok A n k)
@@ -69,7 +69,7 @@ module _ (w : List ℕ) (p : Plan) (ok : checkOf w ≡ accepted-plan p) (A : Lis
       let in-i : i < length (usersOf w p) = ltb-true i (length (usersOf w p)) e in
       bits-same w p (UserOf i) B A .1
       (λ n l.
-      let k : n < userBits (p .cell) (p .frame) (nthUser w p i) = omega (arith, user-length w p (gridOf w p A) i in-i) in
+      let k : n < userBits w p i = omega (arith, user-length w p (gridOf w p A) i in-i) in
       user-bit w p (gridOf w p A) i in-i n k ∙ user-recovered w p ok i in-i A n k))
       (λ e.
       subst (Every (λ (b : ℕ). bitAt B b ≡ bitAt A b)) (sym (no-user w p i (ltb-false i (length (usersOf w p)) e))) tt)

@@ -4,12 +4,12 @@ use Prim.Native.Nat.{ℕ, zero, suc, _+_, _-_, _*_, _/_, _%_, _^_, _≤_, _<_}
 use mathlib.Core.Path.{_≡_, refl, sym, ap, ap₂, _∙_}
 use mathlib.Core.Bool.{Bool, true, false}
 use mathlib.Core.List.{List, [], _∷_, _++_}
-use native.Mathlib.Nat.{not-suc-le-zero}
+use native.Mathlib.Nat.{not-suc-le-zero, le-of-suc-le-suc}
 use native.Mathlib.Omega.{arith}
 use borrow.Author.Tests.{lt-ltb, le-ltb}
 use lib.Dec.{ltb}
-use lib.ListN.{length, getD, length-append, List·getD-append}
-use lib.Seq.{getD-append-add}
+use lib.ListN.{length, getD, take, drop, length-append, List·getD-append}
+use lib.Seq.{getD-append-add, drop-append-add, take-at}
 use Rattle.base.specs.Bits.{bitAt}
 use Rattle.base.specs.Digits.{dig}
 use Rattle.base.proofs.Tables.{table-at, table-length}
@@ -18,8 +18,9 @@ use Rattle.gold.proofs.Binary.{binary-lt, binary-digit}
 use Rattle.plan.specs.Lists.{Every}
 use Rattle.base.specs.Choice.{if_then_else_}
 use Rattle.payload.specs.Sections.{sectionBytes, bytesOf, startOf, span, spareAt, sparesFrom}
-use Rattle.subframe.proofs.OwnerBits.{at-every, span-length, span-at}
-use Rattle.recovery.specs.Recovery.{sectionOf}
+use Rattle.payload.proofs.Sections.{span-length, span-at}
+use Rattle.subframe.proofs.OwnerBits.{at-every}
+use Rattle.recovery.specs.Recovery.{sectionOf, sectionsOf}
 
 every-append : {A : Type 0} (P : A → Type 0) (xs ys : List A) → Every P xs → Every P ys → Every P (xs ++ ys)
 every-append P [] ys h k = k
@@ -80,11 +81,7 @@ module _ (bit : ℕ → ℕ) (n : ℕ) where
         let k : i < sectionBytes n = omega (arith, section-length) in
         rw (table-at (sectionBytes n) (λ (m : ℕ). binary padded (8 * m) 8) 0 i k) (omega arith))
 
--- ---- sections that follow each other: bit i of section k is bits k i
-unfoldable pub sectionsOf : (ℕ → ℕ → ℕ) → List ℕ → List ℕ
-sectionsOf bits [] = []
-sectionsOf bits (n ∷ ns) = sectionOf (bits 0) n ++ sectionsOf (λ (k : ℕ). bits (suc k)) ns
-
+-- ---- sections that follow each other
 pub sections-length : (bits : ℕ → ℕ → ℕ) (ns : List ℕ) → length (sectionsOf bits ns) ≡ bytesOf ns
 unfolding sectionsOf bytesOf
 sections-length bits [] = refl
@@ -98,6 +95,20 @@ sections-bytes bits [] two = tt
 sections-bytes bits (n ∷ ns) two =
     every-append (λ (x : ℕ). x < 256) (sectionOf (bits 0) n) (sectionsOf (λ (k : ℕ). bits (suc k)) ns) (section-bytes (bits 0) n (two 0))
     (sections-bytes (λ (k : ℕ). bits (suc k)) ns (λ k. two (suc k)))
+
+-- THE LAW OF A SECTION'S BYTES
+past : (xs ys : List ℕ) (m n : ℕ) → length xs ≡ m → drop (m + n) (xs ++ ys) ≡ drop n ys
+past xs ys m n e = ap (λ (k : ℕ). drop (k + n) (xs ++ ys)) (sym e) ∙ drop-append-add xs ys n
+
+pub sections-part :
+    (bits : ℕ → ℕ → ℕ) (ns : List ℕ) (k : ℕ) → k < length ns
+    → take (sectionBytes (getD ns k 0)) (drop (startOf ns k) (sectionsOf bits ns)) ≡ sectionOf (bits k) (getD ns k 0)
+unfolding sectionsOf startOf bytesOf
+sections-part bits [] k l = absurd (not-suc-le-zero l)
+sections-part bits (n ∷ ns) zero l = take-at (sectionOf (bits 0) n) (sectionsOf (λ (m : ℕ). bits (suc m)) ns) (sectionBytes n) (section-length (bits 0) n)
+sections-part bits (n ∷ ns) (suc k) l =
+    ap (take (sectionBytes (getD ns k 0))) (past (sectionOf (bits 0) n) (sectionsOf (λ (m : ℕ). bits (suc m)) ns) (sectionBytes n) (startOf ns k) (section-length (bits 0) n))
+    ∙ sections-part (λ (m : ℕ). bits (suc m)) ns k (le-of-suc-le-suc l)
 
 -- the first section's bits, and those of the others
 module _ (bits : ℕ → ℕ → ℕ) (n : ℕ) (ns : List ℕ) (two : (k i : ℕ) → bits k i < 2) where

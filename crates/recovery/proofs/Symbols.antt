@@ -18,7 +18,8 @@ use Rattle.plan.specs.declared.Plan.{Plan}
 use Rattle.plan.specs.declared.Checked.the-variants.{Plan as accepted}
 use Rattle.layout.specs.Owners.{symbols, carriers}
 use Rattle.layout.specs.declared.Owner.{Owner}
-use Rattle.places.specs.Places.{symbolAt, carrierAt, placesOf, placeCount, placeOf}
+use Rattle.counts.specs.Counts.{countOf}
+use Rattle.places.specs.Places.{symbolAt, carrierAt, placesOf, placeOf}
 use Rattle.places.proofs.Numbers.{place-both}
 use Rattle.subframe.specs.Elements.{elementFor}
 use Rattle.subframe.specs.Grid.{gridOf}
@@ -49,7 +50,7 @@ own-read P turn u odd d e s =
     ap (λ (q : ℕ). pairOf (onPort P (turn % 2) u odd d e q)) (sym (own-turn P turn)) ∙ read P (turn % 2) u odd d e s
 
 -- ---- THE LAW: at an owner's j-th place the grid has the owner's element
-module _ (w : List ℕ) (p : Plan) (ok : checkOf w ≡ accepted p) (o : Owner) (A : List ℕ) (turn j : ℕ) (l : j < placeCount w p o) where
+module _ (w : List ℕ) (p : Plan) (ok : checkOf w ≡ accepted p) (o : Owner) (A : List ℕ) (turn j : ℕ) (l : j < countOf w p o) where
   pub symbol-in :
       ownPort (p .cell .ports) turn < p .cell .ports
       → symbolIn w p (gridOf w p A) o turn j

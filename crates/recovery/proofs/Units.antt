@@ -2,11 +2,9 @@
 -- answer.
 use Prim.Native.Nat.{ℕ, _+_, _*_, _/_, _%_, _<_}
 use mathlib.Core.Path.{_≡_, sym, ap, _∙_}
-use mathlib.Core.Bool.{Bool, true, false, cond}
 use mathlib.Core.List.{List}
 use native.Mathlib.Omega.{arith}
-use lib.Dec.{eqb}
-use lib.ListN.{length}
+use lib.ListN.{length, getD}
 use Rattle.base.specs.declared.Pair.{Pair}
 use Rattle.base.specs.Bytes.{pairOf}
 use Rattle.base.specs.Pairs.{nil, Small}
@@ -20,39 +18,28 @@ use Rattle.precoding.proofs.Diversity.{phich-by-place}
 use Rattle.phich.specs.His.{hiNumber}
 use Rattle.phich.specs.Units.{mappingUnit, sumAt, unitSums}
 use Rattle.phich.specs.Recovery.{bitIn}
-use Rattle.phich.proofs.Units.{unit-normal, unit-extended, bit-le, recovered}
-use Rattle.plan.specs.Fields.{unitsOf, groupsOf}
+use Rattle.phich.proofs.Units.{hi-unit, bit-le, recovered}
+use Rattle.phich.specs.Spreading.{spreadLength}
+use Rattle.plan.specs.Fields.{unitsOf}
 use Rattle.plan.specs.Rows.{hisOf}
 use Rattle.plan.specs.Check.{checkOf}
 use Rattle.plan.specs.Valid.{HiIn}
-use Rattle.plan.specs.declared.Cell.{Cell}
 use Rattle.plan.specs.declared.Hi.{Hi}
 use Rattle.plan.specs.declared.Plan.{Plan}
 use Rattle.plan.specs.declared.Checked.the-variants.{Plan as accepted}
 use Rattle.plan.proofs.Listed.{every-at}
 use Rattle.plan.proofs.Valid.{valid}
-use Rattle.base.specs.Choice.{if_then_else_}
 use Rattle.layout.specs.declared.Owner.the-variants.{Phich}
-use Rattle.places.specs.Places.{placeCount}
-use Rattle.places.proofs.Listing.{phich-count}
-use Rattle.payload.specs.Sections.{startOf}
-use Rattle.payload.specs.Payload.{sections}
-use Rattle.subframe.specs.Elements.{spreadLength, controlInit, hiBit, phichSum, elementFor}
+use Rattle.counts.specs.Counts.{countOf}
+use Rattle.counts.proofs.FixedCounts.{phich-count}
+use Rattle.payload.specs.Bits.{hiBits}
+use Rattle.subframe.specs.Elements.{controlInit, hiBit, phichSum, elementFor}
 use Rattle.subframe.specs.Grid.{gridOf}
 use Rattle.subframe.proofs.Owned.{index-back}
 use Rattle.subframe.proofs.Acknowledged.{spread, within, distinct, sums-small}
 use Rattle.subframe.proofs.UnitBuilds.{unit-occurs}
 use Rattle.recovery.specs.Recovery.{symbolIn, sumsIn, ackBit}
 use Rattle.recovery.proofs.Symbols.{own-read, symbol-in}
-
--- ---- the unit of an HI is one of the cell's
-pub hi-unit : (cell : Cell) (h : Hi) → HiIn cell h → mappingUnit (spreadLength cell) h < unitsOf cell
-unfolding spreadLength groupsOf
-hi-unit cell h i = pick (eqb (cell .prefix) 1) (i .group)
-  where
-    pick : (t : Bool) → h .group < cond t (2 * unitsOf cell) (unitsOf cell) → mappingUnit (if t then 2 else 4) h < unitsOf cell
-    pick true l = omega (arith, unit-extended h)
-    pick false l = omega (arith, unit-normal h)
 
 module _ (w : List ℕ) (p : Plan) (ok : checkOf w ≡ accepted p) (A : List ℕ) where
   -- ---- a unit's sums
@@ -64,7 +51,7 @@ module _ (w : List ℕ) (p : Plan) (ok : checkOf w ≡ accepted p) (A : List ℕ
         let occurs : Occurs (p .cell .ports) 12 = unit-occurs w p ok in
         let q : ℕ = ownPort (p .cell .ports) (i / 4 + m) in
         let in-port : q < p .cell .ports = own-inside (i / 4 + m) occurs in
-        let l : i < placeCount w p (Phich m) = omega (arith, phich-count w p ok m in-m) in
+        let l : i < countOf w p (Phich m) = omega (arith, phich-count w p ok m in-m) in
         let n : ℕ = 4 * (i / 4) + i % 4 in
         let e : n ≡ i = omega arith in
         let h : Small 8 (d n) = sums-small w p ok A m n (omega arith) in
@@ -99,4 +86,4 @@ module _ (w : List ℕ) (p : Plan) (ok : checkOf w ≡ accepted p) (A : List ℕ
         let h : Hi = hiNumber (hisOf w p) n in
         ap (bitIn L (c (controlInit (p .cell) (p .frame))) h) (sums-back (mappingUnit L h) in-unit)
         ∙ recovered L (spread w p ok) (c (controlInit (p .cell) (p .frame))) (hisOf w p) (within w p ok) (distinct w p ok) (hiBit w p A) n
-        (bit-le A (8 * startOf (sections w p) 1 + n)) listed
+        (bit-le A (getD (hiBits w p) n 0)) listed

@@ -1,6 +1,6 @@
 -- For inner contracts and laws only: the payload that a grid is built from, read bit by bit where each bit's symbol stands. w is a plan's bytes, p the
 -- plan that the plan check answers with, g a grid. proofs/: read from the grid of an accepted payload, it is that payload.
-use Prim.Native.Nat.{ℕ, suc, _+_, _-_, _*_, _/_, _%_}
+use Prim.Native.Nat.{ℕ, zero, suc, _+_, _-_, _*_, _/_, _%_}
 use mathlib.Core.List.{List, [], _∷_, _++_}
 use lib.Dec.{ltb}
 use Rattle.base.specs.declared.Pair.{Pair}
@@ -16,7 +16,8 @@ use Rattle.grid.specs.Elements.{elementIn}
 use Rattle.phich.specs.His.{hiNumber}
 use Rattle.phich.specs.Units.{mappingUnit}
 use Rattle.phich.specs.Recovery.{bitIn}
-use Rattle.plan.specs.Rows.{hisOf, usersOf}
+use Rattle.phich.specs.Spreading.{spreadLength}
+use Rattle.plan.specs.Rows.{hisOf, nthUser}
 use Rattle.plan.specs.declared.User.{User}
 use Rattle.plan.specs.declared.Plan.{Plan}
 use Rattle.base.specs.Choice.{if_then_else_}
@@ -24,8 +25,8 @@ use Rattle.layout.specs.declared.Owner.{Owner}
 use Rattle.layout.specs.declared.Owner.the-variants.{Pbch, Phich, User as UserOf}
 use Rattle.places.specs.Places.{placesOf, placeOf}
 use Rattle.payload.specs.Sections.{sectionBytes}
-use Rattle.payload.specs.Payload.{pbchBits, userBits}
-use Rattle.subframe.specs.Elements.{pbchFirst, controlInit, spreadLength, userInit}
+use Rattle.payload.specs.Payload.{sections}
+use Rattle.subframe.specs.Elements.{pbchFirst, controlInit, userInit}
 
 -- the symbol of an owner's j-th place, from the port that sends it itself (precoding/specs/Places.antt: ownPort by the place's turn)
 unfoldable pub symbolIn : List ℕ → Plan → List ℕ → Owner → ℕ → ℕ → Pair
@@ -60,12 +61,17 @@ ackBit w p g n =
 unfoldable pub sectionOf : (ℕ → ℕ) → ℕ → List ℕ
 sectionOf bit n = table (sectionBytes n) (λ (m : ℕ). binary (λ (i : ℕ). if ltb i n then bit i else 0) (8 * m) 8)
 
--- the users' sections, from user i on
-unfoldable pub usersIn : List ℕ → Plan → List ℕ → ℕ → List User → List ℕ
-usersIn w p g i [] = []
-usersIn w p g i (u ∷ us) = sectionOf (userBit w p g i u) (userBits (p .cell) (p .frame) u) ++ usersIn w p g (suc i) us
+-- sections that follow each other: bit i of section k is bits k i
+unfoldable pub sectionsOf : (ℕ → ℕ → ℕ) → List ℕ → List ℕ
+sectionsOf bits [] = []
+sectionsOf bits (n ∷ ns) = sectionOf (bits 0) n ++ sectionsOf (λ (k : ℕ). bits (suc k)) ns
 
--- THE PAYLOAD of a grid: "PBCH when f = 0; one bit per HI in plan order, if there are HIs; per user Q × G bits"
+-- "PBCH when f = 0; one bit per HI in plan order, if there are HIs; per user Q × G bits": bit i of section k
+unfoldable pub sectionBit : List ℕ → Plan → List ℕ → ℕ → ℕ → ℕ
+sectionBit w p g zero = pbchBit w p g
+sectionBit w p g (suc zero) = ackBit w p g
+sectionBit w p g (suc (suc i)) = userBit w p g i (nthUser w p i)
+
+-- THE PAYLOAD of a grid
 unfoldable pub payloadIn : List ℕ → Plan → List ℕ → List ℕ
-payloadIn w p g =
-    sectionOf (pbchBit w p g) (pbchBits (p .cell) (p .frame)) ++ (sectionOf (ackBit w p g) (p .his .count) ++ usersIn w p g 0 (usersOf w p))
+payloadIn w p g = sectionsOf (sectionBit w p g) (sections w p)

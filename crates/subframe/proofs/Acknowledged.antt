@@ -19,21 +19,13 @@ use Rattle.plan.specs.declared.Checked.the-variants.{Plan as accepted}
 use Rattle.plan.proofs.Valid.{valid}
 use Rattle.base.specs.Choice.{if_then_else_}
 use Rattle.phich.specs.His.{Fresh, Distinct}
-use Rattle.phich.specs.Spreading.{Length}
+use Rattle.phich.specs.Spreading.{Length, spreadLength}
 use Rattle.phich.specs.Units.{Within, Ready}
-use Rattle.phich.proofs.Units.{ready, small}
-use Rattle.subframe.specs.Elements.{spreadLength, controlInit, hiBit, phichSum}
+use Rattle.phich.proofs.Units.{length-ok, ready, small}
+use Rattle.subframe.specs.Elements.{controlInit, hiBit, phichSum}
 
--- ---- the length of the cell's spreading sequences
+-- ---- the cell's spreading sequences
 module _ (cell : Cell) where
-  pub length-ok : Length (spreadLength cell)
-  unfolding spreadLength
-  length-ok = pick (eqb (cell .prefix) 1)
-    where
-      pick : (t : Bool) → Length (if t then 2 else 4)
-      pick true = (omega arith, omega arith, omega arith)
-      pick false = (omega arith, omega arith, omega arith)
-
   -- there are 2 N_SF of them
   sequences-are : sequencesOf cell ≡ 2 * spreadLength cell
   unfolding sequencesOf spreadLength

@@ -17,14 +17,15 @@ use Rattle.precoding.specs.Layers.{Occurs}
 use Rattle.precoding.specs.Matrices.{precoded}
 use Rattle.precoding.proofs.Diversity.{same-elements, same-symbols}
 use Rattle.plan.specs.Check.{checkOf}
-use Rattle.plan.specs.Rows.{usersOf}
+use Rattle.plan.specs.Rows.{usersOf, nthUser}
 use Rattle.plan.specs.declared.Plan.{Plan}
 use Rattle.plan.specs.declared.Checked.the-variants.{Plan as accepted}
 use Rattle.layout.specs.declared.Owner.{Owner}
 use Rattle.layout.specs.declared.Owner.the-variants.{Pbch, User as UserOf}
-use Rattle.places.specs.Places.{placeNumber, symbolAt, carrierAt, placeCount, placeOf, indexOf}
+use Rattle.counts.specs.Counts.{countOf}
+use Rattle.places.specs.Places.{placeNumber, symbolAt, carrierAt, placeOf, indexOf}
 use Rattle.payload.specs.Bits.{ownerBits}
-use Rattle.subframe.specs.Elements.{ownerBit, pbchFirst, pbchSymbol, userInit, nthUser, userSymbol, elementFor}
+use Rattle.subframe.specs.Elements.{ownerBit, pbchFirst, pbchSymbol, userInit, userSymbol, elementFor}
 use Rattle.subframe.specs.Grid.{gridOf}
 use Rattle.subframe.specs.TwoBuilds.{SameBytes, SameBits}
 use Rattle.subframe.proofs.Owned.{SameElements, index-place, index-owned, index-back, same-bytes}
@@ -35,36 +36,36 @@ use Rattle.subframe.proofs.OwnerBits.{bits-same, bit-two, symbols-of-bi
 abbrev pub Sends : List ℕ → Plan → Owner → ℕ → (ℕ → Pair) → List ℕ → Type 0
 Sends w p o u d payload =
     (port s k : ℕ)
-    → elementFor w p payload o port s k ≡ precoded (p .cell .ports) (placeCount w p o) u d (indexOf w p o (placeNumber (p .cell) s k)) port
+    → elementFor w p payload o port s k ≡ precoded (p .cell .ports) (countOf w p o) u d (indexOf w p o (placeNumber (p .cell) s k)) port
 
 -- ---- a channel's elements and its symbols determine each other
 module _ (w : List ℕ) (p : Plan) (ok : checkOf w ≡ accepted p) (o : Owner) (u : ℕ) (A B : List ℕ) (d d′ : ℕ → Pair) (sends : Sends w p o u d A) (sends′ : Sends w p o u d′ B) where
-  elements-of-symbols : ((j : ℕ) → j < placeCount w p o → d j ≡ d′ j) → SameElements w p o A B
+  elements-of-symbols : ((j : ℕ) → j < countOf w p o → d j ≡ d′ j) → SameElements w p o A B
   elements-of-symbols h port s k in-port place own =
       sends port s k
-      ∙ same-elements (p .cell .ports) (placeCount w p o) u d d′ h (indexOf w p o (placeNumber (p .cell) s k)) port
+      ∙ same-elements (p .cell .ports) (countOf w p o) u d d′ h (indexOf w p o (placeNumber (p .cell) s k)) port
       ∙ sym (sends′ port s k)
 
   symbols-of-elements :
-      Occurs (p .cell .ports) (placeCount w p o) → ((j : ℕ) → Small 127 (d j)) → ((j : ℕ) → Small 127 (d′ j))
-      → SameElements w p o A B → (j : ℕ) → j < placeCount w p o → d j ≡ d′ j
+      Occurs (p .cell .ports) (countOf w p o) → ((j : ℕ) → Small 127 (d j)) → ((j : ℕ) → Small 127 (d′ j))
+      → SameElements w p o A B → (j : ℕ) → j < countOf w p o → d j ≡ d′ j
   symbols-of-elements occurs small small′ h j l =
       let s : ℕ = symbolAt (p .cell) (placeOf w p o j) in
       let k : ℕ = carrierAt (p .cell) (placeOf w p o j) in
       let back : indexOf w p o (placeNumber (p .cell) s k) ≡ j = index-back w p ok o j l in
       same-symbols occurs u d d′ j l (small j) (small′ j)
       (λ port q.
-      sym (sends port s k ∙ ap (λ (n : ℕ). precoded (p .cell .ports) (placeCount w p o) u d n port) back)
+      sym (sends port s k ∙ ap (λ (n : ℕ). precoded (p .cell .ports) (countOf w p o) u d n port) back)
       ∙ h port s k q (index-place w p ok o j l) (index-owned w p ok o j l)
-      ∙ (sends′ port s k ∙ ap (λ (n : ℕ). precoded (p .cell .ports) (placeCount w p o) u d′ n port) back))
+      ∙ (sends′ port s k ∙ ap (λ (n : ℕ). precoded (p .cell .ports) (countOf w p o) u d′ n port) back))
 
 -- ---- a channel of scrambled bits, Q to a symbol
 module _
     (w : List ℕ) (p : Plan) (ok : checkOf w ≡ accepted p) (o : Owner) (Q u : ℕ) (x : ℕ → ℕ)
     (order : Order Q)
     (two : (i : ℕ) → x i < 2)
-    (size : length (ownerBits w p o) ≡ Q * placeCount w p o)
-    (occurs : Occurs (p .cell .ports) (placeCount w p o))
+    (size : length (ownerBits w p o) ≡ Q * countOf w p o)
+    (occurs : Occurs (p .cell .ports) (countOf w p o))
     (sends : (payload : List ℕ) → Sends w p o u (dataSymbol Q (ownerBit w p payload o) x) payload)
   where
     small : (b : ℕ → ℕ) (j : ℕ) → Small 127 (dataSymbol Q b x j)
@@ -74,7 +75,7 @@ module _
       elements-to-bits : SameElements w p o A B → SameBits w p o A B
       elements-to-bits h =
           bits-same w p o A B .1
-          (λ i l. bits-of-symbols Q (placeCount w p o) (ownerBit w p A o) (ownerBit w p B o) x (omega arith) (bit-two w p o A) (bit-two w p o B) two
+          (λ i l. bits-of-symbols Q (countOf w p o) (ownerBit w p A o) (ownerBit w p B o) x (omega arith) (bit-two w p o A) (bit-two w p o B) two
           (symbols-of-elements w p ok o u A B (dataSymbol Q (ownerBit w p A o) x) (dataSymbol Q (ownerBit w p B o) x) (sends A) (sends B) occurs
           (small (ownerBit w p A o)) (small (ownerBit w p B o)) h)
           i (omega arith))
@@ -82,7 +83,7 @@ module _
       bits-to-elements : SameBits w p o A B → SameElements w p o A B
       bits-to-elements h =
           elements-of-symbols w p ok o u A B (dataSymbol Q (ownerBit w p A o) x) (dataSymbol Q (ownerBit w p B o) x) (sends A) (sends B)
-          (symbols-of-bits Q (placeCount w p o) (ownerBit w p A o) (ownerBit w p B o) x (λ n l. bits-same w p o A B .0 h n (omega arith)))
+          (symbols-of-bits Q (countOf w p o) (ownerBit w p A o) (ownerBit w p B o) x (λ n l. bits-same w p o A B .0 h n (omega arith)))
 
       data-builds : SameBytes w p o (gridOf w p A) (gridOf w p B) ↔ SameBits w p o A B
       data-builds = (
@@ -119,4 +120,4 @@ module _ (w : List ℕ) (p : Plan) (ok : checkOf w ≡ accepted p) (A B : List �
   user-builds i l =
       data-builds w p ok (UserOf i) (nthUser w p i .order) (unitOf (nthUser w p i .order)) (userScrambling w p i)
       (user-order w p ok i l) (λ n. c-lt (userInit (p .cell) (p .frame) (nthUser w p i)) n)
-      (user-size w p ok i l) (user-occurs w p ok i l) (user-sends w p i) A B
+      (user-size w p i l) (user-occurs w p ok i l) (user-sends w p i) A B

@@ -19,8 +19,7 @@ use Rattle.base.specs.Choice.{if_then_else_}
 use Rattle.layout.specs.declared.Owner.the-variants.{Pbch, User as UserOf}
 use Rattle.counts.proofs.FixedCounts.{pbch-count}
 use Rattle.counts.proofs.UserSizes.{user-even}
-use Rattle.places.specs.Places.{placeCount}
-use Rattle.places.proofs.Elements.{count-is}
+use Rattle.counts.specs.Counts.{countOf}
 
 occurs-by : (P M : ℕ) → Among P portCounts → ((P ≡ 2) ⊎ (P ≡ 4) → M % 2 ≡ 0) → Occurs P M
 occurs-by P M (inl e) even = subst (λ (n : ℕ). Occurs n M) (sym e) one
@@ -37,16 +36,12 @@ module _ (w : List ℕ) (p : Plan) (ok : checkOf w ≡ accepted p) where
   pub even-occurs : (M : ℕ) → M % 2 ≡ 0 → Occurs (p .cell .ports) M
   even-occurs M even = occurs-by (p .cell .ports) M (valid w p ok .cell .ports) (λ _. even)
 
-  -- PBCH has 240 places, extended 216, and none when f ≠ 0
-  pub pbch-places : placeCount w p Pbch ≡ (if eqb (p .frame .subframe) 0 then (if eqb (p .cell .prefix) 1 then 216 else 240) else 0)
-  pbch-places = count-is w p Pbch ∙ pbch-count w p ok
-
-  pub pbch-occurs : Occurs (p .cell .ports) (placeCount w p Pbch)
+  pub pbch-occurs : Occurs (p .cell .ports) (countOf w p Pbch)
   pbch-occurs =
-      even-occurs (placeCount w p Pbch)
-      (ap (λ (n : ℕ). n % 2) pbch-places ∙ pbch-parity (eqb (p .frame .subframe) 0) (eqb (p .cell .prefix) 1))
+      even-occurs (countOf w p Pbch)
+      (ap (λ (n : ℕ). n % 2) (pbch-count w p ok) ∙ pbch-parity (eqb (p .frame .subframe) 0) (eqb (p .cell .prefix) 1))
 
-  pub user-occurs : (i : ℕ) → i < length (usersOf w p) → Occurs (p .cell .ports) (placeCount w p (UserOf i))
+  pub user-occurs : (i : ℕ) → i < length (usersOf w p) → Occurs (p .cell .ports) (countOf w p (UserOf i))
   user-occurs i l =
-      occurs-by (p .cell .ports) (placeCount w p (UserOf i)) (valid w p ok .cell .ports)
-      (λ t. ap (λ (n : ℕ). n % 2) (count-is w p (UserOf i)) ∙ user-even w p ok (record { rnti = 0; order = 0; first = 0; count = 0 }) i l t)
+      occurs-by (p .cell .ports) (countOf w p (UserOf i)) (valid w p ok .cell .ports)
+      (user-even w p ok (record { rnti = 0; order = 0; first = 0; count = 0 }) i l)

@@ -21,7 +21,8 @@ use Rattle.layout.specs.declared.Owner.{Owner}
 use Rattle.layout.specs.declared.Owner.the-variants.{Phich, User as UserOf}
 use Rattle.layout.proofs.OneOwner.{owner-is, owner-of}
 use Rattle.layout.proofs.Partition.{has-index}
-use Rattle.places.specs.Places.{placeNumber, symbolAt, carrierAt, ownsAt, placeCount, placeOf, indexOf}
+use Rattle.counts.specs.Counts.{countOf}
+use Rattle.places.specs.Places.{placeNumber, symbolAt, carrierAt, ownsAt, placeOf, indexOf}
 use Rattle.places.proofs.Numbers.{place-both, symbol-inside, carrier-inside}
 use Rattle.places.proofs.Listing.{some-carriers, listed}
 use Rattle.subframe.specs.Elements.{elementFor, elementAt}
@@ -61,7 +62,7 @@ module _ (w : List ℕ) (p : Plan) (ok : checkOf w ≡ accepted p) (o : Owner) w
     owned-byte in-port b l = byte-at w p payload port s k b in-port (place .0) (place .1) l ∙ ap (λ (x : Element). byteIn x b) owned-element
 
   -- the place of the owner's index j: it lies in the grid, is the owner's, and has that index
-  module _ (j : ℕ) (l : j < placeCount w p o) where
+  module _ (j : ℕ) (l : j < countOf w p o) where
     pub index-place : gridPlace (p .cell) (symbolAt (p .cell) (placeOf w p o j)) (carrierAt (p .cell) (placeOf w p o j))
     index-place =
         let some = some-carriers w p ok in

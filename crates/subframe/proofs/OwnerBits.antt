@@ -10,14 +10,13 @@ use native.Mathlib.Omega.{arith}
 use lib.Dec.{eqb}
 use lib.ListN.{length, getD}
 use Rattle.base.specs.Bits.{bitAt}
-use Rattle.base.proofs.Tables.{table-at, table-length}
 use Rattle.modulation.specs.Symbols.{Order}
 use Rattle.codeword.specs.Codewords.{dataSymbol}
 use Rattle.codeword.proofs.Laws.{symbols-same, symbol-bits}
 use Rattle.plan.specs.Lists.{Among, Every}
 use Rattle.plan.specs.Fields.{orders}
 use Rattle.plan.specs.Check.{checkOf}
-use Rattle.plan.specs.Rows.{usersOf}
+use Rattle.plan.specs.Rows.{usersOf, nthUser}
 use Rattle.plan.specs.Valid.{UserIn}
 use Rattle.plan.specs.declared.Plan.{Plan}
 use Rattle.plan.specs.declared.Checked.the-variants.{Plan as accepted}
@@ -26,17 +25,14 @@ use Rattle.plan.proofs.Valid.{valid}
 use Rattle.base.specs.Choice.{if_then_else_}
 use Rattle.layout.specs.declared.Owner.{Owner}
 use Rattle.layout.specs.declared.Owner.the-variants.{Pbch, User as UserOf}
-use Rattle.counts.specs.Users.{userElements}
-use Rattle.counts.proofs.UserElements.{user-elements}
-use Rattle.places.specs.Places.{placeCount}
-use Rattle.places.proofs.Elements.{count-is}
+use Rattle.counts.proofs.FixedCounts.{pbch-count}
+use Rattle.counts.specs.Counts.{countOf}
 use Rattle.payload.specs.Sections.{startOf, span, sectionBits}
 use Rattle.payload.specs.Payload.{pbchBits, userBits, heads, sections}
 use Rattle.payload.specs.Bits.{ownerBits}
-use Rattle.payload.proofs.Sections.{userStart, user-bits-at}
-use Rattle.subframe.specs.Elements.{ownerBit, nthUser}
+use Rattle.payload.proofs.Sections.{span-length, userStart, user-bits-at}
+use Rattle.subframe.specs.Elements.{ownerBit}
 use Rattle.subframe.specs.TwoBuilds.{SameBits}
-use Rattle.subframe.proofs.Occurs.{pbch-places}
 
 -- ---- by their numbers
 pub at-every : {A : Type 0} (P : A → Type 0) (d : A) (xs : List A) → ((i : ℕ) → i < length xs → P (getD xs i d)) → Every P xs
@@ -70,15 +66,7 @@ module _ (Q M : ℕ) (b b′ x : ℕ → ℕ) where
       let k : n / Q < M = div-lt-iff-lt-mul some .1 (omega (arith, mul-comm Q M)) in
       ap b (sym e) ∙ symbol-bits Q b b′ x (n / Q) two two′ twox (h (n / Q) k) (n % Q) (mod-lt n some) ∙ ap b′ e
 
--- ---- positions one after the other, and how many there are
-pub span-length : (a n : ℕ) → length (span a n) ≡ n
-unfolding span
-span-length a n = table-length n (λ (j : ℕ). a + j)
-
-pub span-at : (a n i : ℕ) → i < n → getD (span a n) i 0 ≡ a + i
-unfolding span
-span-at a n i h = table-at n (λ (j : ℕ). a + j) 0 i h
-
+-- ---- how many PBCH and a user have
 pbch-twice : (a b : Bool) → (if a then (if b then 432 else 480) else 0) ≡ 2 * (if a then (if b then 216 else 240) else 0)
 pbch-twice true true = refl
 pbch-twice true false = refl
@@ -91,36 +79,23 @@ order-of q (inr (inr (inl e))) = omega arith
 order-of q (inr (inr (inr e))) = absurd e
 
 module _ (w : List ℕ) (p : Plan) where
+  pub user-size : (i : ℕ) → i < length (usersOf w p) → length (ownerBits w p (UserOf i)) ≡ nthUser w p i .order * countOf w p (UserOf i)
+  unfolding userBits
+  user-size i l = ap length (user-bits-at w p i l) ∙ span-length (8 * userStart w p i) (userBits w p i)
+
   pbch-span : ownerBits w p Pbch ≡ span (8 * startOf (sections w p) 0) (pbchBits (p .cell) (p .frame))
   unfolding ownerBits sectionBits sections heads
   pbch-span = refl
 
 module _ (w : List ℕ) (p : Plan) (ok : checkOf w ≡ accepted p) where
-  pub pbch-size : length (ownerBits w p Pbch) ≡ 2 * placeCount w p Pbch
+  pub pbch-size : length (ownerBits w p Pbch) ≡ 2 * countOf w p Pbch
   unfolding pbchBits
   pbch-size =
       ap length (pbch-span w p)
       ∙ span-length (8 * startOf (sections w p) 0) (pbchBits (p .cell) (p .frame))
       ∙ pbch-twice (eqb (p .frame .subframe) 0) (eqb (p .cell .prefix) 1)
-      ∙ ap (λ (n : ℕ). 2 * n) (sym (pbch-places w p ok))
+      ∙ ap (λ (n : ℕ). 2 * n) (sym (pbch-count w p ok))
 
-  module _ (i : ℕ) (l : i < length (usersOf w p)) where
-    pub user-order : Order (nthUser w p i .order)
-    unfolding nthUser
-    user-order = order-of (nthUser w p i .order) (every-at (UserIn (p .cell)) (record { rnti = 0; order = 0; first = 0; count = 0 }) (usersOf w p) i (valid w p ok .users) l .order)
-
-    -- a user has as many places as its count says
-    pub user-places : placeCount w p (UserOf i) ≡ userElements (p .cell) (p .frame) (nthUser w p i .first) (nthUser w p i .count)
-    unfolding nthUser
-    user-places = count-is w p (UserOf i) ∙ user-elements w p ok (record { rnti = 0; order = 0; first = 0; count = 0 }) i l
-
-    user-span : ownerBits w p (UserOf i) ≡ span (8 * userStart w p i) (userBits (p .cell) (p .frame) (nthUser w p i))
-    unfolding nthUser
-    user-span = user-bits-at w p (record { rnti = 0; order = 0; first = 0; count = 0 }) i l
-
-    pub user-size : length (ownerBits w p (UserOf i)) ≡ nthUser w p i .order * placeCount w p (UserOf i)
-    unfolding userBits
-    user-size =
-        ap length user-span
-        ∙ span-length (8 * userStart w p i) (userBits (p .cell) (p .frame) (nthUser w p i))
-        ∙ ap (λ (n : ℕ). nthUser w p i .order * n) (sym user-places)
+  pub user-order : (i : ℕ) → i < length (usersOf w p) → Order (nthUser w p i .order)
+  unfolding nthUser
+  user-order i l = order-of (nthUser w p i .order) (every-at (UserIn (p .cell)) (record { rnti = 0; order = 0; first = 0; count = 0 }) (usersOf w p) i (valid w p ok .users) l .order)

@@ -3,16 +3,15 @@
 use Prim.Native.Nat.{ℕ, zero, suc, _+_, _*_, _/_, _%_, _<_, suc-le-suc, zero-le}
 use mathlib.Core.Path.{_≡_, refl, sym, ap, _∙_, subst}
 use mathlib.Core.Logic.{_↔_, Iff·trans}
-use mathlib.Core.Bool.{Bool, true, false, _||_}
+use mathlib.Core.Bool.{Bool, true, false}
 use mathlib.Core.List.{List, [], _∷_}
-use native.Mathlib.Decide.{ℕ-discrete}
-use native.Mathlib.Nat.{not-suc-le-zero, le-of-suc-le-suc}
+use native.Mathlib.Nat.{not-suc-le-zero, le-of-suc-le-suc, suc-inj}
 use native.Mathlib.Omega.{arith}
-use borrow.Author.Tests.{eq-eqb, ne-eqb, eqb-true, eqb-false}
+use borrow.Author.Tests.{eq-eqb, eqb-true}
 use lib.Dec.{eqb}
 use lib.ListN.{length, getD}
 use lib.Seq.{ext-getD}
-use Rattle.base.proofs.Tests.{by-test, on-if}
+use Rattle.base.proofs.Tests.{on-if}
 use Rattle.base.specs.declared.Pair.{Pair}
 use Rattle.base.specs.Bits.{bitAt}
 use Rattle.base.specs.Pairs.{nil, Small}
@@ -23,83 +22,61 @@ use Rattle.precoding.specs.Phich.{phichPrecoded}
 use Rattle.precoding.proofs.Diversity.{phich-elements, phich-symbols}
 use Rattle.phich.specs.His.{hiNumber}
 use Rattle.phich.specs.Units.{mappingUnit, sumAt, unitSums, SameHiBits as SameHis}
-use Rattle.phich.proofs.Units.{unit-normal, unit-extended, bit-le, exactly}
+use Rattle.phich.proofs.Units.{bit-le, exactly}
+use Rattle.phich.specs.Spreading.{spreadLength}
 use Rattle.plan.specs.Lists.{Every}
 use Rattle.plan.specs.Fields.{unitsOf}
 use Rattle.plan.specs.Rows.{hisOf}
 use Rattle.plan.specs.Check.{checkOf}
-use Rattle.plan.specs.declared.Cell.{Cell}
 use Rattle.plan.specs.declared.Hi.{Hi}
 use Rattle.plan.specs.declared.Plan.{Plan}
 use Rattle.plan.specs.declared.Checked.the-variants.{Plan as accepted}
+use Rattle.plan.proofs.Valid.{valid}
 use Rattle.base.specs.Choice.{if_then_else_}
 use Rattle.layout.specs.declared.Owner.the-variants.{Phich}
-use Rattle.places.specs.Places.{placeNumber, symbolAt, carrierAt, placeCount, placeOf, indexOf}
-use Rattle.places.proofs.Listing.{phich-count}
-use Rattle.payload.specs.Payload.{sections}
-use Rattle.payload.specs.Sections.{startOf}
-use Rattle.payload.specs.Bits.{hasGroup, unitBits, ownerBits}
-use Rattle.subframe.specs.Elements.{spreadLength, controlInit, hiBit, phichSum, elementFor}
+use Rattle.counts.specs.Counts.{countOf}
+use Rattle.counts.proofs.FixedCounts.{phich-count}
+use Rattle.places.specs.Places.{placeNumber, symbolAt, carrierAt, placeOf, indexOf}
+use Rattle.payload.specs.Bits.{hiBits, unitBits, ownerBits}
+use Rattle.payload.proofs.Sections.{hi-length}
+use Rattle.subframe.specs.Elements.{controlInit, hiBit, phichSum, elementFor}
 use Rattle.subframe.specs.Grid.{gridOf}
 use Rattle.subframe.specs.TwoBuilds.{SameBytes, SameBits}
 use Rattle.subframe.proofs.Owned.{SameElements, index-place, index-owned, index-back, same-bytes}
 use Rattle.subframe.proofs.Occurs.{even-occurs}
 use Rattle.subframe.proofs.Acknowledged.{spread, within, distinct, sums-small}
 
--- ---- the HIs of a unit: "normal unit = group, extended unit = groups 2m, 2m+1"
-pair-test : (g m : ℕ) → eqb g (2 * m) || eqb g (2 * m + 1) ≡ eqb (g / 2) m
-pair-test g m = pick (ℕ-discrete (g / 2) m)
-  where
-    pick : Dec (g / 2 ≡ m) → eqb g (2 * m) || eqb g (2 * m + 1) ≡ eqb (g / 2) m
-    pick (yes e) =
-        by-test (eqb g (2 * m))
-        (λ d. rw (d, eq-eqb (g / 2) m e) refl)
-        (λ d. let f : g ≡ 2 * m + 1 = omega (arith, eqb-false g (2 * m) d) in rw (d, eq-eqb (g / 2) m e, eq-eqb g (2 * m + 1) f) refl)
-    pick (no n) = rw (ne-eqb g (2 * m) (λ e. n (omega arith)), ne-eqb g (2 * m + 1) (λ e. n (omega arith)), ne-eqb (g / 2) m n) refl
+-- ---- hs are HIs and bs the positions of their bits: what holds of each of a unit's bits holds of each of its HIs, by number, and back
+module _ (l m : ℕ) (F : ℕ → Type 0) where
+  abbrev OfHis : List Hi → List ℕ → Type 0
+  OfHis hs bs = (n : ℕ) → n < length hs → mappingUnit l (hiNumber hs n) ≡ m → F (getD bs n 0)
 
-unit-test : (cell : Cell) (m : ℕ) (h : Hi) → hasGroup cell m (h .group) ≡ eqb (mappingUnit (spreadLength cell) h) m
-unfolding hasGroup spreadLength
-unit-test cell m h = pick (eqb (cell .prefix) 1)
-  where
-    pick : (t : Bool) → (if t then eqb (h .group) (2 * m) || eqb (h .group) (2 * m + 1) else eqb (h .group) m) ≡ eqb (mappingUnit (if t then 2 else 4) h) m
-    pick true = pair-test (h .group) m ∙ ap (λ (u : ℕ). eqb u m) (sym (unit-extended h))
-    pick false = ap (λ (u : ℕ). eqb u m) (sym (unit-normal h))
+  module _ (h : Hi) (hs : List Hi) (b : ℕ) (bs : List ℕ) where
+    later : Every F (unitBits l m (h ∷ hs) (b ∷ bs)) → Every F (unitBits l m hs bs)
+    unfolding unitBits
+    later = pick (eqb (mappingUnit l h) m)
+      where
+        pick : (t : Bool) → Every F (if t then b ∷ unitBits l m hs bs else unitBits l m hs bs) → Every F (unitBits l m hs bs)
+        pick true e = e .1
+        pick false e = e
 
--- what holds of each of a unit's bits holds of each of its HIs, by number, and back
-module _ (cell : Cell) (m : ℕ) (F : ℕ → Type 0) where
-  abbrev OfHis : ℕ → List Hi → Type 0
-  OfHis at hs = (n : ℕ) → n < length hs → mappingUnit (spreadLength cell) (hiNumber hs n) ≡ m → F (at + n)
+    first : mappingUnit l h ≡ m → Every F (unitBits l m (h ∷ hs) (b ∷ bs)) → F b
+    unfolding unitBits
+    first u e = (subst (λ (t : Bool). Every F (if t then b ∷ unitBits l m hs bs else unitBits l m hs bs)) (eq-eqb (mappingUnit l h) m u) e) .0
 
-  later : (h : Hi) (hs : List Hi) (at : ℕ) → Every F (unitBits cell m at (h ∷ hs)) → Every F (unitBits cell m (at + 1) hs)
+  to-his : (hs : List Hi) (bs : List ℕ) → length hs ≡ length bs → Every F (unitBits l m hs bs) → OfHis hs bs
+  to-his [] bs q e n k u = absurd (not-suc-le-zero k)
+  to-his (h ∷ hs) [] q e n k u = absurd (omega arith)
+  to-his (h ∷ hs) (b ∷ bs) q e zero k u = first h hs b bs u e
+  to-his (h ∷ hs) (b ∷ bs) q e (suc n) k u = to-his hs bs (suc-inj q) (later h hs b bs e) n (le-of-suc-le-suc k) u
+
+  pub from-his : (hs : List Hi) (bs : List ℕ) → OfHis hs bs → Every F (unitBits l m hs bs)
   unfolding unitBits
-  later h hs at = pick (hasGroup cell m (h .group))
-    where
-      pick : (t : Bool) → Every F (if t then at ∷ unitBits cell m (at + 1) hs else unitBits cell m (at + 1) hs) → Every F (unitBits cell m (at + 1) hs)
-      pick true e = e .1
-      pick false e = e
-
-  first : (h : Hi) (hs : List Hi) (at : ℕ) → mappingUnit (spreadLength cell) h ≡ m → Every F (unitBits cell m at (h ∷ hs)) → F at
-  unfolding unitBits
-  first h hs at u e =
-      let t : hasGroup cell m (h .group) ≡ true = unit-test cell m h ∙ eq-eqb (mappingUnit (spreadLength cell) h) m u in
-      (subst (λ (b : Bool). Every F (if b then at ∷ unitBits cell m (at + 1) hs else unitBits cell m (at + 1) hs)) t e) .0
-
-  to-his : (hs : List Hi) (at : ℕ) → Every F (unitBits cell m at hs) → OfHis at hs
-  to-his [] at e n l u = absurd (not-suc-le-zero l)
-  to-his (h ∷ hs) at e zero l u = let z : at ≡ at + 0 = omega arith in subst F z (first h hs at u e)
-  to-his (h ∷ hs) at e (suc n) l u =
-      let z : at + 1 + n ≡ at + suc n = omega arith in
-      subst F z (to-his hs (at + 1) (later h hs at e) n (le-of-suc-le-suc l) u)
-
-  pub from-his : (hs : List Hi) (at : ℕ) → OfHis at hs → Every F (unitBits cell m at hs)
-  unfolding unitBits
-  from-his [] at f = tt
-  from-his (h ∷ hs) at f =
-      let next : OfHis (at + 1) hs = λ n l u. let z : at + suc n ≡ at + 1 + n = omega arith in subst F z (f (suc n) (suc-le-suc l) u) in
-      let rest : Every F (unitBits cell m (at + 1) hs) = from-his hs (at + 1) next in
-      on-if (Every F) (hasGroup cell m (h .group))
-      (λ t. let z : at + 0 ≡ at = omega arith in (subst F z (f 0 (suc-le-suc zero-le) (eqb-true (mappingUnit (spreadLength cell) h) m (sym (unit-test cell m h) ∙ t))), rest))
-      (λ t. rest)
+  from-his [] bs f = tt
+  from-his (h ∷ hs) [] f = tt
+  from-his (h ∷ hs) (b ∷ bs) f =
+      let rest : Every F (unitBits l m hs bs) = from-his hs bs (λ n k u. f (suc n) (suc-le-suc k) u) in
+      on-if (Every F) (eqb (mappingUnit l h) m) (λ t. (f 0 (suc-le-suc zero-le) (eqb-true (mappingUnit l h) m t), rest)) (λ t. rest)
 
 -- ---- an accepted plan
 wide : (d : Pair) → Small 8 d → Small 127 d
@@ -127,7 +104,7 @@ module _ (w : List ℕ) (p : Plan) (ok : checkOf w ≡ accepted p) where
         → phichPrecoded (p .cell .ports) m 2 (phichSum w p A m) (i / 4) (i % 4) port ≡ phichPrecoded (p .cell .ports) m 2 (phichSum w p B m) (i / 4) (i % 4) port
     unfolding elementFor
     at-place in-m same i l port in-port =
-        let r : i < placeCount w p (Phich m) = omega (arith, phich-count w p ok m in-m) in
+        let r : i < countOf w p (Phich m) = omega (arith, phich-count w p ok m in-m) in
         let t : ℕ = placeOf w p (Phich m) i in
         subst
         (λ (j : ℕ). phichPrecoded (p .cell .ports) m 2 (phichSum w p A m) (j / 4) (j % 4) port ≡ phichPrecoded (p .cell .ports) m 2 (phichSum w p B m) (j / 4) (j % 4) port)
@@ -163,14 +140,14 @@ module _ (w : List ℕ) (p : Plan) (ok : checkOf w ≡ accepted p) where
     unfolding hiBit
     by-his =
         exactly (spreadLength (p .cell)) (spread w p ok) (c (controlInit (p .cell) (p .frame))) (hisOf w p) (within w p ok) (distinct w p ok) m (hiBit w p A) (hiBit w p B)
-        (λ n. bit-le A (8 * startOf (sections w p) 1 + n)) (λ n. bit-le B (8 * startOf (sections w p) 1 + n))
+        (λ n. bit-le A (getD (hiBits w p) n 0)) (λ n. bit-le B (getD (hiBits w p) n 0))
 
     -- ---- and the unit's bits in the payload
     by-bits : SameHis (spreadLength (p .cell)) m (hisOf w p) (hiBit w p A) (hiBit w p B) ↔ SameBits w p (Phich m) A B
     unfolding SameHis hiBit ownerBits
     by-bits = (
-      from-his (p .cell) m (λ b. bitAt A b ≡ bitAt B b) (hisOf w p) (8 * startOf (sections w p) 1),
-      to-his (p .cell) m (λ b. bitAt A b ≡ bitAt B b) (hisOf w p) (8 * startOf (sections w p) 1),
+      from-his (spreadLength (p .cell)) m (λ b. bitAt A b ≡ bitAt B b) (hisOf w p) (hiBits w p),
+      to-his (spreadLength (p .cell)) m (λ b. bitAt A b ≡ bitAt B b) (hisOf w p) (hiBits w p) (valid w p ok .his-count ∙ sym (hi-length w p)),
     )
 
     pub unit-elements : m < unitsOf (p .cell) → SameElements w p (Phich m) A B ↔ SameBits w p (Phich m) A B

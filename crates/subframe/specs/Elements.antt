@@ -19,8 +19,9 @@ use Rattle.precoding.specs.Phich.{phichPrecoded}
 use Rattle.crs.specs.Crs.{crsValue}
 use Rattle.sync.specs.Pss.{pssPhase}
 use Rattle.sync.specs.Sss.{sssLevel}
+use Rattle.phich.specs.Spreading.{spreadLength}
 use Rattle.phich.specs.Units.{unitSums}
-use Rattle.plan.specs.Rows.{hisOf, usersOf}
+use Rattle.plan.specs.Rows.{hisOf, nthUser}
 use Rattle.plan.specs.declared.Cell.{Cell}
 use Rattle.plan.specs.declared.Frame.{Frame}
 use Rattle.plan.specs.declared.User.{User}
@@ -31,10 +32,9 @@ use Rattle.layout.specs.Owners.{slotOfCell, ownerOf}
 use Rattle.layout.specs.declared.Mark.the-variants.{Primary, Secondary}
 use Rattle.layout.specs.declared.Owner.{Owner}
 use Rattle.layout.specs.declared.Owner.the-variants.{Crs, Sync, Pbch, Pcfich, Phich, User as UserOf, Held, Idle}
-use Rattle.places.specs.Places.{placeNumber, placeCount, indexOf}
-use Rattle.payload.specs.Sections.{startOf}
-use Rattle.payload.specs.Payload.{sections}
-use Rattle.payload.specs.Bits.{ownerBits}
+use Rattle.counts.specs.Counts.{countOf}
+use Rattle.places.specs.Places.{placeNumber, indexOf}
+use Rattle.payload.specs.Bits.{hiBits, ownerBits}
 
 -- ---- CRS (6.10.1): "slots are n = 2f and 2f+1", of L symbols each; "k = 6m+((v+C) mod 6)", so m is k / 6; unit 2 on the signal's own
 -- port q; "Other ports are silent there"
@@ -76,14 +76,10 @@ controlInit cell frame = (frame .subframe + 1) * (2 * cell .identity + 1) * 512 
 unfoldable pub pcfichSymbol : Cell → Frame → ℕ → Pair
 pcfichSymbol cell frame j = dataSymbol 2 (cfiBit (frame .cfi)) (c (controlInit cell frame)) j
 
--- ---- PHICH (6.9): N_SF, the length of a spreading sequence, is 4, extended 2 (6.9.1); "scrambled by 36.211 6.9.1 with PCFICH's c_init";
--- "one bit per HI in plan order"; "summed per unit": the sum at the i-th of unit m's twelve places. "an empty unit still owns its
--- elements, with sum 0"
-unfoldable pub spreadLength : Cell → ℕ
-spreadLength cell = if eqb (cell .prefix) 1 then 2 else 4
-
+-- ---- PHICH (6.9): the bit of HI n is at the n-th of the HIs' positions; "scrambled by 36.211 6.9.1 with PCFICH's c_init"; "summed per
+-- unit": the sum at the i-th of unit m's twelve places. "an empty unit still owns its elements, with sum 0"
 unfoldable pub hiBit : List ℕ → Plan → List ℕ → ℕ → ℕ
-hiBit w p payload n = bitAt payload (8 * startOf (sections w p) 1 + n)
+hiBit w p payload n = bitAt payload (getD (hiBits w p) n 0)
 
 unfoldable pub phichSum : List ℕ → Plan → List ℕ → ℕ → ℕ → Pair
 phichSum w p payload m i =
@@ -93,9 +89,6 @@ phichSum w p payload m i =
 unfoldable pub userInit : Cell → Frame → User → ℕ
 userInit cell frame u = u .rnti * 16384 + 512 * frame .subframe + cell .identity
 
-unfoldable pub nthUser : List ℕ → Plan → ℕ → User
-nthUser w p i = getD (usersOf w p) i (record { rnti = 0; order = 0; first = 0; count = 0 })
-
 unfoldable pub userSymbol : List ℕ → Plan → List ℕ → ℕ → ℕ → Pair
 userSymbol w p payload i j =
     let u = nthUser w p i in
@@ -104,20 +97,20 @@ userSymbol w p payload i j =
 -- ---- THE ELEMENT of an owner's place (s, k) on a port. The j-th of a channel's places, in its filling order (6.3.5, 6.6.4, 6.7.4, 6.9.3),
 -- takes its j-th symbol: "P = 1 sends on port 0. P = 2, 4 (CRS, PSS and SSS apart): layer mapping and precoding 6.3.3.3, 6.3.4.3, units
 -- doubled, ports without a term silent"; "Units 2, 10, 42; PHICH 2, kept where a sum is 0"; "An element given no value on a port is
--- silent there". A user's number of places, `placeCount`, is the G of its section (places/proofs/Elements.antt, counts/proofs/UserElements.antt)
+-- silent there". `countOf` of a user is the G of its section
 unfoldable pub elementFor : List ℕ → Plan → List ℕ → Owner → ℕ → ℕ → ℕ → Element
 elementFor w p payload (Crs q) port s k = crsElement (p .cell) (p .frame) q port s k
 elementFor w p payload (Sync Primary) port s k = pssElement (p .cell) port k
 elementFor w p payload (Sync Secondary) port s k = sssElement (p .cell) (p .frame) port k
 elementFor w p payload Pbch port s k =
-    precoded (p .cell .ports) (placeCount w p Pbch) 2 (pbchSymbol w p payload) (indexOf w p Pbch (placeNumber (p .cell) s k)) port
+    precoded (p .cell .ports) (countOf w p Pbch) 2 (pbchSymbol w p payload) (indexOf w p Pbch (placeNumber (p .cell) s k)) port
 elementFor w p payload Pcfich port s k =
     precoded (p .cell .ports) 16 2 (pcfichSymbol (p .cell) (p .frame)) (indexOf w p Pcfich (placeNumber (p .cell) s k)) port
 elementFor w p payload (Phich m) port s k =
     let j = indexOf w p (Phich m) (placeNumber (p .cell) s k) in
     phichPrecoded (p .cell .ports) m 2 (phichSum w p payload m) (j / 4) (j % 4) port
 elementFor w p payload (UserOf i) port s k =
-    precoded (p .cell .ports) (placeCount w p (UserOf i)) (unitOf (nthUser w p i .order)) (userSymbol w p payload i)
+    precoded (p .cell .ports) (countOf w p (UserOf i)) (unitOf (nthUser w p i .order)) (userSymbol w p payload i)
     (indexOf w p (UserOf i) (placeNumber (p .cell) s k)) port
 elementFor w p payload Held port s k = silent
 elementFor w p payload Idle port s k = silent

@@ -31,7 +31,8 @@ use Rattle.plan.specs.Check.{checkOf}
 use Rattle.plan.specs.declared.Plan.{Plan}
 use Rattle.plan.specs.declared.Checked.the-variants.{Plan as accepted}
 use Rattle.layout.specs.declared.Owner.{Owner}
-use Rattle.places.specs.Places.{placesOf, ownsAt, placeCount, placeOf, indexOf}
+use Rattle.counts.specs.Counts.{countOf}
+use Rattle.places.specs.Places.{placesOf, ownsAt, placeOf, indexOf}
 use Rattle.places.proofs.Listing.{listed}
 use Rattle.grid.specs.Writing.{sends, Room}
 use Rattle.compare.specs.Comparing.{Holds}
@@ -73,9 +74,9 @@ module _
     (room : Room (p .cell .ports) (placesOf (p .cell)) g)
     (o : Owner) (Q u : ℕ) (x : ℕ → ℕ)
     (order : Order Q)
-    (occurs : Occurs (p .cell .ports) (placeCount w p o))
+    (occurs : Occurs (p .cell .ports) (countOf w p o))
     (sent : Sends w p o u (dataSymbol Q (ownerBit w p (payloadIn w p g) o) x) (payloadIn w p g))
-    (bits : (i : ℕ) → i < Q * placeCount w p o → ownerBit w p (payloadIn w p g) o i ≡ dataBit w p g o Q x i)
+    (bits : (i : ℕ) → i < Q * countOf w p o → ownerBit w p (payloadIn w p g) o i ≡ dataBit w p g o Q x i)
     (turns : (t q : ℕ) → active w p o t q ≡ sends (p .cell .ports) (indexOf w p o t / 2 % 2) q)
   where
     abbrev P : ℕ
@@ -85,7 +86,7 @@ module _
     T = placesOf (p .cell)
 
     abbrev M : ℕ
-    M = placeCount w p o
+    M = countOf w p o
 
     -- the symbols of the payload in the grid, and those in the grid
     abbrev d : ℕ → Pair

@@ -14,27 +14,30 @@ use Rattle.modulation.specs.Symbols.{unitOf}
 use Rattle.codeword.specs.Codewords.{dataSymbol}
 use Rattle.precoding.specs.Places.{ownPort, placed}
 use Rattle.plan.specs.Check.{checkOf}
-use Rattle.plan.specs.Rows.{usersOf}
+use Rattle.plan.specs.Rows.{usersOf, nthUser}
 use Rattle.plan.specs.declared.Plan.{Plan}
 use Rattle.plan.specs.declared.User.{User}
 use Rattle.plan.specs.declared.Checked.the-variants.{Plan as accepted}
 use Rattle.layout.specs.declared.Owner.{Owner}
 use Rattle.layout.specs.declared.Owner.the-variants.{Pbch, User as UserOf}
-use Rattle.places.specs.Places.{placesOf, ownsAt, placeCount, placeOf, placeBy, orderOf, indexOf}
+use Rattle.counts.specs.Counts.{countOf}
+use Rattle.places.specs.Places.{placesOf, ownsAt, placeOf, placeBy, orderOf, indexOf}
 use Rattle.places.proofs.Counts.{cnt-same, nth-same}
+use Rattle.places.proofs.Elements.{count-is}
 use Rattle.grid.specs.Elements.{elementIn}
 use Rattle.grid.specs.Writing.{sends, Room}
 use Rattle.compare.specs.declared.Seen.{Seen}
 use Rattle.compare.specs.declared.Seen.the-variants.{Weight, Differs}
 use Rattle.compare.specs.Comparing.{Holds, Compared}
 use Rattle.compare.proofs.Comparing.{weight-same, holds-of, differs}
-use Rattle.subframe.specs.Elements.{ownerBit, pbchFirst, pbchSymbol, userInit, nthUser, userSymbol, elementFor}
+use Rattle.payload.specs.Payload.{userBits}
+use Rattle.subframe.specs.Elements.{ownerBit, pbchFirst, pbchSymbol, userInit, userSymbol, elementFor}
 use Rattle.subframe.proofs.DataBuilds.{Sends}
 use Rattle.subframe.proofs.Occurs.{pbch-occurs, user-occurs}
-use Rattle.subframe.proofs.OwnerBits.{pbch-size, user-order, user-size}
+use Rattle.subframe.proofs.OwnerBits.{pbch-size, user-order}
 use Rattle.recovery.specs.Recovery.{symbolIn, dataBit, pbchBit, userBit, payloadIn}
 use Rattle.recovery.proofs.Channels.{pbch-length}
-use Rattle.recovery.proofs.Payload.{pbch-bit, user-bit, user-length}
+use Rattle.recovery.proofs.Payload.{pbch-bit, user-bit}
 use Rattle.data.specs.declared.Area.{Area}
 use Rattle.data.specs.Areas.{areaAt, areaIndex, areaSends, pbchArea, userArea}
 use Rattle.data.proofs.AreaOwners.{pbch-place, pbch-index, user-place, user-index}
@@ -48,7 +51,7 @@ use Rattle.verify.proofs.Again.{sentBy, to-due, due-known, from-due}
 -- ---- an area whose places are an owner's
 module _
     (w : List ℕ) (p : Plan) (g : List ℕ) (o : Owner) (a : Area) (Q u : ℕ)
-    (count : areaCount a ≡ placeCount w p o)
+    (count : areaCount a ≡ countOf w p o)
     (symbols : (j : ℕ) → areaSymbol a g j ≡ symbolIn w p g o (j / 2) j)
     (sending : (e : ℕ) → areaSends a e ≡ ownerSends w p o e)
     (sent : (d : ℕ → Pair) (e : ℕ) → areaSent a u d e ≡ sentBy w p o u d e)
@@ -59,15 +62,15 @@ module _
     sent-is : (e : ℕ) → areaSent a u (areaSymbol a g) e ≡ sentBy w p o u S e
     sent-is e = ap (λ (d : ℕ → Pair). areaSent a u d e) (λ t j. symbols j t) ∙ sent S e
 
-    known-to : ((j : ℕ) → j < areaCount a → isSymbol Q (areaSymbol a g j) ≡ true) → (j : ℕ) → j < placeCount w p o → isSymbol Q (S j) ≡ true
+    known-to : ((j : ℕ) → j < areaCount a → isSymbol Q (areaSymbol a g j) ≡ true) → (j : ℕ) → j < countOf w p o → isSymbol Q (S j) ≡ true
     known-to h j l = rw (← symbols j) (h j (rw count l))
 
-    known-from : ((j : ℕ) → j < placeCount w p o → isSymbol Q (S j) ≡ true) → (j : ℕ) → j < areaCount a → isSymbol Q (areaSymbol a g j) ≡ true
+    known-from : ((j : ℕ) → j < countOf w p o → isSymbol Q (S j) ≡ true) → (j : ℕ) → j < areaCount a → isSymbol Q (areaSymbol a g j) ≡ true
     known-from h j l = rw (symbols j) (h j (rw (← count) l))
 
     module _
-        (to : ((j : ℕ) → j < placeCount w p o → isSymbol Q (S j) ≡ true) → Holds (ownerSends w p o) (sentBy w p o u S) g → Holds (ownerSends w p o) (due w p g) g)
-        (known : Holds (ownerSends w p o) (due w p g) g → (j : ℕ) → j < placeCount w p o → isSymbol Q (S j) ≡ true)
+        (to : ((j : ℕ) → j < countOf w p o → isSymbol Q (S j) ≡ true) → Holds (ownerSends w p o) (sentBy w p o u S) g → Holds (ownerSends w p o) (due w p g) g)
+        (known : Holds (ownerSends w p o) (due w p g) g → (j : ℕ) → j < countOf w p o → isSymbol Q (S j) ≡ true)
         (from : Holds (ownerSends w p o) (due w p g) g → Holds (ownerSends w p o) (sentBy w p o u S) g)
       where
         area-to : AreaHolds a Q u g → Holds (ownerSends w p o) (due w p g) g
@@ -101,7 +104,7 @@ module _ (w : List ℕ) (p : Plan) (ok : checkOf w ≡ accepted p) (g : List ℕ
   abbrev pbchScrambling : ℕ → ℕ
   pbchScrambling i = c (p .cell .identity) (i + pbchFirst (p .cell) (p .frame))
 
-  pbch-bits : (i : ℕ) → i < 2 * placeCount w p Pbch → ownerBit w p A Pbch i ≡ dataBit w p g Pbch 2 pbchScrambling i
+  pbch-bits : (i : ℕ) → i < 2 * countOf w p Pbch → ownerBit w p A Pbch i ≡ dataBit w p g Pbch 2 pbchScrambling i
   unfolding pbchBit
   pbch-bits i l = pbch-bit w p g i (omega (arith, pbch-length w p ok, pbch-size w p ok))
 
@@ -117,9 +120,9 @@ module _ (w : List ℕ) (p : Plan) (ok : checkOf w ≡ accepted p) (g : List ℕ
     abbrev pbch : Area
     pbch = pbchArea (p .cell) (p .frame)
 
-    pub pbch-count : areaCount (pbchArea (p .cell) (p .frame)) ≡ placeCount w p Pbch
-    unfolding areaCount placeCount
-    pbch-count = cnt-same (areaAt pbch) (ownsAt w p Pbch) T (λ t l. pbch-place w p ok zero-th t)
+    pub pbch-count : areaCount (pbchArea (p .cell) (p .frame)) ≡ countOf w p Pbch
+    unfolding areaCount
+    pbch-count = cnt-same (areaAt pbch) (ownsAt w p Pbch) T (λ t l. pbch-place w p ok zero-th t) ∙ count-is w p Pbch
 
     pbch-symbols : (j : ℕ) → areaSymbol pbch g j ≡ symbolIn w p g Pbch (j / 2) j
     unfolding areaSymbol areaPlace symbolIn placeOf placeBy orderOf
@@ -157,9 +160,9 @@ module _ (w : List ℕ) (p : Plan) (ok : checkOf w ≡ accepted p) (g : List ℕ
     abbrev scrambling : ℕ → ℕ
     scrambling = c (userInit (p .cell) (p .frame) u)
 
-    user-bits : (n : ℕ) → n < Q * placeCount w p (UserOf i) → ownerBit w p A (UserOf i) n ≡ dataBit w p g (UserOf i) Q scrambling n
-    unfolding userBit
-    user-bits n l = user-bit w p g i in-i n (omega (arith, user-length w p g i in-i, user-size w p ok i in-i))
+    user-bits : (n : ℕ) → n < Q * countOf w p (UserOf i) → ownerBit w p A (UserOf i) n ≡ dataBit w p g (UserOf i) Q scrambling n
+    unfolding userBits userBit
+    user-bits n l = user-bit w p g i in-i n l
 
     user-turns : (t q : ℕ) → active w p (UserOf i) t q ≡ sends P (indexOf w p (UserOf i) t / 2 % 2) q
     unfolding active
@@ -177,9 +180,9 @@ module _ (w : List ℕ) (p : Plan) (ok : checkOf w ≡ accepted p) (g : List ℕ
     unfolding nthUser
     index-is t l = user-index w p ok i in-i _ t l
 
-    pub user-count : areaCount (userArea (p .cell) (p .frame) (nthUser w p i)) ≡ placeCount w p (UserOf i)
-    unfolding areaCount placeCount
-    user-count = cnt-same (areaAt area) (ownsAt w p (UserOf i)) T place-is
+    pub user-count : areaCount (userArea (p .cell) (p .frame) (nthUser w p i)) ≡ countOf w p (UserOf i)
+    unfolding areaCount
+    user-count = cnt-same (areaAt area) (ownsAt w p (UserOf i)) T place-is ∙ count-is w p (UserOf i)
 
     user-symbols : (j : ℕ) → areaSymbol area g j ≡ symbolIn w p g (UserOf i) (j / 2) j
     unfolding areaSymbol areaPlace symbolIn placeOf placeBy orderOf

@@ -7,11 +7,10 @@ use mathlib.Core.List.{List}
 use lib.ListN.{length}
 use Rattle.modulation.specs.Marks.{isSymbol}
 use Rattle.precoding.specs.Layers.{Occurs, one, two, four}
-use Rattle.plan.specs.Rows.{usersOf}
+use Rattle.plan.specs.Rows.{usersOf, nthUser}
 use Rattle.plan.specs.declared.Plan.{Plan}
 use Rattle.layout.specs.declared.Owner.the-variants.{Pbch, User as UserOf}
 use Rattle.compare.specs.Comparing.{Holds}
-use Rattle.subframe.specs.Elements.{nthUser}
 use Rattle.subframe.specs.Grid.{gridOf}
 use Rattle.subframe.proofs.Occurs.{pbch-occurs, user-occurs}
 use Rattle.recovery.specs.Recovery.{payloadIn}

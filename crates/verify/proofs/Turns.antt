@@ -15,7 +15,7 @@ use Rattle.modulation.proofs.Formulas.{unit-small}
 use Rattle.plan.specs.Check.{checkOf}
 use Rattle.plan.specs.Commands.{userOf}
 use Rattle.plan.specs.Fields.{unitsOf}
-use Rattle.plan.specs.Rows.{nextOf, hisFrom, hisOf, usersOf}
+use Rattle.plan.specs.Rows.{nextOf, hisFrom, hisOf, usersOf, nthUser}
 use Rattle.plan.specs.Valid.{CellIn, FrameIn}
 use Rattle.plan.specs.declared.User.{User}
 use Rattle.plan.specs.declared.Plan.{Plan}
@@ -28,7 +28,7 @@ use Rattle.compare.specs.declared.Seen.{Seen}
 use Rattle.compare.specs.declared.Seen.the-variants.{Weight}
 use Rattle.compare.specs.Comparing.{Compared, bothOf, Few}
 use Rattle.compare.proofs.Comparing.{none, same, over, few}
-use Rattle.subframe.specs.Elements.{controlInit, nthUser}
+use Rattle.subframe.specs.Elements.{controlInit}
 use Rattle.subframe.proofs.OwnerBits.{user-order}
 use Rattle.recovery.specs.Recovery.{payloadIn}
 use Rattle.data.specs.declared.Area.{Area}

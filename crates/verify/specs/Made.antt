@@ -7,7 +7,7 @@ use mathlib.Core.List.{List}
 use lib.ListN.{length}
 use Rattle.base.specs.declared.Element.{Element}
 use Rattle.plan.specs.Check.{checkOf}
-use Rattle.plan.specs.Rows.{usersOf}
+use Rattle.plan.specs.Rows.{usersOf, nthUser}
 use Rattle.plan.specs.declared.Plan.{Plan}
 use Rattle.plan.specs.declared.User.{User}
 use Rattle.plan.specs.declared.Checked.the-variants.{Plan as accepted}
@@ -16,7 +16,6 @@ use Rattle.places.specs.Places.{placesOf}
 use Rattle.grid.specs.Writing.{Room}
 use Rattle.compare.specs.declared.Seen.{Seen}
 use Rattle.compare.specs.Comparing.{Compared}
-use Rattle.subframe.specs.Elements.{nthUser}
 use Rattle.subframe.specs.Grid.{elementNumbered, gridOf}
 use Rattle.recovery.specs.Recovery.{payloadIn}
 use Rattle.build.specs.Senders.{ownerSends}

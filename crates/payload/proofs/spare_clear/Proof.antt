@@ -7,7 +7,8 @@ use Rattle.payload.proofs.spare_clear.Tie as tie
 heads-clear-requires : tie.Need-heads-clear-requires
 heads-clear-requires c κs =
     let a = c .before .before .args in
-    heads-room (a .plan .now) (a .p) (a .payload .now) (c .before .before .pre .1)
+    let pre = c .before .before .pre in
+    heads-room (a .plan .now) (a .p) (pre .0) (a .payload .now) (pre .1)
 
 users-start-requires : tie.Need-users-start-requires
 users-start-requires c κs = tt
@@ -15,17 +16,20 @@ users-start-requires c κs = tt
 users-clear-requires : tie.Need-users-clear-requires
 users-clear-requires c κs =
     let a = c .before .before .before .before .before .args in
-    (plan-ready (a .plan .now) (a .p) (c .before .before .before .before .before .pre .0), users-room (a .plan .now) (a .p) (a .payload .now) (c .before .before .before .before .before .pre .1) _ (c .users-start .ensures))
+    let pre = c .before .before .before .before .before .pre in
+    (plan-ready (a .plan .now) (a .p) (pre .0), users-room (a .plan .now) (a .p) (pre .0) (a .payload .now) (pre .1) _ (c .users-start .ensures))
 
 returns : tie.Need-returns
 returns c =
     let a = c .before .before .before .before .before .before .args in
-    users-rest (a .plan .now) (a .p) (a .payload .now) (c .before .before .before .before .before .before .pre .1) _ (c .before .before .before .heads-clear .ensures) (c .before .before .if1 .taken) _ (c .before .users-start .ensures) _ (c .users-clear .ensures)
+    let pre = c .before .before .before .before .before .before .pre in
+    users-rest (a .plan .now) (a .p) (pre .0) (a .payload .now) (pre .1) _ (c .before .before .before .heads-clear .ensures) (c .before .before .if1 .taken) _ (c .before .users-start .ensures) _ (c .users-clear .ensures)
 
 returns-2 : tie.Need-returns-2
 returns-2 c =
     let a = c .before .before .before .before .args in
-    heads-set (a .plan .now) (a .p) (a .payload .now) (c .before .before .before .before .pre .1) _ (c .before .heads-clear .ensures) (c .if1 .left)
+    let pre = c .before .before .before .before .pre in
+    heads-set (a .plan .now) (a .p) (pre .0) (a .payload .now) (pre .1) _ (c .before .heads-clear .ensures) (c .if1 .left)
 
 pub spare-clear-spec : {M : Type 1} → statement M
 spare-clear-spec = tie.close (tie.spec heads-clear-requires users-start-requires users-clear-requires returns returns-2)
