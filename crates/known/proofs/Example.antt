@@ -24,7 +24,9 @@ use Rattle.counts.proofs.AllUsers.{users-kind}
 use Rattle.counts.proofs.KindCounts.{held-kind}
 use Rattle.counts.proofs.KindWays.{nine}
 use Rattle.payload.specs.Sections.{bytesOf, span, spareAt, sparesFrom}
-use Rattle.payload.specs.Payload.{pbchBits, userBits, heads, userSections, sections, payloadLength, gridLength, spareBits, spareClear, AcceptedPayload}
+use Rattle.payload.specs.Payload.{pbchBits, heads, sections, payloadLength, gridLength, spareBits, AcceptedPayload}
+use Rattle.payload.specs.Loops.{computedBits, computedSections}
+use Rattle.payload.proofs.Sections.{sections-computed}
 use Rattle.payload.proofs.Refusals.{payload-clear}
 use Rattle.counted.specs.Gridcount.{acceptedWith, countedOf, gridcountOf}
 use Rattle.known.specs.Example.{example, examplePlan, broadcast, broadcastPlan, zeros, exampleCounts, exampleLines, Example}
@@ -57,8 +59,8 @@ broadcast-holes = refl
 
 -- ---- the payload: PBCH has no bit, the HI one, the user 2 × 2250
 example-sections : sections example examplePlan ≡ 0 ∷ 1 ∷ 4500 ∷ []
-unfolding sections heads pbchBits userSections userBits usersOf row userOf sizeOf entryIn entries userElements rowElements signals taken halves sumTo slotLength inSlot crsSymbol marked controlSymbols
-example-sections = refl
+unfolding heads pbchBits computedSections computedBits usersOf row userOf sizeOf entryIn entries userElements rowElements signals taken halves sumTo slotLength inSlot crsSymbol marked controlSymbols
+example-sections = sections-computed example examplePlan example-plan
 
 example-payload : AcceptedPayload example examplePlan zeros
 unfolding payloadLength spareBits bytesOf sparesFrom spareAt span table bitAt
