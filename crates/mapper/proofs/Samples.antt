@@ -29,7 +29,7 @@ module _ (b i j : ℕ) (r : SampleAnswer) (sampled : Sampled b i j r) where
 
     module _ (p : Point) (e : s ≡ At p) where
       pub first-no-nan : T (not (isNan (p .re)))
-      first-no-nan = no-nan (p .re) (sampled .bounded p (is ∙ ap element e) .re .number)
+      first-no-nan = no-nan (p .re) (sampled .pair p (is ∙ ap element e) .re .bound .number)
 
       pub second-no-nan : T (not (isNan (p .im)))
-      second-no-nan = no-nan (p .im) (sampled .bounded p (is ∙ ap element e) .im .number)
+      second-no-nan = no-nan (p .im) (sampled .pair p (is ∙ ap element e) .im .bound .number)

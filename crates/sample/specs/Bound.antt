@@ -1,4 +1,4 @@
--- What the promises cite: gains and samples as whole numbers and their squares (document 01, Samples).
+-- What the promises cite: gains and samples as whole numbers and their squares. Quoted words are document 01's, under Samples.
 -- `HasValue x s a c` says that x is finite, has the sign s (true: below 0), and is exactly a / c in size.
 use Prim.Native.Nat.{ℕ, _+_, _-_, _*_, _^_, _≤_, _<_}
 use mathlib.Core.Path.{_≡_}
@@ -30,7 +30,8 @@ pub record NoNearer (u a b t : ℕ) : Type 0 where
   pub below : b < a → u * (a + b) ^ 2 ≤ 4 * 2 ^ (2 * t)
   pub above : a < b → 4 * 2 ^ (2 * t) ≤ u * (a + b) ^ 2
 
--- g is finite and above 0, and no f32 that is 0 or more lies nearer to 1 / √u. (One below 0 is further than 0.)
+-- g is an f32, finite and above 0, and no f32 that is 0 or more lies nearer to 1 / √u. (One below 0 is further than 0.)
 pub record Nearest (u : ℕ) (g : Float) : Type 0 where
+  pub held : T (fits binary32 g)
   pub number : T (positive g)
   pub none-nearer : (y : Float) → T (fits binary32 y) → (a b t : ℕ) → HasValue g false a (2 ^ t) → HasValue y false b (2 ^ t) → NoNearer u a b t
