@@ -76,7 +76,6 @@ closed u z (fin s m e) h =
     let b = Bool·beq s (negative z) in
     let q = sized u z (m * up e) (down e) in
     record {
-      number = tt;
       written = written s m e;
       within = λ r a t v. within u z r (m * up e) (down e) a t (down-pos e) (sym (v .0) ∙ same s (negative z) (and-l b q h)) (and-r b q h) (v .1);
     }

@@ -8,7 +8,6 @@ use lib.IntN.{ℤ, natAbs}
 use lib.Ieee.{Float, binary32, fits}
 use lib.Ieee.Exact.{HasValue}
 use lib.Ieee.Positive.{positive}
-use lib.Ieee.Scale.{finite}
 use Rattle.base.specs.Signs.{negative}
 
 -- "For level I and exact sample a/2^t (a whole, with the sign of I): (2^22−1)²I²2^(2t) ≤ 2^44·u·a² ≤ (2^22+1)²I²2^(2t)";
@@ -18,9 +17,8 @@ pub record Within (u : ℕ) (z : ℤ) (s : Bool) (a t : ℕ) : Type 0 where
   pub least : (2 ^ 22 - 1) ^ 2 * natAbs z ^ 2 * 2 ^ (2 * t) ≤ 2 ^ 44 * u * a ^ 2
   pub most : 2 ^ 44 * u * a ^ 2 ≤ (2 ^ 22 + 1) ^ 2 * natAbs z ^ 2 * 2 ^ (2 * t)
 
--- the float x is finite, is some a / 2 ^ t, and however it is written so, that is within the bound
+-- the float x is some a / 2 ^ t, and however it is written so, that is within the bound
 pub record Close (u : ℕ) (z : ℤ) (x : Float) : Type 0 where
-  pub number : T (finite x)
   pub written : (s : Bool) × (a : ℕ) × (t : ℕ) × HasValue x s a (2 ^ t)
   pub within : (s : Bool) (a t : ℕ) → HasValue x s a (2 ^ t) → Within u z s a t
 
