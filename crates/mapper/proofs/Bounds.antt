@@ -14,7 +14,7 @@ use Rattle.plan.specs.Answers.{Answer, given, refusedBy}
 use Rattle.plan.specs.Check.{refusalNumber, checkOf, refusedAs, unlessRefused}
 use Rattle.plan.specs.declared.Plan.{Plan}
 use Rattle.plan.specs.declared.Refusal.{Refusal}
-use Rattle.plan.specs.declared.Refusal.the-variants.{Unreadable, Order, CellField, FrameField, HiField, UserField, Used, Outside, GridLength, PayloadLength, SpareBit, NoPayload}
+use Rattle.plan.specs.declared.Refusal.the-variants.{Unreadable, Order, CellField, FrameField, HiField, UserField, Used, Outside, NoElement, GridLength, PayloadLength, SpareBit, NoPayload}
 use Rattle.plan.specs.declared.Checked.{Checked}
 use Rattle.plan.specs.declared.Checked.the-variants.{Plan as accepted, Refused as refused}
 use Rattle.plan.proofs.Answers.{no-number}
@@ -70,6 +70,7 @@ refusal-small HiField = omega arith
 refusal-small UserField = omega arith
 refusal-small Used = omega arith
 refusal-small Outside = omega arith
+refusal-small NoElement = omega arith
 refusal-small GridLength = omega arith
 refusal-small PayloadLength = omega arith
 refusal-small SpareBit = omega arith

@@ -1,6 +1,7 @@
 -- The calls' answers by the cases of the code, and as numbers for C. Assumes nothing.
 use Prim.Native.Nat.{ℕ, _^_, _<_}
-use mathlib.Core.Path.{_≡_, refl, sym, ap, _∙_}
+use mathlib.Core.Path.{_≡_, refl, sym, ap, _∙_, subst}
+use mathlib.Core.Bool.{Bool, true, false}
 use mathlib.Core.List.{List}
 use native.Mathlib.Omega.{arith}
 use lib.IntN.{ℤ, pos, negℤ, _-ℤ_}
@@ -10,30 +11,60 @@ use mir.Val.{SFits, toZ, ofZ}
 use mir.Facts.{toZ-ofZ, toZ-pos}
 use Rattle.base.proofs.Fits.{fits-abs, abs-neg, sub-zero}
 use Rattle.plan.specs.Answers.{Answer, given, refusedBy}
-use Rattle.plan.specs.Check.{refusalNumber, checkOf, refusedAs}
+use Rattle.plan.specs.Check.{checkOf, refusedAs, unlessRefused}
 use Rattle.plan.specs.declared.Plan.{Plan}
 use Rattle.plan.specs.declared.Refusal.{Refusal}
+use Rattle.plan.specs.declared.Refusal.the-variants.{Outside}
 use Rattle.plan.specs.declared.Checked.{Checked}
 use Rattle.plan.specs.declared.Checked.the-variants.{Plan as accepted, Refused as refused}
-use Rattle.mapper.specs.Calls.{answerWith, numberAnswer, checkedAnswer, inC}
+use Rattle.base.specs.Choice.{if_then_else_}
+use Rattle.layout.specs.Owners.{ownerNumber, ownerOf}
+use Rattle.layout.specs.Query.{inGrid, ownerQueryOf, ownerAnswer}
+use Rattle.layout.specs.declared.OwnerAnswer.{OwnerAnswer}
+use Rattle.layout.specs.declared.OwnerAnswer.the-variants.{Is as owned, Refused as unowned}
+use Rattle.read.specs.Read.{Reads}
+use Rattle.mapper.specs.Calls.{answerWith, checkAnswerOf, ownerAnswerOf, checkedAnswer, numberAnswer, inC}
 use Rattle.mapper.specs.Sizes.{Small}
 use Rattle.mapper.specs.declared.Number.{Number}
-use Rattle.mapper.specs.declared.Number.the-variants.{Is, Refused}
+use Rattle.mapper.specs.declared.Number.the-variants.{Is}
 
 module _ (w : List ℕ) (a : Checked) (e : a ≡ checkOf w) where
   module _ (p : Plan) (is : a ≡ accepted p) where
     pub number-is : (f : Plan → ℕ) (n : ℕ) → n ≡ f p → given n ≡ answerWith f (checkOf w)
     number-is f n q = ap given q ∙ ap (answerWith f) (sym is ∙ e)
 
-    pub check-is : checkedAnswer (checkOf w) ≡ given 0
-    check-is = ap checkedAnswer (sym e ∙ is)
-
   module _ (r : Refusal) (is : a ≡ refused r) where
     pub number-refused : (f : Plan → ℕ) → refusedAs r ≡ answerWith f (checkOf w)
     number-refused f = ap (answerWith f) (sym is ∙ e)
 
-    pub check-refused : checkedAnswer (checkOf w) ≡ refusedBy (refusalNumber r)
-    check-refused = ap checkedAnswer (sym e ∙ is)
+  -- the answer's number is that of the bytes
+  pub check-numbers : checkedAnswer a ≡ checkAnswerOf w
+  unfolding checkAnswerOf
+  check-numbers = pick a ∙ ap (answerWith (λ p. 0)) e
+    where
+      pick : (x : Checked) → checkedAnswer x ≡ answerWith (λ p. 0) x
+      pick (accepted p) = refl
+      pick (refused r) = refl
+
+-- ---- the owner's number
+module _ (w : List ℕ) (s k port : ℕ) where
+  pub owner-numbers : (r : OwnerAnswer) → r ≡ ownerQueryOf w s k port → ownerAnswer r ≡ ownerAnswerOf w s k port
+  unfolding ownerQueryOf ownerAnswerOf
+  owner-numbers r e = ap ownerAnswer e ∙ pick (checkOf w)
+    where
+      choose : (p : Plan) (t : Bool) → ownerAnswer (if t then owned (ownerOf w p s k) else unowned Outside) ≡ (if t then given (ownerNumber (ownerOf w p s k)) else refusedAs Outside)
+      choose p true = refl
+      choose p false = refl
+
+      pick : (a : Checked)
+          → ownerAnswer (unlessRefused unowned (λ (p : Plan). if inGrid (p .cell) s k port then owned (ownerOf w p s k) else unowned Outside) a)
+          ≡ unlessRefused refusedAs (λ (p : Plan). if inGrid (p .cell) s k port then given (ownerNumber (ownerOf w p s k)) else refusedAs Outside) a
+      pick (accepted p) = choose p (inGrid (p .cell) s k port)
+      pick (refused r) = refl
+
+-- ---- what read promises of its answer, it promises of its equation's
+pub reads-of : {w grid before after : List ℕ} {a b : Answer} → a ≡ b → Reads w grid before a after → Reads w grid before b after
+reads-of {w = w} {grid = grid} {before = before} {after = after} e h = subst (λ (x : Answer). Reads w grid before x after) e h
 
 -- ---- a number for C, as it is or back from the bits of a call's i64
 back : (z : ℤ) → mag z < 2 ^ 63 → toZ w64 (ofZ w64 z) ≡ z

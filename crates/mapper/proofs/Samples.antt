@@ -1,35 +1,72 @@
--- The sample of an element by the cases of the code; its f32 are no NaN. Assumes nothing.
-use Prim.Native.Nat.{ℕ}
-use mathlib.Core.Path.{_≡_, sym, ap, _∙_}
-use mathlib.Core.Bool.{not}
+-- The numbers of a sample by the cases of the code; its f32 are no NaN. Assumes nothing.
+use Prim.Native.Nat.{ℕ, zero, suc, _≤_}
+use mathlib.Core.Path.{_≡_, refl, sym, ap, _∙_}
+use mathlib.Core.Bool.{Bool, true, false, not, cond}
+use mathlib.Core.List.{[], _∷_}
 use lib.Dec.{T}
-use lib.Ieee.{Float, nan, inf, fin, isNan}
-use lib.Ieee.Scale.{finite}
-use Rattle.sample.specs.Answer.{sampleOf}
+use lib.IntN.{ℤ}
+use lib.ListN.{getD, List·getD-eq-default}
+use lib.Ieee.{Float, nan, inf, fin, binary32, isNan, toBits}
+use Rattle.base.specs.Choice.{if_then_else_}
+use Rattle.plan.specs.Answers.{given}
+use Rattle.plan.specs.Check.{refusedAs}
+use Rattle.plan.specs.declared.Refusal.the-variants.{NoElement}
+use Rattle.sample.specs.Refusal.{noElement}
+use Rattle.sample.specs.Answer.{meaningOf}
+use Rattle.sample.specs.Bound.{Close}
 use Rattle.sample.specs.Promise.{Sampled}
 use Rattle.sample.specs.declared.Point.{Point}
 use Rattle.sample.specs.declared.Sample.{Sample}
-use Rattle.sample.specs.declared.Sample.the-variants.{At}
+use Rattle.sample.specs.declared.Sample.the-variants.{Silence, Phase, At}
 use Rattle.sample.specs.declared.SampleAnswer.{SampleAnswer}
-use Rattle.sample.specs.declared.SampleAnswer.the-variants.{Is as element, Refused as noElement}
+use Rattle.sample.specs.declared.SampleAnswer.the-variants.{Is as element, Refused as noSample}
+use Rattle.mapper.specs.Calls.{sampleNumbers, sampleAnswerOf, sampleAnswer}
 
-no-nan : (x : Float) → T (finite x) → T (not (isNan x))
+no-nan : (u : ℕ) (z : ℤ) (x : Float) → Close u z x → T (not (isNan x))
 unfolding isNan
-no-nan nan t = t
-no-nan (inf s) t = tt
-no-nan (fin s m e) t = tt
+no-nan u z nan h = absurd (h .written .3)
+no-nan u z (inf s) h = tt
+no-nan u z (fin s m e) h = tt
+
+-- the answer's numbers are those of the three bytes
+either : (t : Bool) (s : Sample) (n : ℕ) → sampleAnswer n (cond t noSample (element s)) ≡ (if t then refusedAs NoElement else given (getD (sampleNumbers s) n 0))
+either true s n = refl
+either false s n = refl
+
+zeros : (n : ℕ) → getD (sampleNumbers Silence) n 0 ≡ 0
+zeros zero = refl
+zeros (suc zero) = refl
+zeros (suc (suc zero)) = refl
+zeros (suc (suc (suc n))) = refl
+
+-- there is no fourth number
+pub no-fourth : (a b c n : ℕ) → 3 ≤ n → 0 ≡ getD (a ∷ b ∷ c ∷ []) n 0
+no-fourth a b c n h = sym (List·getD-eq-default (a ∷ b ∷ c ∷ []) 0 h)
 
 module _ (b i j : ℕ) (r : SampleAnswer) (sampled : Sampled b i j r) where
-  pub is-refused : r ≡ noElement → sampleOf b i j ≡ noElement
-  is-refused e = sym (sampled .answer) ∙ e
+  pub sample-numbers : (n : ℕ) → sampleAnswer n r ≡ sampleAnswerOf n b i j
+  sample-numbers n = ap (sampleAnswer n) (sampled .answer) ∙ either (noElement b i j) (meaningOf b i j) n
+
+  pub is-refused : (n : ℕ) → r ≡ noSample → sampleAnswerOf n b i j ≡ refusedAs NoElement
+  is-refused n e = sym (sample-numbers n) ∙ ap (sampleAnswer n) e
 
   module _ (s : Sample) (is : r ≡ element s) where
-    pub is-sample : (t : Sample) → s ≡ t → sampleOf b i j ≡ element t
-    is-sample t e = sym (sampled .answer) ∙ is ∙ ap element e
+    is-sample : (n : ℕ) (t : Sample) → s ≡ t → sampleAnswerOf n b i j ≡ given (getD (sampleNumbers t) n 0)
+    is-sample n t e = sym (sample-numbers n) ∙ ap (sampleAnswer n) (is ∙ ap element e)
+
+    pub is-silence : (n : ℕ) → s ≡ Silence → sampleAnswerOf n b i j ≡ given 0
+    is-silence n e = is-sample n Silence e ∙ ap given (zeros n)
+
+    pub is-phase : (n x m : ℕ) → s ≡ Phase x → m ≡ getD (1 ∷ x ∷ 0 ∷ []) n 0 → sampleAnswerOf n b i j ≡ given m
+    is-phase n x m e q = is-sample n (Phase x) e ∙ ap given (sym q)
 
     module _ (p : Point) (e : s ≡ At p) where
+      pub is-pair :
+          (n x y m : ℕ) → x ≡ toBits binary32 (p .re) → y ≡ toBits binary32 (p .im) → m ≡ getD (2 ∷ x ∷ y ∷ []) n 0 → sampleAnswerOf n b i j ≡ given m
+      is-pair n x y m ex ey q = is-sample n (At p) e ∙ rw (q, ex, ey) refl
+
       pub first-no-nan : T (not (isNan (p .re)))
-      first-no-nan = no-nan (p .re) (sampled .bounded p (is ∙ ap element e) .re .number)
+      first-no-nan = no-nan _ _ (p .re) (sampled .pair p (is ∙ ap element e) .re .bound)
 
       pub second-no-nan : T (not (isNan (p .im)))
-      second-no-nan = no-nan (p .im) (sampled .bounded p (is ∙ ap element e) .im .number)
+      second-no-nan = no-nan _ _ (p .im) (sampled .pair p (is ∙ ap element e) .im .bound)

@@ -1,27 +1,38 @@
--- What the promises cite: the public calls that no other crate has, lengths and counts, and the numbers that the functions for C answer
--- with: a number from 0 on, or minus the refusal's number.
+-- What the promises cite: the public calls' answers in numbers, by the input, where no other crate has them, and the numbers that the functions for C
+-- answer with: a number from 0 on, or minus the refusal's number.
 use Prim.Native.Nat.{ℕ}
 use mathlib.Core.List.{List, [], _∷_}
 use lib.Dec.{ltb}
 use lib.Ieee.{binary32, toBits}
 use lib.IntN.{ℤ, pos, negℤ}
 use lib.ListN.{getD}
-use Rattle.plan.specs.Answers.{Answer, given, refusedBy}
+use Rattle.plan.specs.Answers.{Answer, given}
 use Rattle.plan.specs.Check.{checkOf, refusedAs, unlessRefused}
+use Rattle.plan.specs.declared.Refusal.the-variants.{Outside, NoElement}
 use Rattle.plan.specs.declared.Plan.{Plan}
 use Rattle.plan.specs.declared.Checked.{Checked}
+use Rattle.plan.specs.declared.Checked.the-variants.{Plan as accepted, Refused as refused}
 use Rattle.base.specs.Choice.{if_then_else_}
+use Rattle.layout.specs.Owners.{ownerNumber, ownerOf}
+use Rattle.layout.specs.Query.{inGrid}
 use Rattle.counts.specs.Counts.{kinds, kindCount}
 use Rattle.payload.specs.Payload.{gridLength, payloadLength}
+use Rattle.sample.specs.Refusal.{noElement}
+use Rattle.sample.specs.Answer.{meaningOf}
+use Rattle.sample.specs.declared.Sample.{Sample}
 use Rattle.sample.specs.declared.Sample.the-variants.{Silence, Phase, At}
 use Rattle.sample.specs.declared.SampleAnswer.{SampleAnswer}
-use Rattle.sample.specs.declared.SampleAnswer.the-variants.{Is as element, Refused as noElement}
+use Rattle.sample.specs.declared.SampleAnswer.the-variants.{Is as element, Refused as noSample}
 use Rattle.mapper.specs.declared.Number.{Number}
 use Rattle.mapper.specs.declared.Number.the-variants.{Is, Refused}
 
 -- ---- a number of an accepted plan, or the plan's refusal
 abbrev pub answerWith : (Plan → ℕ) → Checked → Answer
 answerWith f a = unlessRefused refusedAs (λ (p : Plan). given (f p)) a
+
+-- an accepted plan is 0
+unfoldable pub checkAnswerOf : List ℕ → Answer
+checkAnswerOf w = answerWith (λ p. 0) (checkOf w)
 
 -- "grid not 36×N×S×P bytes"
 unfoldable pub gridLengthOf : List ℕ → Answer
@@ -38,21 +49,33 @@ kindElements w kind p = if ltb kind kinds then kindCount w p kind else 0
 unfoldable pub kindCountOf : List ℕ → ℕ → Answer
 kindCountOf w kind = answerWith (kindElements w kind) (checkOf w)
 
--- the numbers of the calls' enums; an accepted plan is 0
+-- ---- the owner's number, or the plan's refusal, then 8
+unfoldable pub ownerAnswerOf : List ℕ → ℕ → ℕ → ℕ → Answer
+ownerAnswerOf w s k port =
+    unlessRefused refusedAs (λ (p : Plan). if inGrid (p .cell) s k port then given (ownerNumber (ownerOf w p s k)) else refusedAs Outside) (checkOf w)
+
+-- ---- a sample's three numbers: its kind (0 silence, 1 phase, 2 a pair of f32), the phase or the bits of the f32 of I, the bits of the f32 of J
+abbrev pub sampleNumbers : Sample → List ℕ
+sampleNumbers Silence = 0 ∷ 0 ∷ 0 ∷ []
+sampleNumbers (Phase x) = 1 ∷ x ∷ 0 ∷ []
+sampleNumbers (At p) = 2 ∷ toBits binary32 (p .re) ∷ toBits binary32 (p .im) ∷ []
+
+-- number n of the sample of three bytes, from 0 on, or refusal 9
+abbrev pub sampleAnswerOf : ℕ → ℕ → ℕ → ℕ → Answer
+sampleAnswerOf n b i j = if noElement b i j then refusedAs NoElement else given (getD (sampleNumbers (meaningOf b i j)) n 0)
+
+-- ---- the numbers of the calls' enums
+abbrev pub checkedAnswer : Checked → Answer
+checkedAnswer (accepted p) = given 0
+checkedAnswer (refused r) = refusedAs r
+
 abbrev pub numberAnswer : Number → Answer
 numberAnswer (Is n) = given n
 numberAnswer (Refused r) = refusedAs r
 
-abbrev pub checkedAnswer : Checked → Answer
-checkedAnswer a = answerWith (λ p. 0) a
-
--- a sample has three numbers: 0 its kind (0 silence, 1 phase, 2 a pair of f32), 1 the phase or the bits of the f32 of I, and 2 the bits of
--- the f32 of J; three bytes that are no element are refused 9
 abbrev pub sampleAnswer : ℕ → SampleAnswer → Answer
-sampleAnswer n noElement = refusedBy 9
-sampleAnswer n (element Silence) = given 0
-sampleAnswer n (element (Phase x)) = given (getD (1 ∷ x ∷ []) n 0)
-sampleAnswer n (element (At p)) = given (getD (2 ∷ toBits binary32 (p .re) ∷ toBits binary32 (p .im) ∷ []) n 0)
+sampleAnswer n (element s) = given (getD (sampleNumbers s) n 0)
+sampleAnswer n noSample = refusedAs NoElement
 
 -- ---- for C: the number itself, or minus the refusal's
 unfoldable pub inC : Answer → ℤ

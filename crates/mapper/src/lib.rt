@@ -1,5 +1,5 @@
-// THE PUBLIC CALLS, for Rattle and for C. None asks anything of its caller. Each has one equation for its answer and for every byte that it
-// leaves (document 01); the sample has a bound beside it, and read has the record `Reads`, which no two answers meet. The functions for C answer
+// THE PUBLIC CALLS, for Rattle and for C. None asks anything of its caller. Each has one equation for its answer in document 01's numbers and for every byte that
+// it leaves; the sample has its level, gain and bound beside it, and read the record `Reads`, which says the same as its equation. The functions for C answer
 // with a number: a count, a length or a value, or minus the refusal's number; include/mapper.h describes them.
 use build::Built;
 use counted::Counted;
@@ -12,20 +12,22 @@ use sample::Sample;
 use sample::SampleAnswer;
 ghost use mathlib.Core.Path.{_≡_};
 ghost use Prim.Native.Nat.{_<_, _^_};
+ghost use mathlib.Core.List.{[], _∷_};
+ghost use lib.ListN.{getD};
 ghost use mathlib.Core.Bool.{not};
 ghost use lib.Dec.{T};
 ghost use lib.Ieee.{binary32, isNan, toBits};
 ghost use lib.IntN.{pos, negℤ};
-ghost use Rattle.plan.specs.Answers.{Answer};
 ghost use Rattle.plan.specs.Check.{refusalNumber, checkOf};
 ghost use Rattle.plan.specs.declared.Checked.the-variants.{Plan as accepted};
 ghost use Rattle.layout.specs.Query.{ownerQueryOf, ownerAnswer};
-ghost use Rattle.sample.specs.Answer.{sampleOf};
 ghost use Rattle.sample.specs.Promise.{Sampled};
 ghost use Rattle.counted.specs.Gridcount.{gridcountOf};
 ghost use Rattle.build.specs.Build.{builtOf, gridAfter, builtAnswer};
 ghost use Rattle.read.specs.Read.{Reads, readAnswer};
-ghost use Rattle.mapper.specs.Calls.{kindElements, gridLengthOf, payloadLengthOf, kindCountOf, numberAnswer, checkedAnswer, sampleAnswer, inC};
+ghost use Rattle.read.specs.Equation.{readOf, payloadAfter};
+ghost use Rattle.mapper.specs.Calls.{kindElements, checkAnswerOf, gridLengthOf, payloadLengthOf, kindCountOf, ownerAnswerOf, sampleAnswerOf};
+ghost use Rattle.mapper.specs.Calls.{checkedAnswer, numberAnswer, sampleAnswer, inC};
 ghost use Rattle.mapper.specs.Sizes.{Small};
 
 // A length or a count, or the refusal.
@@ -36,7 +38,7 @@ pub enum Number {
 
 // CHECK: the plan that the bytes are, or its refusal.
 pub fn check(plan: &[u8]) -> Checked
-    ensures { λ r. ⌜ r ≡ checkOf (now (plan .entry)) ⌝ }
+    ensures { λ r. ⌜ (r ≡ checkOf (now (plan .entry))) × (checkedAnswer r ≡ checkAnswerOf (now (plan .entry))) ⌝ }
 {
     plan::check(plan)
 }
@@ -92,14 +94,19 @@ pub fn gridcount(input: &[u8]) -> Counted
 
 // OWNER: the owner of a place.
 pub fn owner(plan: &[u8], s: usize, k: usize, port: usize) -> OwnerAnswer
-    ensures { λ r. ⌜ r ≡ ownerQueryOf (now (plan .entry)) s k port ⌝ }
+    ensures { λ r. ⌜ (r ≡ ownerQueryOf (now (plan .entry)) s k port) × (ownerAnswer r ≡ ownerAnswerOf (now (plan .entry)) s k port) ⌝ }
 {
     layout::owner_query(plan, s, k, port)
 }
 
 // SAMPLE: what an element's three bytes mean.
 pub fn sample_at(unit: u8, i: u8, j: u8) -> SampleAnswer
-    ensures { λ r. ⌜ Sampled unit i j r ⌝ }
+    ensures { λ r. ⌜
+        (sampleAnswer 0 r ≡ sampleAnswerOf 0 unit i j)
+        × (sampleAnswer 1 r ≡ sampleAnswerOf 1 unit i j)
+        × (sampleAnswer 2 r ≡ sampleAnswerOf 2 unit i j)
+        × Sampled unit i j r
+        ⌝ }
 {
     sample::sample_at(unit, i, j)
 }
@@ -116,7 +123,11 @@ pub fn build_grid(plan: &[u8], payload: &[u8], grid: &mut [u8]) -> Built
 
 // READ: the payload of a grid.
 pub fn read_grid(plan: &[u8], grid: &[u8], payload: &mut [u8]) -> ReadBack
-    ensures { λ r. ⌜ Reads (now (plan .entry)) (now (grid .entry)) (now (payload .entry)) (readAnswer r) (now (payload .exit)) ⌝ }
+    ensures { λ r. ⌜
+        (readAnswer r ≡ readOf (now (plan .entry)) (now (grid .entry)) (now (payload .entry)))
+        × (now (payload .exit) ≡ payloadAfter (now (plan .entry)) (now (grid .entry)) (now (payload .entry)))
+        × Reads (now (plan .entry)) (now (grid .entry)) (now (payload .entry)) (readAnswer r) (now (payload .exit))
+        ⌝ }
 {
     read::read(plan, grid, payload)
 }
@@ -156,9 +167,34 @@ fn number_in_c(n: Number) -> i64
     }
 }
 
+// The n-th of three numbers, and 0 for a fourth.
+fn nth(n: usize, a: u32, b: u32, c: u32) -> u32
+    ensures { λ r. ⌜ r ≡ getD (a ∷ b ∷ c ∷ []) n 0 ⌝ }
+{
+    if n < 3 {
+        let numbers = [a, b, c];
+        return numbers[n];
+    }
+    0
+}
+
+// Number n of an element's sample, its kind and then its values, or refusal 9.
+fn sample_number(unit: u8, i: u8, j: u8, n: usize) -> i64
+    ensures { λ r. ⌜ r ≡ inC (sampleAnswerOf n unit i j) ⌝ }
+{
+    match sample::sample_at(unit, i, j) {
+        SampleAnswer::Is(s) => match s {
+            Sample::Silence => 0,
+            Sample::Phase(x) => plus(nth(n, 1, x as u32, 0) as usize),
+            Sample::At(p) => plus(nth(n, 2, bits(p.re), bits(p.im)) as usize),
+        },
+        SampleAnswer::Refused => minus(Refusal::NoElement),
+    }
+}
+
 #[no_mangle]
 pub extern "C" fn mapper_check(plan: &[u8]) -> i64
-    ensures { λ r. ⌜ r ≡ inC (checkedAnswer (checkOf (now (plan .entry)))) ⌝ }
+    ensures { λ r. ⌜ r ≡ inC (checkAnswerOf (now (plan .entry))) ⌝ }
 {
     match plan::check(plan) {
         Checked::Plan(_) => 0,
@@ -189,7 +225,10 @@ pub extern "C" fn mapper_count(plan: &[u8], kind: usize) -> i64
 
 #[no_mangle]
 pub extern "C" fn mapper_build(plan: &[u8], payload: &[u8], grid: &mut [u8]) -> i64
-    ensures { λ r. ⌜ (r ≡ inC (builtOf (now (plan .entry)) (now (payload .entry)) (now (grid .entry)))) × (now (grid .exit) ≡ gridAfter (now (plan .entry)) (now (payload .entry)) (now (grid .entry))) ⌝ }
+    ensures { λ r. ⌜
+        (r ≡ inC (builtOf (now (plan .entry)) (now (payload .entry)) (now (grid .entry))))
+        × (now (grid .exit) ≡ gridAfter (now (plan .entry)) (now (payload .entry)) (now (grid .entry)))
+        ⌝ }
 {
     match build::build(plan, payload, grid) {
         Built::Elements(n) => plus(n),
@@ -199,7 +238,11 @@ pub extern "C" fn mapper_build(plan: &[u8], payload: &[u8], grid: &mut [u8]) -> 
 
 #[no_mangle]
 pub extern "C" fn mapper_read(plan: &[u8], grid: &[u8], payload: &mut [u8]) -> i64
-    ensures { λ r. ⌜ ((a : Answer) × (r ≡ inC a) × Reads (now (plan .entry)) (now (grid .entry)) (now (payload .entry)) a (now (payload .exit))) ⌝ }
+    ensures { λ r. ⌜
+        (r ≡ inC (readOf (now (plan .entry)) (now (grid .entry)) (now (payload .entry))))
+        × (now (payload .exit) ≡ payloadAfter (now (plan .entry)) (now (grid .entry)) (now (payload .entry)))
+        × Reads (now (plan .entry)) (now (grid .entry)) (now (payload .entry)) (readOf (now (plan .entry)) (now (grid .entry)) (now (payload .entry))) (now (payload .exit))
+        ⌝ }
 {
     match read::read(plan, grid, payload) {
         ReadBack::Elements(n) => plus(n),
@@ -209,7 +252,7 @@ pub extern "C" fn mapper_read(plan: &[u8], grid: &[u8], payload: &mut [u8]) -> i
 
 #[no_mangle]
 pub extern "C" fn mapper_owner(plan: &[u8], s: usize, k: usize, port: usize) -> i64
-    ensures { λ r. ⌜ r ≡ inC (ownerAnswer (ownerQueryOf (now (plan .entry)) s k port)) ⌝ }
+    ensures { λ r. ⌜ r ≡ inC (ownerAnswerOf (now (plan .entry)) s k port) ⌝ }
 {
     match layout::owner_query(plan, s, k, port) {
         OwnerAnswer::Is(o) => plus(layout::owner_number(o) as usize),
@@ -220,44 +263,23 @@ pub extern "C" fn mapper_owner(plan: &[u8], s: usize, k: usize, port: usize) -> 
 // The kind of an element's sample: 0 silence, 1 phase, 2 a pair of f32.
 #[no_mangle]
 pub extern "C" fn mapper_sample_kind(unit: u8, i: u8, j: u8) -> i64
-    ensures { λ r. ⌜ r ≡ inC (sampleAnswer 0 (sampleOf unit i j)) ⌝ }
+    ensures { λ r. ⌜ r ≡ inC (sampleAnswerOf 0 unit i j) ⌝ }
 {
-    match sample::sample_at(unit, i, j) {
-        SampleAnswer::Is(s) => match s {
-            Sample::Silence => 0,
-            Sample::Phase(_) => 1,
-            Sample::At(_) => 2,
-        },
-        SampleAnswer::Refused => -9,
-    }
+    sample_number(unit, i, j, 0)
 }
 
 // The phase, or the bits of the f32 of I; 0 for silence.
 #[no_mangle]
 pub extern "C" fn mapper_sample_i(unit: u8, i: u8, j: u8) -> i64
-    ensures { λ r. ⌜ r ≡ inC (sampleAnswer 1 (sampleOf unit i j)) ⌝ }
+    ensures { λ r. ⌜ r ≡ inC (sampleAnswerOf 1 unit i j) ⌝ }
 {
-    match sample::sample_at(unit, i, j) {
-        SampleAnswer::Is(s) => match s {
-            Sample::Silence => 0,
-            Sample::Phase(n) => plus(n as usize),
-            Sample::At(p) => plus(bits(p.re) as usize),
-        },
-        SampleAnswer::Refused => -9,
-    }
+    sample_number(unit, i, j, 1)
 }
 
 // The bits of the f32 of J; 0 for silence and for a phase.
 #[no_mangle]
 pub extern "C" fn mapper_sample_j(unit: u8, i: u8, j: u8) -> i64
-    ensures { λ r. ⌜ r ≡ inC (sampleAnswer 2 (sampleOf unit i j)) ⌝ }
+    ensures { λ r. ⌜ r ≡ inC (sampleAnswerOf 2 unit i j) ⌝ }
 {
-    match sample::sample_at(unit, i, j) {
-        SampleAnswer::Is(s) => match s {
-            Sample::Silence => 0,
-            Sample::Phase(_) => 0,
-            Sample::At(p) => plus(bits(p.im) as usize),
-        },
-        SampleAnswer::Refused => -9,
-    }
+    sample_number(unit, i, j, 2)
 }

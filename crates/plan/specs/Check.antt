@@ -18,7 +18,7 @@ use Rattle.plan.specs.declared.Plan.{Plan}
 use Rattle.plan.specs.declared.Command.{Command}
 use Rattle.plan.specs.declared.Command.the-variants.{Cell as cell, Frame as frame, Hi as hi, User as user, End as end, Broken as broken}
 use Rattle.plan.specs.declared.Refusal.{Refusal}
-use Rattle.plan.specs.declared.Refusal.the-variants.{Unreadable, Order, CellField, FrameField, HiField, UserField, Used, Outside, GridLength, PayloadLength, SpareBit, NoPayload}
+use Rattle.plan.specs.declared.Refusal.the-variants.{Unreadable, Order, CellField, FrameField, HiField, UserField, Used, Outside, NoElement, GridLength, PayloadLength, SpareBit, NoPayload}
 use Rattle.plan.specs.declared.Fault.{Fault}
 use Rattle.plan.specs.declared.Fault.the-variants.{Nothing, Is}
 use Rattle.plan.specs.declared.Checked.{Checked}
@@ -27,8 +27,8 @@ use Rattle.plan.specs.declared.Checked.the-variants.{Plan as accepted, R
 -- document 01's numbers: "1 unknown command, or the plan ends before its operands or before END; 2 out of order, or any byte
 -- after END, known command or not; 3 CELL field; 4 FRAME field; 5 HI group or sequence beyond the count, or pair used before;
 -- 6 USER field; 7 RNTI or block used before"; and of the calls above the plan check: "8 element query with k, s or port outside the
--- grid", "10 grid not 36×N×S×P bytes; 11 payload length wrong; 12 a spare bit set (build only); 13 grid made by no payload (read
--- only)". 9 is the sample call's own
+-- grid. 9 (sample call only) three bytes that are no element", "10 grid not 36×N×S×P bytes; 11 payload length wrong; 12 a spare bit
+-- set (build only); 13 grid made by no payload (read only)"
 abbrev pub refusalNumber : Refusal → ℕ
 refusalNumber Unreadable = 1
 refusalNumber Order = 2
@@ -38,6 +38,7 @@ refusalNumber HiField = 5
 refusalNumber UserField = 6
 refusalNumber Used = 7
 refusalNumber Outside = 8
+refusalNumber NoElement = 9
 refusalNumber GridLength = 10
 refusalNumber PayloadLength = 11
 refusalNumber SpareBit = 12

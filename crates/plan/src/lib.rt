@@ -53,7 +53,7 @@ pub enum Command {
     Broken,
 }
 
-// The plan check's refusals 1 to 7, in their order, and those of the calls above it: 8, 10, 11, 12, 13. 9 is the sample call's own.
+// The plan check's refusals 1 to 7, in their order, and those of the calls above it, 8 to 13.
 pub enum Refusal {
     Unreadable,
     Order,
@@ -63,6 +63,7 @@ pub enum Refusal {
     UserField,
     Used,
     Outside,
+    NoElement,
     GridLength,
     PayloadLength,
     SpareBit,
@@ -114,6 +115,7 @@ pub fn number(r: Refusal) -> u8
         Refusal::UserField => 6,
         Refusal::Used => 7,
         Refusal::Outside => 8,
+        Refusal::NoElement => 9,
         Refusal::GridLength => 10,
         Refusal::PayloadLength => 11,
         Refusal::SpareBit => 12,

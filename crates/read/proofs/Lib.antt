@@ -1,7 +1,8 @@
--- Laws that the proofs cite. Made: the test that a payload makes a grid; Answers: the ways to an answer; Once: the promise has no second answer; Parts: the sections as parts of the
--- payload; Turns: what the calls need and leave.
+-- Laws that the proofs cite. Made: the test that a payload makes a grid; Settled: what meets the promise, case by case; Once: the equation alone meets it; Answers: the code's ways
+-- to an answer; Parts: the sections as parts of the payload; Turns: what the calls need and leave.
 mod Made
-mod Answers
+mod Settled
 pub mod Once
+mod Answers
 mod Parts
 mod Turns

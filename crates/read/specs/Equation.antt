@@ -1,5 +1,5 @@
--- For this crate's contract: read's answer and the payload after it, for any input, by an equation. It goes by the payload of a grid
--- (recovery/specs/Recovery.antt); `Reads` (Read.antt) says the same without it, and is what the public call promises.
+-- What the promises cite, and nobody has to believe: read's answer and the payload after it, for any input, by an equation. It goes by the payload of a
+-- grid (recovery/specs/Recovery.antt). `Reads` (Read.antt) stands beside it and says the same without that: proofs/Once.antt.
 use Prim.Native.Nat.{ℕ}
 use mathlib.Core.Bool.{Bool, true, false, _&&_}
 use mathlib.Core.List.{List, [], _∷_}

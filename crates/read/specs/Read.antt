@@ -35,7 +35,7 @@ pub record ReadUnder (w : List ℕ) (p : Plan) (grid before : List ℕ) (a : Ans
       (payload : List ℕ) → AcceptedPayload w p payload → Every (λ (b : ℕ). b < 256) payload → gridOf w p payload ≡ grid
       → length before ≡ payloadLength w p → (a ≡ given (pdschElements w p)) × (after ≡ payload)
 
--- THE PROMISE, for every input. proofs/Once.antt: no two answers meet it
+-- THE PROMISE, for every input. proofs/Once.antt: no two answers meet it, and the equation (Equation.antt) gives the one that does
 pub record Reads (w grid before : List ℕ) (a : Answer) (after : List ℕ) : Type 0 where
   pub first : (r : Refusal) → checkOf w ≡ refused r → a ≡ refusedAs r
   pub under : (p : Plan) → checkOf w ≡ accepted p → ReadUnder w p grid before a after

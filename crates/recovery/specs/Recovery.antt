@@ -1,4 +1,4 @@
--- For inner contracts and laws only: the payload that a grid is built from, read bit by bit where each bit's symbol stands. w is a plan's bytes, p the
+-- For read's equation, inner contracts and laws only: the payload that a grid is built from, read bit by bit where each bit's symbol stands. w is a plan's bytes, p the
 -- plan that the plan check answers with, g a grid. proofs/: read from the grid of an accepted payload, it is that payload.
 use Prim.Native.Nat.{ℕ, zero, suc, _+_, _-_, _*_, _/_, _%_}
 use mathlib.Core.List.{List, [], _∷_, _++_}

@@ -1,9 +1,9 @@
--- Each level of each unit is within one part in 2 ^ 22 of I / √u: one test that antt computes over the table, and the law that turns it into the bound.
--- Assumes nothing.
+-- A level is an f32 exactly, and the sample of each level of each unit is within one part in 2 ^ 22 of I / √u: one test that antt computes over the table,
+-- and the law that turns it into the bound. Assumes nothing.
 use mathlib.Core.Path.{_≡_, refl, sym, ap, _∙_}
 use mathlib.Core.Bool.{Bool, true, false, _&&_, Bool·beq}
 use Prim.Native.Nat.{ℕ, suc, _+_, _-_, _*_, _^_, _≤_, _<_, suc-le-suc}
-use native.Mathlib.Nat.{le-of-eq, mul-one}
+use native.Mathlib.Nat.{le-trans, le-of-eq, mul-one}
 use native.Mathlib.Omega.{arith}
 use lib.Dec.{T, leb, leb→le}
 use lib.IntN.{ℤ, pos, negsuc, natAbs}
@@ -21,18 +21,18 @@ use Rattle.sample.specs.declared.Scale.the-variants.{Levels}
 use Rattle.sample.specs.Units.{rows, scaleOf}
 use Rattle.sample.specs.Answer.{partOf}
 use Rattle.sample.specs.Bound.{Within, Close}
-use Rattle.sample.specs.Promise.{Exact}
+use Rattle.sample.specs.Promise.{Exact, Product}
 use Rattle.sample.proofs.Squares.{square, double, most-by, least-by}
 use Rattle.sample.proofs.Table.{found}
 
 -- ---- a level is an f32 exactly
-whole : (z : ℤ) → natAbs z ≤ 2 ^ 24 → HasValue (ofInt binary32 z) (negative z) (natAbs z) 1
+whole : (z : ℤ) → natAbs z ≤ 2 ^ 24 → Exact z
 unfolding ofInt
 whole (pos n) h = round-whole binary32 false n h
 whole (negsuc n) h = round-whole binary32 true (suc n) h
 
-pub exactly : (z : ℤ) → SFits w8 z → Exact z (ofInt binary32 z)
-exactly z f = record { value = refl; exact = whole z (omega (arith, abs8 z f)) }
+pub exactly : (z : ℤ) → SFits w8 z → Exact z
+exactly z f = whole z (omega (arith, abs8 z f))
 
 -- ---- the test of one sample, w / d in size, and what it says
 abbrev low : ℤ → ℕ
@@ -76,7 +76,6 @@ closed u z (fin s m e) h =
     let b = Bool·beq s (negative z) in
     let q = sized u z (m * up e) (down e) in
     record {
-      number = tt;
       written = written s m e;
       within = λ r a t v. within u z r (m * up e) (down e) a t (down-pos e) (sym (v .0) ∙ same s (negative z) (and-l b q h)) (and-r b q h) (v .1);
     }
@@ -102,7 +101,16 @@ passes : T (every levels rows)
 unfolding mul ofInt ofBits
 passes = tt
 
--- THE BOUND: for the unit of each row and each level z up to its limit
-pub bound : (b : ℕ) (r : UnitRow) (z : ℤ) → scaleOf b ≡ Levels r → natAbs z ≤ r .limit → Close (r .unit) z (partOf (r .gain) z)
+-- the limit of a row is a whole number that an f32 holds
+abbrev held : UnitRow → Bool
+held r = leb (r .limit) (2 ^ 24)
+
+-- THE SAMPLE of each level z up to the limit of its unit's row
+pub sample-of : (b : ℕ) (r : UnitRow) (z : ℤ) → scaleOf b ≡ Levels r → natAbs z ≤ r .limit → Product (r .unit) (r .gain) z (partOf (r .gain) z)
 unfolding scaleOf
-bound b r z e h = closed (r .unit) z (partOf (r .gain) z) (levels-at r (found levels rows passes b r e) z h)
+sample-of b r z e h =
+    record {
+      exact = whole z (le-trans h (leb→le (r .limit) (2 ^ 24) (found held rows tt b r e)));
+      product = refl;
+      bound = closed (r .unit) z (partOf (r .gain) z) (levels-at r (found levels rows passes b r e) z h);
+    }

@@ -1,7 +1,7 @@
 pub mod Table
 pub mod Squares
+pub mod Cases
 pub mod Bounds
 pub mod Nearness
 pub mod Answers
-pub mod Refusals
 pub mod Readings

@@ -15,11 +15,9 @@ use lib.Ieee.Positive.{positive}
 use lib.Ieee.Fits.{and-l, and-r, down-pos}
 use Rattle.base.proofs.Computed.{every}
 use Rattle.sample.specs.declared.UnitRow.{UnitRow}
-use Rattle.sample.specs.declared.Scale.{Scale}
 use Rattle.sample.specs.declared.Scale.the-variants.{Levels}
-use Rattle.sample.specs.Units.{rows, scaleOf, gainOf}
+use Rattle.sample.specs.Units.{rows, scaleOf}
 use Rattle.sample.specs.Bound.{NoNearer, Nearest}
-use Rattle.sample.specs.Promise.{Gained}
 use Rattle.sample.proofs.Squares.{square, double, most-by, least-by, same-by, less-by}
 use Rattle.sample.proofs.Table.{found}
 
@@ -116,7 +114,7 @@ central u (inf s) = false
 central u (fin true m e) = false
 central u (fin false m e) =
     let b = toBits binary32 (fin false m e) in
-    positive (fin false m e) && middles u (2 ^ 23 + b % 2 ^ 23) (150 - b / 2 ^ 23) (m * up e) (down e)
+    fits binary32 (fin false m e) && (positive (fin false m e) && middles u (2 ^ 23 + b % 2 ^ 23) (150 - b / 2 ^ 23) (m * up e) (down e))
 
 none-nearer : (u M k m : ℕ) (e : ℤ) → T (middles u M k (m * up e) (down e)) → (y : Float) → T (fits binary32 y) → (a b t : ℕ) → HasValue (fin false m e) false a (2 ^ t) → HasValue y false b (2 ^ t) → NoNearer u a b t
 none-nearer u M k m e h nan f a b t v w = absurd w
@@ -148,19 +146,18 @@ central-at u (inf s) h = absurd h
 central-at u (fin true m e) h = absurd h
 central-at u (fin false m e) h =
     let b = toBits binary32 (fin false m e) in
+    let f = fits binary32 (fin false m e) in
     let p = positive (fin false m e) in
     let q = middles u (2 ^ 23 + b % 2 ^ 23) (150 - b / 2 ^ 23) (m * up e) (down e) in
-    record { number = and-l p q h; none-nearer = none-nearer u (2 ^ 23 + b % 2 ^ 23) (150 - b / 2 ^ 23) m e (and-r p q h) }
+    let k = and-r f (p && q) h in
+    record { held = and-l f (p && q) h; number = and-l p q k; none-nearer = none-nearer u (2 ^ 23 + b % 2 ^ 23) (150 - b / 2 ^ 23) m e (and-r p q k) }
 
 -- ---- the table
 passes : T (every (λ r. central (r .unit) (r .gain)) rows)
-unfolding ofBits toBits
+unfolding ofBits toBits fits
 passes = tt
 
 -- THE GAIN: of each row
-nearest : (b : ℕ) (r : UnitRow) → scaleOf b ≡ Levels r → Nearest (r .unit) (r .gain)
+pub nearest : (b : ℕ) (r : UnitRow) → scaleOf b ≡ Levels r → Nearest (r .unit) (r .gain)
 unfolding scaleOf
 nearest b r e = central-at (r .unit) (r .gain) (found (λ r. central (r .unit) (r .gain)) rows passes b r e)
-
-pub gained : (b : ℕ) (s : Scale) → scaleOf b ≡ s → Gained b (gainOf s)
-gained b s e = record { value = rw e; nearest = λ r h. let p : s ≡ Levels r = sym e ∙ h in rw p (nearest b r h) }

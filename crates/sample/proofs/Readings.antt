@@ -23,12 +23,14 @@ unfolding scaleOf mul ofInt ofBits
 zeros = refl
 
 silence : sampleOf 0 0 0 ≡ Is Silence
+unfolding scaleOf
 silence = refl
 
 valued : sampleOf 0 0 1 ≡ Refused
 valued = refl
 
 last-phase : sampleOf 63 62 0 ≡ Is (Phase 62)
+unfolding scaleOf
 last-phase = refl
 
 past-phase : sampleOf 63 63 0 ≡ Refused

@@ -1,4 +1,4 @@
--- What the promises cite: gains and samples as whole numbers and their squares (document 01, Samples).
+-- What the promises cite: gains and samples as whole numbers and their squares. Quoted words are document 01's, under Samples.
 -- `HasValue x s a c` says that x is finite, has the sign s (true: below 0), and is exactly a / c in size.
 use Prim.Native.Nat.{ℕ, _+_, _-_, _*_, _^_, _≤_, _<_}
 use mathlib.Core.Path.{_≡_}
@@ -8,7 +8,6 @@ use lib.IntN.{ℤ, natAbs}
 use lib.Ieee.{Float, binary32, fits}
 use lib.Ieee.Exact.{HasValue}
 use lib.Ieee.Positive.{positive}
-use lib.Ieee.Scale.{finite}
 use Rattle.base.specs.Signs.{negative}
 
 -- "For level I and exact sample a/2^t (a whole, with the sign of I): (2^22−1)²I²2^(2t) ≤ 2^44·u·a² ≤ (2^22+1)²I²2^(2t)";
@@ -18,9 +17,8 @@ pub record Within (u : ℕ) (z : ℤ) (s : Bool) (a t : ℕ) : Type 0 where
   pub least : (2 ^ 22 - 1) ^ 2 * natAbs z ^ 2 * 2 ^ (2 * t) ≤ 2 ^ 44 * u * a ^ 2
   pub most : 2 ^ 44 * u * a ^ 2 ≤ (2 ^ 22 + 1) ^ 2 * natAbs z ^ 2 * 2 ^ (2 * t)
 
--- the float x is finite, is some a / 2 ^ t, and however it is written so, that is within the bound
+-- the float x is some a / 2 ^ t, and however it is written so, that is within the bound
 pub record Close (u : ℕ) (z : ℤ) (x : Float) : Type 0 where
-  pub number : T (finite x)
   pub written : (s : Bool) × (a : ℕ) × (t : ℕ) × HasValue x s a (2 ^ t)
   pub within : (s : Bool) (a t : ℕ) → HasValue x s a (2 ^ t) → Within u z s a t
 
@@ -30,7 +28,8 @@ pub record NoNearer (u a b t : ℕ) : Type 0 where
   pub below : b < a → u * (a + b) ^ 2 ≤ 4 * 2 ^ (2 * t)
   pub above : a < b → 4 * 2 ^ (2 * t) ≤ u * (a + b) ^ 2
 
--- g is finite and above 0, and no f32 that is 0 or more lies nearer to 1 / √u. (One below 0 is further than 0.)
+-- g is an f32, finite and above 0, and no f32 that is 0 or more lies nearer to 1 / √u. (One below 0 is further than 0.)
 pub record Nearest (u : ℕ) (g : Float) : Type 0 where
+  pub held : T (fits binary32 g)
   pub number : T (positive g)
   pub none-nearer : (y : Float) → T (fits binary32 y) → (a b t : ℕ) → HasValue g false a (2 ^ t) → HasValue y false b (2 ^ t) → NoNearer u a b t

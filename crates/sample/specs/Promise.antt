@@ -1,5 +1,4 @@
--- What the promises cite: the promises themselves, a record each. `Sampled`, with `Levelled`, is the contract of the public call, `sample_at` here and in `mapper`;
--- `Gained` is that of `gain`, which is public in this crate only, and `Exact` that of an inner function. Quoted words are document 01's, under the heading named.
+-- What the promises cite: the promise of the public call, `sample_at` here and in `mapper`. Quoted words are document 01's, under Samples.
 use Prim.Native.Nat.{ℕ}
 use mathlib.Core.Path.{_≡_}
 use lib.IntN.{ℤ, natAbs}
@@ -13,28 +12,29 @@ use Rattle.sample.specs.declared.Sample.the-variants.{At}
 use Rattle.sample.specs.declared.SampleAnswer.{SampleAnswer}
 use Rattle.sample.specs.declared.SampleAnswer.the-variants.{Is}
 use Rattle.sample.specs.declared.Scale.the-variants.{Levels}
-use Rattle.sample.specs.Units.{scaleOf, gainOf}
-use Rattle.sample.specs.Answer.{sampleOf}
+use Rattle.sample.specs.Units.{scaleOf}
+use Rattle.sample.specs.Answer.{partOf, sampleOf}
 use Rattle.sample.specs.Bound.{Close, Nearest}
 
--- Samples: "A level becomes f32 exactly": the whole number, with its sign
-pub record Exact (z : ℤ) (r : Float) : Type 0 where
-  pub value : r ≡ ofInt binary32 z
-  pub exact : HasValue r (negative z) (natAbs z) 1
+-- "A level becomes f32 exactly": the f32 of the whole number z has its sign and its size
+abbrev pub Exact : ℤ → Type 0
+Exact z = HasValue (ofInt binary32 z) (negative z) (natAbs z) 1
 
--- Samples: "the gain is the f32 nearest 1/√u"; u is the unit, not its byte
-pub record Gained (b : ℕ) (r : Float) : Type 0 where
-  pub value : r ≡ gainOf (scaleOf b)
-  pub nearest : (w : UnitRow) → scaleOf b ≡ Levels w → Nearest (w .unit) r
+-- x is the sample of the level z: "A level becomes f32 exactly, times a gain, rounded once", and within the bound of z / √u
+pub record Product (u : ℕ) (gain : Float) (z : ℤ) (x : Float) : Type 0 where
+  pub exact : Exact z
+  pub product : x ≡ partOf gain z
+  pub bound : Close u z x
 
--- x and y are samples of the levels I and J of the byte's unit u: finite, and within the bound of I / √u and J / √u
+-- x and y are the samples of the levels I and J of a byte's unit u: "the gain is the f32 nearest 1/√u, shown by whole-number squares"
 pub record Levelled (b : ℕ) (i j : ℤ) (x y : Float) : Type 0 where
   pub row : UnitRow
   pub known : scaleOf b ≡ Levels row
-  pub re : Close (row .unit) i x
-  pub im : Close (row .unit) j y
+  pub nearest : Nearest (row .unit) (row .gain)
+  pub re : Product (row .unit) (row .gain) i x
+  pub im : Product (row .unit) (row .gain) j y
 
--- The answer is `sampleOf`'s, and a pair of f32 is always within the bound.
+-- The answer is `sampleOf`'s, and a pair of f32 is always such a pair of products.
 pub record Sampled (b i j : ℕ) (r : SampleAnswer) : Type 0 where
   pub answer : r ≡ sampleOf b i j
-  pub bounded : (p : Point) → r ≡ Is (At p) → Levelled b (signedOf i) (signedOf j) (p .re) (p .im)
+  pub pair : (p : Point) → r ≡ Is (At p) → Levelled b (signedOf i) (signedOf j) (p .re) (p .im)

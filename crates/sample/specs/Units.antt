@@ -15,7 +15,7 @@ abbrev pub unitRow : ℕ → ℕ → ℕ → ℕ → UnitRow
 unitRow b u l bits = record { byte = b; unit = u; limit = l; gain = ofBits binary32 bits }
 
 -- Document 01, Grid: "Units: 1, 2, 4, 10, 20, 42, 84", each its own byte. Refusals, 9: no "level beyond ±8", the same for each of them.
--- Samples: "the gain is the f32 nearest 1/√u", which `Gained` of Promise says of each row.
+-- Samples: "the gain is the f32 nearest 1/√u", which `Levelled` of Promise says of the row of every sample.
 abbrev pub rows : List UnitRow
 rows =
     unitRow 1 1 8 0x3f80_0000

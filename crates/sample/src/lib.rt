@@ -2,10 +2,12 @@
 // A level I of unit u stands for I / √u: I as an f32, exactly, times the gain, the f32 nearest 1 / √u, rounded once.
 ghost use mathlib.Core.Path.{_≡_};
 ghost use lib.IntN.{natAbs};
+ghost use lib.Ieee.{binary32, ofInt};
 ghost use Rattle.base.specs.Bytes.{signedOf};
 ghost use Rattle.sample.specs.Units.{scaleOf};
-ghost use Rattle.sample.specs.Answer.{partOf, pointOf, silentOf, phaseOf, scaledOf};
-ghost use Rattle.sample.specs.Promise.{Exact, Gained, Sampled};
+ghost use Rattle.sample.specs.Answer.{partOf, pointOf};
+ghost use Rattle.sample.specs.Cases.{silentOf, phaseOf, scaledOf};
+ghost use Rattle.sample.specs.Promise.{Exact, Sampled};
 
 // The pair of f32 of an element's I and J.
 pub struct Point {
@@ -103,16 +105,6 @@ fn scale_of(unit: u8) -> Scale
     Scale::Nothing
 }
 
-// The gain of a unit byte, and 0 where there is no such unit.
-pub fn gain(unit: u8) -> f32
-    ensures { λ r. ⌜ Gained unit r ⌝ }
-{
-    match scale_of(unit) {
-        Scale::Levels(row) => row.gain,
-        Scale::Nothing => 0.0,
-    }
-}
-
 // The size of a level, from its byte.
 fn size(b: u8) -> u8
     ensures { λ r. ⌜ r ≡ natAbs (signedOf b) ⌝ }
@@ -122,7 +114,7 @@ fn size(b: u8) -> u8
 
 // A level as an f32, exactly.
 fn level(i: i8) -> f32
-    ensures { λ r. ⌜ Exact i r ⌝ }
+    ensures { λ r. ⌜ (r ≡ ofInt binary32 i) × Exact i ⌝ }
 {
     i as f32
 }

@@ -17,12 +17,22 @@ fn bits(x: f32) -> u32 {
     if x != x { 0 } else { f32::to_bits(x) }
 }
 
+// The sample of a level, and the line's end.
+fn level_bits(unit: u8, i: u8) {
+    if let SampleAnswer::Is(s) = sample::sample_at(unit, i, 0) {
+        if let Sample::At(p) = s {
+            print::hex(bits(p.re));
+        }
+    }
+    print::line();
+}
+
+// The gain is the sample of level 1.
 fn gain_line(unit: u8) {
     print::text(b"gain ");
     print::number(unit as u64);
     print::space();
-    print::hex(bits(sample::gain(unit)));
-    print::line();
+    level_bits(unit, 1);
 }
 
 fn level_line(unit: u8, i: u8) {
@@ -31,12 +41,7 @@ fn level_line(unit: u8, i: u8) {
     print::space();
     print::level(base::signed(i));
     print::space();
-    if let SampleAnswer::Is(s) = sample::sample_at(unit, i, 0) {
-        if let Sample::At(p) = s {
-            print::hex(bits(p.re));
-        }
-    }
-    print::line();
+    level_bits(unit, i);
 }
 
 fn gains() {

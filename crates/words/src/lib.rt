@@ -8,8 +8,7 @@ fn say(fd: i32, sentence: &[u8]) {
     io::write_all(fd, sentence);
 }
 
-// What a refusal's number means (document 01, Refusals), written to a file descriptor. 9 is the sample call's own and no refusal
-// of a program.
+// What a refusal's number means (document 01, Refusals), written to a file descriptor.
 pub fn meaning(fd: i32, number: u8) {
     match number {
         1 => say(fd, b"a command is unknown, or the plan ends too early"),
@@ -23,11 +22,12 @@ pub fn meaning(fd: i32, number: u8) {
         6 => say(fd, b"a field of USER is not allowed"),
         7 => say(fd, b"an RNTI or a block was used before"),
         8 => say(fd, b"the subcarrier, symbol or port is outside the grid"),
+        9 => say(fd, b"the three bytes are no element"),
         10 => say(fd, b"the grid's length is not the plan's"),
         11 => say(fd, b"the payload's length is not the plan's"),
         12 => say(fd, b"a spare bit of the payload is set"),
         13 => say(fd, b"no payload makes this grid"),
-        _ => say(fd, b"no refusal of a program has this number"),
+        _ => say(fd, b"no refusal has this number"),
     }
 }
 

@@ -1,5 +1,6 @@
-//! Which definitions a reader must believe: those that given statements reach, name by name. Every word counts, a bound variable
-//! with the name of a definition too, so that rather too much is listed than too little.
+//! Which definitions a reader must believe: those that given statements reach, name by name, and not only through definitions that
+//! another part of the statements determines. Every word counts, a bound variable with the name of a definition too, so that rather
+//! too much is listed than too little.
 
 mod read;
 pub mod report;
@@ -20,6 +21,8 @@ const BUILT_IN: [&str; 5] = ["Type", "Unit", "⊥", "×", "now"];
 pub struct Reached<'a> {
     pub statements: BTreeMap<Place, &'a Text>,
     pub definitions: BTreeMap<Place, &'a Text>,
+    /// What is reached through determined definitions alone, with these.
+    pub determined: BTreeMap<Place, &'a Text>,
     pub kit: BTreeSet<Place>,
     /// Words that stand for nothing known, each with the place where it is.
     pub unknown: BTreeSet<(Place, String)>,
@@ -51,14 +54,9 @@ fn resolve(book: &Book, path: &str, word: &str) -> Vec<Place> {
     operators.chain([word]).filter_map(|name| lookup(book, path, name)).collect()
 }
 
-/// Goes from statements, each the name of a theorem or of a public function, with its file.
-pub fn reach<'a>(book: &'a Book, statements: &[Place]) -> Result<Reached<'a>, String> {
-    let mut reached = Reached::default();
-    for (path, name) in statements {
-        let text = book.get(path).and_then(|module| module.statements.get(name));
-        let text = text.ok_or(format!("{path} has no statement {name}"))?;
-        reached.statements.insert((path.clone(), name.clone()), text);
-    }
+/// Goes from texts to all definitions below them, but not to those that are left out.
+fn follow<'a>(book: &'a Book, statements: BTreeMap<Place, &'a Text>, out: &[Place]) -> Reached<'a> {
+    let mut reached = Reached { statements, ..Reached::default() };
     let mut todo: Vec<(Place, &Text)> = reached.statements.clone().into_iter().collect();
     while let Some((place, text)) = todo.pop() {
         for word in text.names.iter().filter(|word| !BUILT_IN.contains(&word.as_str())) {
@@ -66,7 +64,7 @@ pub fn reach<'a>(book: &'a Book, statements: &[Place]) -> Result<Reached<'a>, St
             if found.is_empty() && !text.bound.contains(word) {
                 reached.unknown.insert((place.clone(), word.clone()));
             }
-            for found in found {
+            for found in found.into_iter().filter(|found| !out.contains(found)) {
                 match book.get(&found.0).map(|module| &module.definitions[&found.1]) {
                     Some(text) if !reached.definitions.contains_key(&found) => {
                         reached.definitions.insert(found.clone(), text);
@@ -80,5 +78,24 @@ pub fn reach<'a>(book: &'a Book, statements: &[Place]) -> Result<Reached<'a>, St
             }
         }
     }
+    reached
+}
+
+/// Goes from statements, each the name of a theorem or of a public function, with its file. Definitions that the statements determine
+/// are left out, and what only they reach; both are told apart.
+pub fn reach<'a>(book: &'a Book, statements: &[Place], determined: &[Place]) -> Result<Reached<'a>, String> {
+    let mut texts = BTreeMap::new();
+    for (path, name) in statements {
+        let text = book.get(path).and_then(|module| module.statements.get(name));
+        texts.insert((path.clone(), name.clone()), text.ok_or(format!("{path} has no statement {name}"))?);
+    }
+    let mut reached = follow(book, texts.clone(), determined);
+    let all = follow(book, texts, &[]);
+    if let Some((path, name)) = determined.iter().find(|place| !all.definitions.contains_key(place)) {
+        return Err(format!("no statement reaches {name} of {path}"));
+    }
+    reached.unknown = all.unknown;
+    reached.determined = all.definitions;
+    reached.determined.retain(|place, _| !reached.definitions.contains_key(place));
     Ok(reached)
 }

@@ -7,14 +7,19 @@ use std::process::ExitCode;
 /// The public calls; each of their contracts is a statement.
 const CALLS: &str = "crates/mapper/src/lib.rt";
 
-/// The theorems that docs/APPROVAL.md calls A, B and C.
-const THEOREMS: [(&str, &str); 5] = [
+/// The theorems that docs/APPROVAL.md calls A, B and C, and that no two answers meet read's promise.
+const THEOREMS: [(&str, &str); 6] = [
     ("crates/layout/proofs/OneOwner.antt", "one-owner"),
     ("crates/counts/proofs/AddUp.antt", "counts-add-up"),
     ("crates/counts/proofs/AddUp.antt", "kinds-add-up"),
     ("crates/subframe/proofs/TwoBuilds.antt", "two-builds"),
     ("crates/build/proofs/Apart.antt", "builds-apart"),
+    ("crates/read/proofs/Once.antt", "once"),
 ];
+
+/// Read's equation: the record `Reads`, which the calls promise beside it, leaves it no choice.
+const DETERMINED: [(&str, &str); 2] =
+    [("crates/read/specs/Equation.antt", "readOf"), ("crates/read/specs/Equation.antt", "payloadAfter")];
 
 /// The definitions, laws and sources below a root.
 fn book(root: &str) -> Result<Book, String> {
@@ -43,9 +48,9 @@ fn run(root: &str, limit: Option<usize>) -> Result<bool, String> {
     let book = book(root)?;
     let calls = &book.get(CALLS).ok_or(format!("no file {CALLS}"))?.statements;
     let calls = calls.keys().map(|name| (CALLS, name.as_str()));
-    let statements: Vec<Place> =
-        calls.chain(THEOREMS).map(|(path, name)| (path.into(), name.into())).collect();
-    let reached = reach(&book, &statements)?;
+    let place = |(path, name): (&str, &str)| -> Place { (path.into(), name.into()) };
+    let statements: Vec<Place> = calls.chain(THEOREMS).map(place).collect();
+    let reached = reach(&book, &statements, &DETERMINED.map(place))?;
     let (total, types) = report::counts(&reached.definitions);
     match limit {
         None => print!("{}", report::table(&book, &reached)),

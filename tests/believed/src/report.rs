@@ -45,12 +45,19 @@ fn rows(book: &Book, texts: &Texts) -> String {
     rows
 }
 
-/// The definitions and their total, then the statements, and the kit's names.
+/// The definitions and their total, those that are determined, then the statements, and the kit's names.
 pub fn table(book: &Book, reached: &Reached) -> String {
-    let Reached { statements, definitions, kit, .. } = reached;
+    let Reached { statements, definitions, determined, kit, .. } = reached;
     let mut table = rows(book, definitions);
     let (lines, types) = counts(definitions);
-    table += &format!("\nTotal: {lines} lines of definitions, and {types} lines of the types that they speak of.\n");
+    table += &format!(
+        "\nTotal: {lines} lines of definitions, and {types} lines of the types that they speak of.\n"
+    );
+    let (lines, types) = counts(determined);
+    table += &format!(
+        "\nDetermined by `Reads`, need not be believed: {lines} lines of definitions, {types} of types.\n\n"
+    );
+    table += &rows(book, determined);
     table += &format!("\nThe statements that cite them, {} lines:\n\n", count(statements));
     table += &rows(book, statements);
     table += "\nNames of the kit, trusted with its checker:\n\n";

@@ -29,7 +29,7 @@ pub fn f(x: &[u8]) -> usize\n    ensures {{ λ r. ⌜ {says} ⌝ }}\n{{\n    oth
 /// The names of the definitions that the call `f` reaches, and how many lines they have.
 fn believed(files: &[(&str, &str)]) -> (Vec<String>, usize) {
     let book = book(files);
-    let reached = reach(&book, &[place(CALLS, "f")]).unwrap();
+    let reached = reach(&book, &[place(CALLS, "f")], &[]).unwrap();
     assert!(reached.unknown.is_empty(), "{:?}", reached.unknown);
     let names = reached.definitions.keys().map(|(_, name)| name.clone()).collect();
     (names, report::count(&reached.definitions))
@@ -166,9 +166,12 @@ last =
     let files = [(CALLS, calls.as_str()), (SPECS, low)];
     assert_eq!(believed(&files), (vec!["Kept".into(), "last".into()], 7));
     let book = book(&files);
-    let table = report::table(&book, &reach(&book, &[place(CALLS, "f")]).unwrap());
+    let table = report::table(&book, &reach(&book, &[place(CALLS, "f")], &[]).unwrap());
     assert!(table.contains("| `crates/low/specs/Low.antt` | 7 | 5-10, 15-18 | `Kept` `last` |\n"), "{table}");
-    assert!(table.contains("\nTotal: 7 lines of definitions, and 0 lines of the types that they speak of.\n"), "{table}");
+    assert!(
+        table.contains("\nTotal: 7 lines of definitions, and 0 lines of the types that they speak of.\n"),
+        "{table}"
+    );
     assert!(table.contains("| `crates/top/src/lib.rt` | 2 | 4-5 | `f` |\n"), "{table}");
     assert!(table.contains("- `Prim.Native.Nat`: `_≤_` `ℕ`\n"), "{table}");
 }
@@ -193,7 +196,7 @@ lemma = small
 ";
     let path = "crates/low/proofs/Law.antt";
     let book = book(&[(path, theorem), (SPECS, low)]);
-    let reached = reach(&book, &[place(path, "law")]).unwrap();
+    let reached = reach(&book, &[place(path, "law")], &[]).unwrap();
     assert!(reached.unknown.is_empty(), "{:?}", reached.unknown);
     assert_eq!(report::count(&reached.statements), 4);
     assert!(reached.definitions.keys().eq(&[place(SPECS, "even"), place(SPECS, "small")]));
@@ -214,10 +217,44 @@ first x =
     later = x
 ";
     let book = book(&[(CALLS, &calls), (SPECS, low)]);
-    let unknown = reach(&book, &[place(CALLS, "f")]).unwrap().unknown;
+    let unknown = reach(&book, &[place(CALLS, "f")], &[]).unwrap().unknown;
     let told: Vec<&str> = unknown.iter().map(|(_, word)| word.as_str()).collect();
     assert_eq!(told, ["missing", "whole", "gone"]);
-    assert!(reach(&book, &[place(CALLS, "other")]).is_err());
+    assert!(reach(&book, &[place(CALLS, "other")], &[]).is_err());
+}
+
+#[test]
+fn what_is_determined_is_told_apart() {
+    let calls = calls(
+        "Rattle.low.specs.Low.{equation, Promise, Answer}",
+        "(r ≡ equation (now (x .entry))) × Promise (now (x .entry)) r",
+    );
+    let low = "
+use Rattle.low.specs.declared.Kind.{Kind}
+pub record Answer : Type 0 where
+  pub value : Type 0
+
+pub record Promise (x r : Answer) : Type 0 where
+  pub kept : Answer
+
+unfoldable pub decoded : Answer → Kind
+decoded x = x
+
+unfoldable pub equation : Answer → Answer
+equation x = decoded x
+";
+    let sources = "pub enum Kind {\n    One,\n}\n";
+    let book = book(&[(CALLS, &calls), (SPECS, low), ("crates/low/src/lib.rt", sources)]);
+    let reached = reach(&book, &[place(CALLS, "f")], &[place(SPECS, "equation")]).unwrap();
+    assert!(reached.unknown.is_empty(), "{:?}", reached.unknown);
+    assert!(reached.definitions.keys().eq(&[place(SPECS, "Answer"), place(SPECS, "Promise")]));
+    let kind = place("crates/low/src/lib.rt", "Kind");
+    assert!(reached.determined.keys().eq(&[place(SPECS, "decoded"), place(SPECS, "equation"), kind]));
+    let table = report::table(&book, &reached);
+    assert!(table.contains("\nTotal: 4 lines of definitions, and 0 lines of the types"), "{table}");
+    let (_, apart) = table.split_once("\nDetermined by `Reads`, need not be believed: 4 lines").unwrap();
+    assert!(apart.contains("| `crates/low/specs/Low.antt` | 4 | 9-13 | `decoded` `equation` |\n"), "{table}");
+    assert!(reach(&book, &[place(CALLS, "f")], &[place(SPECS, "other")]).is_err());
 }
 
 #[test]
@@ -240,6 +277,8 @@ fn this_project() {
     let total: usize = total.split(' ').next().unwrap().parse().unwrap();
     assert_eq!(status, Some(0));
     assert!(total > 800 && table.contains("`dataSymbol`") && table.contains("`Refusal`"));
+    let (believed, apart) = table.split_once("\nDetermined by `Reads`").unwrap();
+    assert!(!believed.contains("`payloadIn`") && apart.contains("`payloadIn`") && apart.contains("`readOf`"));
     let (_, printed) = run(&["check", "0"]);
     assert!(printed.starts_with(&format!("{total} lines of definitions, ")), "{printed}");
     assert_eq!(run(&["check", &total.to_string()]), (Some(0), printed.clone()));

@@ -1,5 +1,5 @@
 -- `mapper::mapper_read` meets its contract: the count of user elements is small. Assumes nothing.
-use Rattle.mapper.proofs.Numbers.{plus-back, minus-back}
+use Rattle.mapper.proofs.Numbers.{reads-of, plus-back, minus-back}
 use Rattle.mapper.proofs.Bounds.{read-fits}
 use mathlib.Core.Path.{sym, ap, _∙_}
 use Rattle.read.specs.Read.{readAnswer}
@@ -15,7 +15,9 @@ enum-known-n : tie.Need-enum-known-n
 enum-known-n c = search needs
 
 plus-requires : tie.Need-plus-requires
-plus-requires c κs = omega (arith, read-fits (c .before .before .before .before .before .before .before .before .before .before .args .plan .now) (c .before .before .before .before .before .before .before .before .before .before .args .payload .now) (c .before .before .before .before .before .before .before .before .before .before .args .grid .now) _ (c .before .before .before .before .before .read .ensures .2) _ (c .before .n .given .1))
+plus-requires c κs =
+    let a = c .before .before .before .before .before .before .before .before .before .before .args in
+    omega (arith, read-fits (a .plan .now) (a .payload .now) (a .grid .now) _ (c .before .before .before .before .before .read .ensures .2) _ (c .before .n .given .1))
 
 enum-known-r : tie.Need-enum-known-r
 enum-known-r c = search needs
@@ -27,13 +29,17 @@ same-length : tie.Need-same-length
 same-length c = search needs
 
 returns : tie.Need-returns
-returns c = (_, plus-back _ _ (c .plus .result) (c .plus .ok) (c .plus .ensures) (ap readAnswer (c .before .before .n .given .1)), c .before .before .before .before .before .before .read .ensures .2)
+returns c =
+    let r = c .before .before .before .before .before .before .read .ensures in
+    (plus-back _ _ (c .plus .result) (c .plus .ok) (c .plus .ensures) (sym (r .0) ∙ ap readAnswer (c .before .before .n .given .1)), r .1, reads-of (r .0) (r .2))
 
 same-length-2 : tie.Need-same-length-2
 same-length-2 c = search needs
 
 returns-2 : tie.Need-returns-2
-returns-2 c = (_, minus-back _ _ (c .minus .result) (c .minus .ok) (c .minus .ensures) (ap readAnswer (c .before .before .r .given .1)), c .before .before .before .before .before .before .read .ensures .2)
+returns-2 c =
+    let r = c .before .before .before .before .before .before .read .ensures in
+    (minus-back _ _ (c .minus .result) (c .minus .ok) (c .minus .ensures) (sym (r .0) ∙ ap readAnswer (c .before .before .r .given .1)), r .1, reads-of (r .0) (r .2))
 
 pub mapper-read-spec : {M : Type 1} → statement M
 mapper-read-spec =

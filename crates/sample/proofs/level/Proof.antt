@@ -9,7 +9,7 @@ int-to-float-result : tie.Need-int-to-float-result
 int-to-float-result c = search needs
 
 returns : tie.Need-returns
-returns c = rw (toZ-ofZ (c .before .fits .i)) (exactly (c .before .args .i) (c .before .fits .i))
+returns c = (rw (toZ-ofZ (c .before .fits .i)), exactly (c .before .args .i) (c .before .fits .i))
 
 pub level-spec : {M : Type 1} → statement M
 level-spec = tie.close (tie.spec int-to-float-result returns)

@@ -12,7 +12,7 @@ level-requires : tie.Need-level-requires
 level-requires c κs = search needs
 
 returns : tie.Need-returns
-returns c = rw (c .level .ensures .value, toZ-ofZ w8 (c .before .signed .result) (record { sfits = c .before .signed .ok }), c .before .signed .ensures)
+returns c = rw (c .level .ensures .0, toZ-ofZ w8 (c .before .signed .result) (record { sfits = c .before .signed .ok }), c .before .signed .ensures)
 
 pub part-spec : {M : Type 1} → statement M
 part-spec = tie.close (tie.spec signed-requires level-requires returns)
