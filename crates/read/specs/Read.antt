@@ -18,8 +18,9 @@ use Rattle.build.specs.Build.{pdschElements}
 use Rattle.read.specs.declared.ReadBack.{ReadBack}
 use Rattle.read.specs.declared.ReadBack.the-variants.{Elements, Refused}
 
--- DEMAND 2, "`read` returns the payload from which building makes that grid, and refuses exactly when no accepted payload makes it": what
--- the answer a, in document 01's numbers, and the payload after it mean under an accepted plan p; `before` is the payload at entry
+-- DEMAND 2: "With an accepted plan and buffers of its lengths, reading returns the payload from which building makes that grid, and
+-- refuses the grid exactly when no accepted payload makes it." What the answer a, in document 01's numbers, and the payload after it
+-- mean under an accepted plan p; `before` is the payload at entry
 pub record ReadUnder (w : List ℕ) (p : Plan) (grid before : List ℕ) (a : Answer) (after : List ℕ) : Type 0 where
   -- 10, then 11, then the count of user elements or 13
   pub answer :
