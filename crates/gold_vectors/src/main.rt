@@ -6,7 +6,7 @@ ghost use Prim.Native.Nat.{ℕ, _≤_};
 fn first_register() {
     let r = gold::pair_at(0, 0);
     print::text(b"x1 ");
-    print::bits(r.x1, 31);
+    show::bits(r.x1, 31);
     print::line();
 }
 
@@ -17,7 +17,7 @@ fn part(c_init: u32, first: usize, r: Registers) {
     print::space();
     print::number(first as u64);
     print::space();
-    print::bits(gold::word(r, 28), 28);
+    show::bits(gold::word(r, 28), 28);
     print::line();
 }
 

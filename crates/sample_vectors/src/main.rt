@@ -21,7 +21,7 @@ fn gain_line(unit: u8) {
     print::text(b"gain ");
     print::number(unit as u64);
     print::space();
-    print::hex(bits(sample::gain(unit)));
+    show::hex(bits(sample::gain(unit)));
     print::line();
 }
 
@@ -29,11 +29,11 @@ fn level_line(unit: u8, i: u8) {
     print::text(b"level ");
     print::number(unit as u64);
     print::space();
-    print::level(base::signed(i));
+    show::level(base::signed(i));
     print::space();
     if let SampleAnswer::Is(s) = sample::sample_at(unit, i, 0) {
         if let Sample::At(p) = s {
-            print::hex(bits(p.re));
+            show::hex(bits(p.re));
         }
     }
     print::line();
