@@ -1,6 +1,6 @@
--- The values of a symbol, two bits each, one after the other from the pair that stands at the first; and that a c_init has 31 bits.
+-- The values of a symbol, two bits each, one after the other in its sequence; and that a c_init has 31 bits.
 -- Assumes nothing.
-use mathlib.Core.Path.{_≡_, refl, sym, ap, ap₂, _∙_}
+use mathlib.Core.Path.{_≡_, refl, ap, _∙_}
 use Prim.Native.Nat.{ℕ, zero, suc, _+_, _-_, _*_, _/_, _%_, _^_, _≤_, _<_}
 use native.Mathlib.Nat.{mul-le-mul}
 use native.Mathlib.Omega.{arith}
@@ -8,23 +8,24 @@ use lib.IntN.{ℤ, pos, natAbs}
 use mir.Syntax.{w8}
 use mir.Val.{toZ, ofZ}
 use mir.Facts.{toZ-ofZ}
-use Rattle.base.specs.declared.Pair.{Pair}
 use Rattle.base.specs.Signs.{turn}
 use Rattle.base.proofs.Fits.{fits-abs, turn-abs}
 use Rattle.base.proofs.Pairs.{pair-of}
-use Rattle.gold.specs.Sequence.{c, bitsFrom}
-use Rattle.gold.proofs.Laws.{bits-two, c-lt}
+use Rattle.gold.specs.Sequence.{c, binary}
+use Rattle.gold.proofs.Binary.{binary-two}
+use Rattle.gold.proofs.Laws.{c-lt}
 use Rattle.crs.specs.Crs.{normalPrefix, crsInit, inWidest, crsValue, wordValue}
 
 -- m values on from the first, at bit 2 (110 - N) + 2 m, stand the two bits of value m
-pub value-at : (prefix C N n l m : ℕ) → N ≤ 110 → wordValue (bitsFrom (crsInit prefix C n l) (2 * (110 - N) + 2 * m) 2) ≡ crsValue prefix C N n l m
+pub value-at : (prefix C N n l m : ℕ) → N ≤ 110 → wordValue (binary (c (crsInit prefix C n l)) (2 * (110 - N) + 2 * m) 2) ≡ crsValue prefix C N n l m
 unfolding wordValue crsValue inWidest
 value-at prefix C N n l m few =
     let init = crsInit prefix C n l in
     let k = 2 * (110 - N) + 2 * m in
     let a : 2 * (110 - N) + 2 * m ≡ 2 * (m + 110 - N) = omega arith in
-    let first : bitsFrom init k 2 / 2 ≡ c init (2 * (m + 110 - N)) = upper (c init k) (c init (k + 1)) (bitsFrom init k 2) (bits-two init k) (c-lt init (k + 1)) ∙ ap (c init) a in
-    let second : bitsFrom init k 2 % 2 ≡ c init (2 * (m + 110 - N) + 1) = lower (c init k) (c init (k + 1)) (bitsFrom init k 2) (bits-two init k) (c-lt init (k + 1)) ∙ ap (λ (i : ℕ). c init (i + 1)) a in
+    let w : binary (c init) k 2 ≡ c init k * 2 + c init (k + 1) = binary-two (c init) k in
+    let first : binary (c init) k 2 / 2 ≡ c init (2 * (m + 110 - N)) = upper (c init k) (c init (k + 1)) (binary (c init) k 2) w (c-lt init (k + 1)) ∙ ap (c init) a in
+    let second : binary (c init) k 2 % 2 ≡ c init (2 * (m + 110 - N) + 1) = lower (c init k) (c init (k + 1)) (binary (c init) k 2) w (c-lt init (k + 1)) ∙ ap (λ (i : ℕ). c init (i + 1)) a in
     pair-of (ap (λ (b : ℕ). turn b (pos 1)) first) (ap (λ (b : ℕ). turn b (pos 1)) second)
   where
     upper : (a b w : ℕ) → w ≡ a * 2 + b → b < 2 → w / 2 ≡ a

@@ -1,12 +1,10 @@
-// Cell-specific reference signals, TS 36.211 6.10.1: the sequence of a symbol and its values.
+// Cell-specific reference signals, TS 36.211 6.10.1: the c_init of a symbol, and a value from two bits of its sequence.
 ghost use mathlib.Core.Path.{_≡_};
-ghost use Prim.Native.Nat.{ℕ, _<_, _≤_, _-_, _*_};
-ghost use Rattle.gold.specs.Sequence.{pairAt};
+ghost use Prim.Native.Nat.{ℕ, _<_, _≤_};
 ghost use Rattle.crs.specs.Crs.{normalPrefix, crsInit, wordValue};
 ghost use Rattle.base.specs.Signs.{turn};
 ghost use lib.IntN.{pos};
 use base::Pair;
-use gold::Registers;
 
 fn n_cp(prefix: u8) -> u32
     ensures { λ r. ⌜ r ≡ normalPrefix prefix ⌝ }
@@ -21,16 +19,6 @@ pub fn c_init(prefix: u8, cell: u16, slot: u8, l: u8) -> u32
 {
     let twice = 2 * (cell as u32);
     1024 * (7 * (slot as u32 + 1) + l as u32 + 1) * (twice + 1) + twice + n_cp(prefix)
-}
-
-// The register pair at the value m = 0 of a symbol: m' = 110 - N, two bits a value. No cell has more than 110 blocks;
-// the plan check gives one of 15, 25, 50, 75, 100.
-pub fn first_pair(prefix: u8, cell: u16, blocks: u8, slot: u8, l: u8) -> Registers
-    requires { ⌜ (cell ≤ 503) × (blocks ≤ 110) × (slot < 20) × (l < 7) ⌝ }
-    ensures { λ r. ⌜ r ≡ pairAt (crsInit prefix cell slot l) (2 * (110 - blocks)) ⌝ }
-{
-    let first = 2 * (110 - base::wide(blocks));
-    gold::pair_at(c_init(prefix, cell, slot, l), first)
 }
 
 fn level(bit: u32) -> i8

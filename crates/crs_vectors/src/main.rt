@@ -1,7 +1,6 @@
 // Prints values of the cell-specific reference signals, to be compared with another implementation's.
 ghost use Prim.Native.Nat.{ℕ, _<_, _≤_};
 use base::Pair;
-use gold::Registers;
 
 // 0 for (1, 1), 1 for (1, -1), 2 for (-1, 1), 3 for (-1, -1).
 fn digit(d: Pair) {
@@ -18,14 +17,15 @@ fn digit(d: Pair) {
     }
 }
 
-// The next values of a symbol.
-fn values(r: Registers, count: u32) {
-    let mut s = r;
-    let mut left = count;
+// The n values of a word of 2n bits of the sequence.
+fn values(word: u32, n: u32)
+    requires { ⌜ n ≤ 14 ⌝ }
+{
+    let mut left = n;
     while 0 < left {
-        digit(crs::value(gold::word(s, 2)));
-        s = gold::advance(s, 2);
         left -= 1;
+        let low = 2 * left;
+        digit(crs::value((word >> low) % 4));
     }
 }
 
@@ -34,23 +34,23 @@ fn field(n: u64) {
     print::space();
 }
 
+// The first twelve values of a symbol and its last four. Value m stands at bit 2(m + 110 - N).
 fn symbol(prefix: u8, blocks: u8, cell: u16, slot: u8, l: u8)
     requires { ⌜ (cell ≤ 503) × (blocks ≤ 110) × (slot < 20) × (l < 7) ⌝ }
 {
+    let c_init = crs::c_init(prefix, cell, slot, l);
+    let first = 2 * (110 - base::wide(blocks));
+    let last = first + 4 * base::wide(blocks) - 8;
     print::text(b"crs ");
     field(prefix as u64);
     field(blocks as u64);
     field(cell as u64);
     field(slot as u64);
     field(l as u64);
-    field(crs::c_init(prefix, cell, slot, l) as u64);
-    let first = crs::first_pair(prefix, cell, blocks, slot, l);
-    values(first, 12);
+    field(c_init as u64);
+    values(gold::word(gold::pair_at(c_init, first), 24), 12);
     print::space();
-    let bits = 4 * base::wide(blocks);
-    if 8 <= bits {
-        values(gold::skip(first, bits - 8), 4);
-    }
+    values(gold::word(gold::pair_at(c_init, last), 8), 4);
     print::line();
 }
 

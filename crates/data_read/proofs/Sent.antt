@@ -15,10 +15,8 @@ use Rattle.gold.specs.Sequence.{binary}
 use Rattle.gold.specs.Steps.{after, outputOf, wordOf as sequenceWord}
 use Rattle.gold.proofs.Binary.{binary-same, binary-split}
 use Rattle.gold.proofs.Laws.{after-after}
-use Rattle.modulation.specs.declared.Demapped.{Demapped}
-use Rattle.modulation.specs.declared.Demapped.the-variants.{Word, NoLevel}
 use Rattle.modulation.specs.Symbols.{Order}
-use Rattle.modulation.specs.Demapping.{demapOf}
+use Rattle.modulation.specs.Demapping.{Demapped, Word, NoLevel, demapOf}
 use Rattle.modulation.proofs.Symbols.{demap-only}
 use Rattle.codeword.specs.Codewords.{scrambled}
 use Rattle.codeword.specs.Streams.{outputs}

@@ -14,9 +14,8 @@ use Rattle.base.proofs.Tables.{set-more}
 use Rattle.gold.specs.declared.Registers.{Registers}
 use Rattle.gold.specs.Steps.{after, wordOf as sequenceWord}
 use Rattle.gold.proofs.Laws.{word-lt}
-use Rattle.modulation.specs.declared.Demapped.the-variants.{Word}
 use Rattle.modulation.specs.Symbols.{Order}
-use Rattle.modulation.specs.Demapping.{isLevel, demapOf}
+use Rattle.modulation.specs.Demapping.{isLevel, Word, demapOf}
 use Rattle.modulation.proofs.Constellation.{known-each}
 use Rattle.precoding.specs.Places.{ownPort}
 use Rattle.grid.specs.Elements.{elementIn}

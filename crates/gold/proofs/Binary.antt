@@ -2,7 +2,7 @@
 use mathlib.Core.Path.{_≡_, refl, sym, ap, _∙_}
 use mathlib.Core.Bool.{Bool, true, false, cond}
 use Prim.Native.Nat.{ℕ, zero, suc, _+_, _*_, _/_, _%_, _^_, _<_}
-use native.Mathlib.Nat.{pow-suc, add-suc, mul-assoc}
+use native.Mathlib.Nat.{pow-suc, add-zero, add-suc, mul-assoc}
 use native.Mathlib.Numerals.{add-one}
 use native.Mathlib.Omega.{arith}
 use lib.Dec.{eqb}
@@ -16,6 +16,11 @@ binary-none x k = refl
 pub binary-more : (x : ℕ → ℕ) (k n : ℕ) → binary x k (n + 1) ≡ binary x k n * 2 + x (k + n)
 unfolding binary
 binary-more x k n = ap (binary x k) (add-one n)
+
+-- two digits
+pub binary-two : (x : ℕ → ℕ) (k : ℕ) → binary x k 2 ≡ x k * 2 + x (k + 1)
+unfolding binary
+binary-two x k = let e : x (k + 0) ≡ x k = ap x (add-zero k) in omega arith
 
 -- the same digits, the same number
 pub binary-same : (x y : ℕ → ℕ) (k l n : ℕ) → ((i : ℕ) → i < n → x (k + i) ≡ y (l + i)) → binary x k n ≡ binary y l n

@@ -48,10 +48,6 @@ unfoldable pub binary : (ℕ → ℕ) → ℕ → ℕ → ℕ
 binary x k zero = 0
 binary x k (suc n) = binary x k n * 2 + x (k + n)
 
--- The word c(k), .., c(k + n - 1) of a c_init.
-unfoldable pub bitsFrom : ℕ → ℕ → ℕ → ℕ
-bitsFrom ci k n = binary (c ci) k n
-
 -- "The register pair" (document 01) of a c_init, where it stands at c(k): the next 31 values of x1 and of x2, each as a number.
 unfoldable pub pairAt : ℕ → ℕ → Registers
 pairAt ci k = record { x1 = binary x1 (k + 1600) 31; x2 = binary (x2 ci) (k + 1600) 31 }

@@ -1,4 +1,4 @@
--- What the promises of `advance`, `skip`, `word` and `next_word` cite: the register pair one step at a time, whatever bits it holds.
+-- For inner contracts only, of `advance`, `skip`, `word` and those above them: the register pair one step at a time, whatever bits it holds.
 -- That a pair which stands at c(k) goes along the sequence is `pair-after` and `pair-word` of proofs/Laws.antt.
 -- A register is the number whose 31 binary digits, the first most significant, are x(n), .., x(n + 30): x(n + i) is bit 30 - i.
 use Prim.Native.Nat.{ℕ, zero, suc, _+_, _*_, _%_, _^_}

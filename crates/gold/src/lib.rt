@@ -2,7 +2,7 @@
 // sequence as a number, the first most significant (bit 30), and so does a word.
 ghost use mathlib.Core.Path.{_≡_};
 ghost use Prim.Native.Nat.{ℕ, _≤_, _-_, _/_, _%_, _^_};
-ghost use Rattle.gold.specs.Sequence.{binary, start2, bitsFrom, pairAt};
+ghost use Rattle.gold.specs.Sequence.{binary, start2, pairAt};
 ghost use Rattle.gold.specs.Steps.{after, wordOf};
 ghost use Rattle.gold.specs.Window.{window, feed1, feed2};
 
@@ -100,7 +100,7 @@ fn mirrored(c: u32) -> u32
 }
 
 // The pair at c(0), 1600 steps on from the start of x1 and x2. Bit 31 of c_init does not count.
-pub fn start(c_init: u32) -> Registers
+fn start(c_init: u32) -> Registers
     ensures { λ r. ⌜ r ≡ pairAt «c_init» 0 ⌝ }
 {
     let first = Registers {
@@ -115,25 +115,4 @@ pub fn pair_at(c_init: u32, first: usize) -> Registers
     ensures { λ r. ⌜ r ≡ pairAt «c_init» first ⌝ }
 {
     skip(start(c_init), first)
-}
-
-// The pair is lent and advanced in place: the thin step over `word` and `advance`. Callers pass a constant or a
-// modulation order for n.
-pub fn next_word(r: &mut Registers, n: u32) -> u32
-    requires { ⌜ (1 ≤ n) × (n ≤ 28) ⌝ }
-    ensures { λ w. ⌜ (w ≡ wordOf (now (r .entry)) n) × (now (r .exit) ≡ after (now (r .entry)) n) ⌝ }
-{
-    let was = *r;
-    *r = advance(was, n);
-    word(was, n)
-}
-
-// c(first), .., c(first + n - 1) as a word, from a pair of its own that it lends. Its parameters are plain, so that its
-// callers need no proof by hand. They pass a constant for n.
-pub fn word_from(c_init: u32, first: usize, n: u32) -> u32
-    requires { ⌜ (1 ≤ n) × (n ≤ 28) ⌝ }
-    ensures { λ w. ⌜ w ≡ bitsFrom «c_init» first n ⌝ }
-{
-    let mut r = pair_at(c_init, first);
-    next_word(&mut r, n)
 }

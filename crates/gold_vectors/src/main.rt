@@ -1,32 +1,37 @@
 // Prints values of the pseudo-random sequence, to be compared with another implementation's.
+use gold::Registers;
 ghost use Prim.Native.Nat.{ℕ, _≤_};
 
 // x1(1600), .., x1(1630): the register of x1 at c(0).
 fn first_register() {
-    let r = gold::start(0);
+    let r = gold::pair_at(0, 0);
     print::text(b"x1 ");
-    print::bits(r.x1, 31);
+    show::bits(r.x1, 31);
     print::line();
 }
 
-// c(first), .., c(first+27) of a c_init.
-fn part(c_init: u32, first: usize) {
+// c(first), .., c(first+27) of a c_init, from the pair at c(first).
+fn part(c_init: u32, first: usize, r: Registers) {
     print::text(b"c ");
     print::number(c_init as u64);
     print::space();
     print::number(first as u64);
     print::space();
-    print::bits(gold::word_from(c_init, first, 28), 28);
+    show::bits(gold::word(r, 28), 28);
     print::line();
 }
 
+// The first four parts one after the other, then two further on.
 fn parts(c_init: u32) {
-    part(c_init, 0);
-    part(c_init, 28);
-    part(c_init, 56);
-    part(c_init, 84);
-    part(c_init, 5000);
-    part(c_init, 20001);
+    let mut r = gold::pair_at(c_init, 0);
+    let mut first: usize = 0;
+    while first < 112 {
+        part(c_init, first, r);
+        r = gold::advance(r, 28);
+        first += 28;
+    }
+    part(c_init, 5000, gold::pair_at(c_init, 5000));
+    part(c_init, 20001, gold::pair_at(c_init, 20001));
 }
 
 // The word c(7), .., c(7+n-1). The loop of `words` goes from 1 to 28.
@@ -36,7 +41,7 @@ fn word(n: u32)
     print::text(b"n ");
     print::number(n as u64);
     print::space();
-    print::number(gold::word_from(1000000, 7, n) as u64);
+    print::number(gold::word(gold::pair_at(1000000, 7), n) as u64);
     print::line();
 }
 

@@ -9,15 +9,11 @@ use Rattle.base.specs.declared.Pair.{Pair}
 use Rattle.base.specs.declared.Element.{Element}
 use Rattle.base.specs.Bytes.{byteOf, signedOf, pairOf}
 use Rattle.base.specs.Pairs.{Small}
-use Rattle.modulation.specs.declared.Demapped.the-variants.{Word}
 use Rattle.modulation.specs.Symbols.{Order, symbolOf}
-use Rattle.modulation.specs.Demapping.{levelBits, isLevel, woven, number, answerOf, demapOf}
+use Rattle.modulation.specs.Demapping.{levelBits, isLevel, woven, number, Word, answerOf, demapOf}
 use Rattle.modulation.specs.Marks.{isSymbol}
 use Rattle.modulation.proofs.Levels.{level-nonzero}
 use Rattle.modulation.proofs.Symbols.{answer-word, demap-symbol, demap-only, order-small}
-
-both : (t u : Bool) → t ≡ true → u ≡ true → t && u ≡ true
-both t u e f = rw (e, f) refl
 
 each : (t u : Bool) → t && u ≡ true → (t ≡ true) × (u ≡ true)
 each true u e = (refl, e)
@@ -30,11 +26,7 @@ is-true false h = absurd h
 is-so : {t : Bool} → t ≡ true → T t
 is-so e = subst T (sym e) tt
 
--- an element's pair is a symbol where both of its bytes are levels
-pub known-both : (q : ℕ) (e : Element) → isLevel (q / 2) (signedOf (e .i)) ≡ true → isLevel (q / 2) (signedOf (e .j)) ≡ true → isSymbol q (pairOf e) ≡ true
-unfolding isSymbol pairOf
-known-both q e ki kj = both (isLevel (q / 2) (signedOf (e .i))) (isLevel (q / 2) (signedOf (e .j))) ki kj
-
+-- where an element's pair is a symbol, both of its bytes are levels
 pub known-each : (q : ℕ) (e : Element) → isSymbol q (pairOf e) ≡ true → (isLevel (q / 2) (signedOf (e .i)) ≡ true) × (isLevel (q / 2) (signedOf (e .j)) ≡ true)
 unfolding isSymbol pairOf
 known-each q e k = each (isLevel (q / 2) (signedOf (e .i))) (isLevel (q / 2) (signedOf (e .j))) k

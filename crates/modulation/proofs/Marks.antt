@@ -1,22 +1,14 @@
 -- A word is the mark of I twice and the mark of J. Assumes nothing.
 use Prim.Native.Nat.{ℕ, zero, suc, _+_, _*_, _/_, _%_, _^_, _≤_, _<_}
 use mathlib.Core.Path.{_≡_, refl, sym, ap, ap₂, _∙_}
-use mathlib.Core.Bool.{Bool, true, false, _&&_}
+use mathlib.Core.Bool.{Bool, true, _&&_}
 use mathlib.Core.List.{List, [], _∷_}
 use native.Mathlib.Nat.{pow-succ', mul-left-comm}
 use native.Mathlib.Omega.{arith}
 use lib.ListN.{length}
 use lib.Pow.{pow-mono}
 use lib.IntN.{ℤ}
-use mir.Syntax.{w8}
-use mir.Val.{SFits, toZ, ofZ}
-use mir.Facts.{toZ-ofZ}
-use Rattle.base.specs.declared.Pair.{Pair}
-use Rattle.base.specs.Bytes.{byteOf, signedOf}
-use Rattle.base.proofs.Bytes.{byte-back}
-use Rattle.base.proofs.Pairs.{pair-of}
-use Rattle.modulation.specs.declared.Demapped.the-variants.{Word, NoLevel}
-use Rattle.modulation.specs.Demapping.{levelBits, isLevel, woven, number, answerOf, demapOf}
+use Rattle.modulation.specs.Demapping.{levelBits, isLevel, woven, number, Word, answerOf, demapOf}
 use Rattle.modulation.specs.Marks.{markOf}
 use Rattle.modulation.proofs.Levels.{bits-length}
 use Rattle.modulation.proofs.Places.{apart}
@@ -52,13 +44,6 @@ number-woven (suc n) (a ∷ x) (b ∷ y) e f =
 both-known : (t u : Bool) (w : ℕ) → t ≡ true → u ≡ true → answerOf (t && u) w ≡ Word w
 both-known t u w e f = rw (e, f) refl
 
-first-unknown : (t u : Bool) (w : ℕ) → t ≡ false → answerOf (t && u) w ≡ NoLevel
-first-unknown t u w e = rw e refl
-
-second-unknown : (t u : Bool) (w : ℕ) → u ≡ false → answerOf (t && u) w ≡ NoLevel
-second-unknown true u w e = rw e refl
-second-unknown false u w e = refl
-
 -- ---- words of q bits
 module _ (q : ℕ) (even : q % 2 ≡ 0) where
   abbrev is : ℤ → Bool
@@ -91,21 +76,3 @@ module _ (q : ℕ) (even : q % 2 ≡ 0) where
 
   pub mark-small : q ≤ 6 → (z : ℤ) → is z ≡ true → (i : ℕ) → i ≡ markOf (q / 2) z → i < 64
   mark-small few z k i e = omega (arith, bits-small few z z k k i i e e)
-
-  -- of a pair of i8, by its bytes
-  module _ (p : Pair) (fi : SFits w8 (p .re)) (fj : SFits w8 (p .im)) (i j : ℕ)
-      (ei : i ≡ byteOf (toZ w8 (ofZ w8 (p .re)))) (ej : j ≡ byteOf (toZ w8 (ofZ w8 (p .im)))) where
-    byte-level : {z : ℤ} {b : ℕ} → SFits w8 z → b ≡ byteOf (toZ w8 (ofZ w8 z)) → signedOf b ≡ z
-    byte-level {z = z} f e = ap signedOf (e ∙ ap byteOf (toZ-ofZ f)) ∙ byte-back z (f .sfits)
-
-    same : demapOf q (record { re = signedOf i; im = signedOf j }) ≡ demapOf q p
-    same = ap (demapOf q) (pair-of (byte-level fi ei) (byte-level fj ej))
-
-    pub word-told : (r : ℕ) → demapOf q (record { re = signedOf i; im = signedOf j }) ≡ Word r → Word r ≡ demapOf q p
-    word-told r e = sym e ∙ same
-
-    pub first-none : is (signedOf i) ≡ false → NoLevel ≡ demapOf q p
-    first-none e = sym (told (signedOf i) (signedOf j) ∙ first-unknown (is (signedOf i)) (is (signedOf j)) _ e) ∙ same
-
-    pub second-none : is (signedOf j) ≡ false → NoLevel ≡ demapOf q p
-    second-none e = sym (told (signedOf i) (signedOf j) ∙ second-unknown (is (signedOf i)) (is (signedOf j)) _ e) ∙ same

@@ -13,10 +13,8 @@ use lib.Pow.{pow-mono}
 use Rattle.base.specs.declared.Pair.{Pair}
 use Rattle.base.specs.Pairs.{Small}
 use Rattle.base.proofs.Pairs.{pair-of}
-use Rattle.modulation.specs.declared.Demapped.{Demapped}
-use Rattle.modulation.specs.declared.Demapped.the-variants.{Word, NoLevel}
 use Rattle.modulation.specs.Symbols.{Order, bitsOf, evens, odds, level, symbolOf}
-use Rattle.modulation.specs.Demapping.{levelBits, isLevel, woven, number, answerOf, demapOf}
+use Rattle.modulation.specs.Demapping.{levelBits, isLevel, woven, number, Demapped, Word, NoLevel, answerOf, demapOf}
 use Rattle.modulation.proofs.Levels.{Bits, level-small, levels, is-level, level-back, bits-length, bits-bits}
 use Rattle.modulation.proofs.Words.{word-length, word-bits, number-word, number-small, word-number}
 use Rattle.modulation.proofs.Places.{evens-bits, odds-bits, evens-length, odds-length, rejoined, Apart, apart, woven-bits}

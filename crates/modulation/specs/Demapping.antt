@@ -7,8 +7,6 @@ use lib.IntN.{ℤ, pos, _-ℤ_}
 use Rattle.base.specs.Signs.{turn, below, eqZ}
 use Rattle.base.specs.declared.Pair.{Pair}
 use Rattle.modulation.specs.Symbols.{level}
-use Rattle.modulation.specs.declared.Demapped.{Demapped}
-use Rattle.modulation.specs.declared.Demapped.the-variants.{Word, NoLevel}
 
 -- the n bits of a level: its sign is the first, and 2 ^ (n - 1) less its size is the level of the others
 unfoldable pub levelBits : ℕ → ℤ → List ℕ
@@ -30,8 +28,12 @@ unfoldable pub number : ℕ → List ℕ → ℕ
 number base [] = 0
 number base (b ∷ bs) = b * base ^ length bs + number base bs
 
--- The cases of an answer. `Word w`: the bits b0, b1, .. as the number w, most significant first.
+-- What a level pair stands for. `Word w`: the bits b0, b1, .. as the number w, most significant first.
 -- `NoLevel`: no bits have the levels; a grid with such an element is "made by no payload" (13).
+pub data Demapped : Type 0 where
+  Word : ℕ → Demapped
+  NoLevel : Demapped
+
 abbrev pub answerOf : Bool → ℕ → Demapped
 answerOf true w = Word w
 answerOf false w = NoLevel

@@ -8,7 +8,6 @@ use lib.Dec.{eqb}
 use lib.IntN.{ℤ, pos, _-ℤ_}
 use Rattle.base.specs.Signs.{turn}
 use Rattle.base.specs.Digits.{dig}
-use Rattle.base.specs.Pairs.{turned}
 use Rattle.base.specs.declared.Pair.{Pair}
 
 -- "modulation Q u8 (2, 4, 6 bits)": QPSK, 16QAM, 64QAM
@@ -52,7 +51,3 @@ unitIn (r ∷ rs) q = cond (eqb q (r .0)) (r .1) (unitIn rs q)
 -- the unit of an order, and 0 of no order
 unfoldable pub unitOf : ℕ → ℕ
 unitOf q = unitIn units q
-
--- 7.1.1 in unit 2: (1, 1) for 0 and (-1, -1) for 1
-unfoldable pub bpskOf : ℕ → Pair
-bpskOf b = turned b (record { re = pos 1; im = pos 1 })

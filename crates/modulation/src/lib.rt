@@ -4,16 +4,9 @@ ghost use mathlib.Core.Path.{_≡_};
 ghost use mathlib.Core.Bool.{true};
 ghost use Prim.Native.Nat.{_-_, _/_, _<_, _^_};
 ghost use Rattle.base.specs.Bytes.{signedOf};
-ghost use Rattle.modulation.specs.Symbols.{Order, symbolOf, unitOf, bpskOf};
-ghost use Rattle.modulation.specs.Demapping.{isLevel, demapOf};
+ghost use Rattle.modulation.specs.Symbols.{Order, symbolOf, unitOf};
+ghost use Rattle.modulation.specs.Demapping.{isLevel, Word, demapOf};
 ghost use Rattle.modulation.specs.Marks.{markOf, marksOf};
-ghost use Rattle.modulation.specs.declared.Demapped.the-variants.{Word};
-
-// What a level pair stands for: its bits as a number, most significant first, or nothing.
-pub enum Demapped {
-    Word(u32),
-    NoLevel,
-}
 
 // The levels of an order: I by the word without its last bit, J by the word without its first.
 const QPSK: [i8; 2] = [1, -1];
@@ -140,19 +133,6 @@ pub fn bits(q: u32, i: u8, j: u8) -> u32
     2 * mark(q, i) + mark(q, j)
 }
 
-// The bits of a symbol, of which any pair may be asked. The order is that of `symbol`.
-pub fn word(q: u32, d: Pair) -> Demapped
-    requires { ⌜ Order q ⌝ }
-    ensures { λ r. ⌜ r ≡ demapOf q d ⌝ }
-{
-    let i = base::byte_of(d.re);
-    let j = base::byte_of(d.im);
-    if known(q, i) && known(q, j) {
-        return Demapped::Word(bits(q, i, j));
-    }
-    Demapped::NoLevel
-}
-
 // The unit of an order, and 0 of no order.
 pub fn unit(q: u32) -> u8
     ensures { λ r. ⌜ r ≡ unitOf q ⌝ }
@@ -163,11 +143,4 @@ pub fn unit(q: u32) -> u8
         6 => 42,
         _ => 0,
     }
-}
-
-// The symbol of one bit, in unit 2.
-pub fn bpsk(b: u8) -> Pair
-    ensures { λ r. ⌜ r ≡ bpskOf b ⌝ }
-{
-    base::turned(b, Pair { re: 1, im: 1 })
 }

@@ -1,6 +1,5 @@
-// Prints every symbol of every order, what each level pair near 0 stands for, and BPSK.
+// Prints every symbol of every order, and what each level pair near 0 stands for.
 use base::Pair;
-use modulation::Demapped;
 ghost use Rattle.modulation.specs.Symbols.{Order};
 
 // A line: what is printed, and the order.
@@ -17,7 +16,7 @@ fn map_line(q: u32, w: u32)
     start(b"map", q);
     print::number(w as u64);
     print::space();
-    print::pair(modulation::symbol(q, w));
+    show::pair(modulation::symbol(q, w));
     print::space();
     print::number(modulation::unit(q) as u64);
     print::line();
@@ -31,54 +30,49 @@ fn map_lines(q: u32, words: u32)
     }
 }
 
-fn back_line(q: u32, d: Pair)
+// The bits of the levels with the bytes i and j, which are asked for only where both are levels of the order.
+fn word(q: u32, i: u8, j: u8)
+    requires { ⌜ Order q ⌝ }
+{
+    if modulation::known(q, i) && modulation::known(q, j) {
+        print::number(modulation::bits(q, i, j) as u64);
+        return;
+    }
+    print::text(b"none");
+}
+
+fn back_line(q: u32, i: u8, j: u8)
     requires { ⌜ Order q ⌝ }
 {
     start(b"back", q);
-    print::pair(d);
+    show::pair(Pair {
+        re: base::signed(i),
+        im: base::signed(j),
+    });
     print::space();
-    match modulation::word(q, d) {
-        Demapped::Word(w) => print::number(w as u64),
-        Demapped::NoLevel => print::text(b"none"),
-    }
+    word(q, i, j);
     print::line();
 }
 
-// The levels -8, .., 8 for n = 0, .., 16.
-fn level(n: u8) -> i8 {
-    if n < 8 {
-        base::signed(248 + n)
-    } else {
-        base::signed(n - 8)
-    }
+// The byte of the levels -8, .., 8 for n = 0, .., 16.
+fn level(n: u8) -> u8 {
+    if n < 8 { 248 + n } else { n - 8 }
 }
 
 fn back_row(q: u32, i: u8)
     requires { ⌜ Order q ⌝ }
 {
-    for j in 0..17 {
-        back_line(
-            q,
-            Pair {
-                re: level(i),
-                im: level(j),
-            },
-        );
+    for n in 0..17 {
+        back_line(q, i, level(n));
     }
 }
 
 fn back_lines(q: u32)
     requires { ⌜ Order q ⌝ }
 {
-    for i in 0..17 {
-        back_row(q, i);
+    for n in 0..17 {
+        back_row(q, level(n));
     }
-}
-
-fn bpsk_line(b: u8) {
-    start(b"bpsk", b as u32);
-    print::pair(modulation::bpsk(b));
-    print::line();
 }
 
 fn main() {
@@ -88,6 +82,4 @@ fn main() {
     back_lines(2);
     back_lines(4);
     back_lines(6);
-    bpsk_line(0);
-    bpsk_line(1);
 }

@@ -131,7 +131,7 @@ fn print_sums(sums: [Pair; 12]) {
     while i < 12 {
         let d = sums[i];
         print::space();
-        print::pair(d);
+        show::pair(d);
         i += 1;
     }
     print::line();
@@ -160,7 +160,7 @@ fn print_bits(a: [Pair; 12], b: [Pair; 12], l: usize, w: u32, plan: &[u8], count
     while k < count {
         let h = plan::hi_at(plan, from);
         print::space();
-        print::digit(bit(a, b, l, w, h) as u32);
+        print::number(bit(a, b, l, w, h) as u64);
         from = plan::next_at(plan, from);
         k += 1;
     }
@@ -173,7 +173,7 @@ fn print_head(prefix: u64, k: u64, w: u32) {
     print::space();
     print::number(k);
     print::space();
-    print::bits(w, 12);
+    show::bits(w, 12);
     print::line();
 }
 

@@ -1,20 +1,22 @@
 // Prints what each port sends for known symbols, with transmit diversity and in PHICH, to be compared with another
-// implementation.
+// implementation. The places are written into a small grid as build writes them, and the elements read back from it.
 use base::Element;
 use base::Pair;
-ghost use Prim.Native.Nat.{_≤_};
+ghost use mathlib.Core.Path.{_≡_};
+ghost use Prim.Native.Nat.{_≤_, _<_};
 ghost use lib.IntN.{natAbs};
 ghost use Rattle.base.specs.Pairs.{Small};
+ghost use Rattle.grid.specs.Writing.{Room};
 
 // n mod 15 as a level from -7 to 7.
-fn level(n: u8) -> i8
+fn level(n: usize) -> i8
     ensures { λ r. ⌜ natAbs r ≤ 127 ⌝ }
 {
     (n % 15) as i8 - 7
 }
 
 // The symbol d(j).
-fn symbol(j: u8) -> Pair
+fn symbol(j: usize) -> Pair
     ensures { λ r. ⌜ Small 127 r ⌝ }
 {
     let n = j % 15;
@@ -24,109 +26,124 @@ fn symbol(j: u8) -> Pair
     }
 }
 
-fn beside(j: u8) -> u8 {
+// The other place of place j's pair.
+fn beside(j: usize) -> usize
+    requires { ⌜ j < 12 ⌝ }
+{
     if j % 2 == 0 { j + 1 } else { j - 1 }
 }
 
-fn field(n: u8) {
+// Which two of four ports send place j.
+fn turn(phich: bool, m: usize, j: usize) -> u8
+    requires { ⌜ (m ≤ 12) × (j < 12) ⌝ }
+{
+    if phich {
+        ((j / 4 + m) % 2) as u8
+    } else {
+        (j / 2 % 2) as u8
+    }
+}
+
+// Every place of a grid.
+fn fill(phich: bool, ports: u8, places: usize, m: usize, unit: u8, grid: &mut [u8])
+    requires { ⌜ Room ports places (now grid) × (places ≤ 12) × (m ≤ 12) × (unit ≤ 127) ⌝ }
+    ensures { λ _. ⌜ Room ports places (now (grid .exit)) ⌝ }
+{
+    grid::silence(grid);
+    let mut j: usize = 0;
+    while j < places {
+        let odd = (j % 2) as u8;
+        let d = symbol(j);
+        let e = symbol(beside(j));
+        grid::put_place(grid, ports, places, j, turn(phich, m, j), unit, odd, d, e);
+        j += 1;
+    }
+}
+
+fn field(n: usize) {
     print::space();
     print::number(n as u64);
 }
 
 fn element(e: Element) {
-    field(e.unit);
+    field(base::wide(e.unit));
     print::space();
-    print::pair(Pair {
+    show::pair(Pair {
         re: base::signed(e.i),
         im: base::signed(e.j),
     });
     print::line();
 }
 
-// The element on a port at place j.
-fn sent(ports: u8, turn: u8, unit: u8, j: u8, port: u8)
-    requires { ⌜ unit ≤ 127 ⌝ }
-{
-    field(port);
-    element(precoding::on_port(ports, turn, unit, j % 2, symbol(j), symbol(beside(j)), port));
-}
-
-fn td_line(ports: u8, m: u8, j: u8, port: u8) {
+// The start of a line: place j of a channel of m, or of PHICH unit m, where it is place j mod 4 of a quad.
+fn name(phich: bool, ports: u8, m: usize, j: usize) {
+    if phich {
+        print::text(b"phich");
+        field(base::wide(ports));
+        field(m);
+        field(j / 4);
+        field(j % 4);
+        return;
+    }
     print::text(b"td");
-    field(ports);
+    field(base::wide(ports));
     field(m);
     field(j);
-    sent(ports, j / 2 % 2, 42, j, port);
 }
 
-// Place j of m.
-fn td_place(ports: u8, m: u8, j: u8) {
+// A line for each port.
+fn place(phich: bool, ports: u8, places: usize, m: usize, j: usize, grid: &[u8])
+    requires { ⌜ Room ports places (now grid) × (j < places) ⌝ }
+{
     let mut port: u8 = 0;
     while port < ports {
-        td_line(ports, m, j, port);
+        name(phich, ports, m, j);
+        field(base::wide(port));
+        element(grid::get(grid, base::wide(port) * places + j));
         port += 1;
     }
 }
 
-fn td(ports: u8, m: u8) {
-    let mut j: u8 = 0;
-    while j < m {
-        td_place(ports, m, j);
+fn lines(phich: bool, ports: u8, places: usize, m: usize, grid: &[u8])
+    requires { ⌜ Room ports places (now grid) ⌝ }
+{
+    let mut j: usize = 0;
+    while j < places {
+        place(phich, ports, places, m, j, grid);
         j += 1;
     }
 }
 
-fn phich_line(ports: u8, m: u8, i: u8, t: u8, port: u8)
-    requires { ⌜ (m ≤ 2) × (i ≤ 2) × (t ≤ 3) ⌝ }
+// A channel of m places in unit 42.
+fn td(ports: u8, m: usize, grid: &mut [u8])
+    requires { ⌜ Room ports m (now grid) × (m ≤ 12) ⌝ }
 {
-    print::text(b"phich");
-    field(ports);
-    field(m);
-    field(i);
-    field(t);
-    sent(ports, (i + m) % 2, 2, 4 * i + t, port);
+    fill(false, ports, m, m, 42, grid);
+    lines(false, ports, m, m, grid);
 }
 
-// Place t of quad i of unit m.
-fn phich_place(ports: u8, m: u8, i: u8, t: u8)
-    requires { ⌜ (m ≤ 2) × (i ≤ 2) × (t ≤ 3) ⌝ }
+// PHICH unit m: twelve places in unit 2.
+fn unit(ports: u8, m: usize, grid: &mut [u8])
+    requires { ⌜ Room ports 12 (now grid) × (m ≤ 2) ⌝ }
 {
-    let mut port: u8 = 0;
-    while port < ports {
-        phich_line(ports, m, i, t, port);
-        port += 1;
-    }
+    fill(true, ports, 12, m, 2, grid);
+    lines(true, ports, 12, m, grid);
 }
 
-fn quad(ports: u8, m: u8, i: u8)
-    requires { ⌜ (m ≤ 2) × (i ≤ 2) ⌝ }
+fn phich(ports: u8, grid: &mut [u8])
+    requires { ⌜ Room ports 12 (now grid) ⌝ }
 {
-    phich_place(ports, m, i, 0);
-    phich_place(ports, m, i, 1);
-    phich_place(ports, m, i, 2);
-    phich_place(ports, m, i, 3);
-}
-
-fn unit(ports: u8, m: u8)
-    requires { ⌜ m ≤ 2 ⌝ }
-{
-    quad(ports, m, 0);
-    quad(ports, m, 1);
-    quad(ports, m, 2);
-}
-
-fn phich(ports: u8) {
-    unit(ports, 0);
-    unit(ports, 1);
-    unit(ports, 2);
+    unit(ports, 0, grid);
+    unit(ports, 1, grid);
+    unit(ports, 2, grid);
 }
 
 fn main() {
-    td(1, 5);
-    td(2, 6);
-    td(4, 8);
-    td(4, 6);
-    phich(1);
-    phich(2);
-    phich(4);
+    td(1, 5, &mut [0; 15]);
+    td(2, 6, &mut [0; 36]);
+    td(4, 8, &mut [0; 96]);
+    td(4, 6, &mut [0; 72]);
+    phich(1, &mut [0; 36]);
+    phich(2, &mut [0; 72]);
+    phich(4, &mut [0; 144]);
 }

@@ -1,4 +1,4 @@
-// What the test programs of build and read share: numbers in their input, the lengths that they lend, and digests of what they see.
+// What the test programs of plan, build and read share: numbers in their input, the lengths that they lend, and digests of what they see.
 use base::wide;
 use plan::Checked;
 ghost use Prim.Native.Nat.{_<_};

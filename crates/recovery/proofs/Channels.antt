@@ -12,9 +12,7 @@ use Rattle.base.specs.Digits.{dig}
 use Rattle.base.specs.Pairs.{Small}
 use Rattle.gold.specs.Sequence.{c, binary}
 use Rattle.gold.proofs.Binary.{binary-lt, binary-digit}
-use Rattle.modulation.specs.declared.Demapped.{Demapped}
-use Rattle.modulation.specs.declared.Demapped.the-variants.{Word}
-use Rattle.modulation.specs.Demapping.{demapOf}
+use Rattle.modulation.specs.Demapping.{Demapped, Word, demapOf}
 use Rattle.modulation.specs.Symbols.{Order, unitOf, symbolOf as wordSymbol}
 use Rattle.modulation.proofs.Symbols.{demap-back}
 use Rattle.codeword.specs.Codewords.{scrambled, dataSymbol}

@@ -8,9 +8,7 @@ use Rattle.base.specs.Bytes.{pairOf}
 use Rattle.base.specs.Digits.{dig}
 use Rattle.base.specs.Tables.{table}
 use Rattle.gold.specs.Sequence.{c, binary}
-use Rattle.modulation.specs.declared.Demapped.{Demapped}
-use Rattle.modulation.specs.declared.Demapped.the-variants.{Word, NoLevel}
-use Rattle.modulation.specs.Demapping.{demapOf}
+use Rattle.modulation.specs.Demapping.{Demapped, Word, NoLevel, demapOf}
 use Rattle.precoding.specs.Places.{ownPort}
 use Rattle.grid.specs.Elements.{elementIn}
 use Rattle.phich.specs.His.{hiNumber}

@@ -21,7 +21,7 @@ fn bits(x: f32) -> u32 {
 fn level_bits(unit: u8, i: u8) {
     if let SampleAnswer::Is(s) = sample::sample_at(unit, i, 0) {
         if let Sample::At(p) = s {
-            print::hex(bits(p.re));
+            show::hex(bits(p.re));
         }
     }
     print::line();
@@ -39,7 +39,7 @@ fn level_line(unit: u8, i: u8) {
     print::text(b"level ");
     print::number(unit as u64);
     print::space();
-    print::level(base::signed(i));
+    show::level(base::signed(i));
     print::space();
     level_bits(unit, i);
 }

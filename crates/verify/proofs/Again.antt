@@ -16,9 +16,7 @@ use Rattle.base.specs.Pairs.{Small}
 use Rattle.base.proofs.Rows.{at-div, at-mod}
 use Rattle.gold.specs.Sequence.{binary}
 use Rattle.gold.proofs.Binary.{binary-lt, binary-digit}
-use Rattle.modulation.specs.declared.Demapped.{Demapped}
-use Rattle.modulation.specs.declared.Demapped.the-variants.{Word}
-use Rattle.modulation.specs.Demapping.{demapOf}
+use Rattle.modulation.specs.Demapping.{Demapped, Word, demapOf}
 use Rattle.modulation.specs.Marks.{isSymbol}
 use Rattle.modulation.specs.Symbols.{Order, symbolOf}
 use Rattle.modulation.proofs.Constellation.{symbol-known, word-of}

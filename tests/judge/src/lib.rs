@@ -15,6 +15,7 @@ pub mod owners;
 pub mod payload;
 pub mod phich;
 pub mod plan;
+pub mod plans;
 pub mod precoding;
 pub mod read;
 pub mod reads;

@@ -1,6 +1,5 @@
 //! The judge's commands.
 
-use judge::{builds, reads};
 use judge::generate::{
     any_plan, damaged_plan, gridcount_case, input, right_payload, spare_set, wrong_length, Random,
 };
@@ -8,6 +7,7 @@ use judge::harness::{gridcount_many, gridcount_one, hex, unhex};
 use judge::owners::{layout, KINDS};
 use judge::payload::Sections;
 use judge::{build, check, gridcount, owner_numbers, read, sample};
+use judge::{builds, plans, reads};
 use std::io::Read;
 use std::process::ExitCode;
 
@@ -20,6 +20,7 @@ judge show HEX                           what the reference says of a plan
 judge expect DIRECTORY [CASES] [SEED]    write inputs, and the digests of all answers to them (200 cases, seed 1)
 judge builds DIRECTORY                   write what build_vectors reads and must print: stdin, stdout
 judge reads DIRECTORY                    write what read_vectors reads and must print: stdin, stdout
+judge plans DIRECTORY                    write what plan_vectors reads and must print: stdin, stdout
 judge samples                            the digest of all samples";
 
 fn number(text: Option<&String>, otherwise: u64) -> Result<u64, String> {
@@ -188,6 +189,10 @@ fn command(arguments: &[String]) -> Result<bool, String> {
         ["reads", directory] => {
             let tests = reads::tests();
             write_vectors(directory, &reads::input(&tests), &reads::output(&tests)).map(|()| true)
+        }
+        ["plans", directory] => {
+            let plans = plans::plans();
+            write_vectors(directory, &plans::input(&plans), &plans::output(&plans)).map(|()| true)
         }
         ["samples"] => {
             samples();

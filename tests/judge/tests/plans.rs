@@ -1,10 +1,12 @@
-//! Every refusal of the plan, and the boundaries beside it.
+//! Every refusal of the plan, and the boundaries beside it; and that all of these are among the plans of
+//! plan_vectors.
 
 use judge::generate::{
     any_commands, any_plan, commands, damaged_plan, Fixed, His, Random, Users, COMBINATIONS, HIS, USERS,
 };
 use judge::harness::unhex;
 use judge::plan::Plan;
+use judge::plans::{bytes, input, output, plans, LISTED};
 use judge::{check, grid_length, gridcount, owner, payload_length, Refusal};
 use std::collections::BTreeSet;
 
@@ -248,4 +250,75 @@ fn gridcount_framing() {
     assert_eq!(gridcount(&[&hi[..], &[0x40]].concat()), "refused 12\n");
     assert_eq!(gridcount(&[&hi[..], &[0x01]].concat()), "refused 12\n");
     assert_eq!(gridcount(&[&hi[..], &[0x80, 0]].concat()), "refused 11\n");
+}
+
+/// The plans of plan_vectors: those with a number worked out by hand.
+#[test]
+fn numbers_by_hand() {
+    for (number, text, why) in LISTED {
+        assert_eq!(check(&bytes(text)).err().unwrap_or(0), number, "{text}: {why}");
+    }
+}
+
+#[test]
+fn how_many_of_each() {
+    let mut counts = [0; 8];
+    for plan in plans() {
+        counts[usize::from(check(&plan).err().unwrap_or(0))] += 1;
+    }
+    assert_eq!(counts, [508, 1596, 807, 1086, 542, 247, 342, 152]);
+    assert_eq!(plans(), plans());
+    // The program's buffer.
+    assert!(input(&plans()).len() < 600_000);
+}
+
+#[test]
+fn every_sort_is_accepted() {
+    let accepted: Vec<Plan> = plans().iter().filter_map(|plan| check(plan).ok()).collect();
+    let kinds: BTreeSet<(usize, bool, usize, usize)> = accepted
+        .iter()
+        .map(|plan| (plan.cell.blocks, plan.cell.extended, plan.cell.ports, plan.cell.g))
+        .collect();
+    assert!(kinds.len() > 80, "{}", kinds.len());
+    let frames: BTreeSet<(usize, usize)> =
+        accepted.iter().map(|plan| (plan.frame.subframe, plan.frame.cfi)).collect();
+    assert!(frames.len() > 25, "{}", frames.len());
+    assert!(accepted.iter().any(|plan| plan.his.len() == 200));
+    assert!(accepted.iter().any(|plan| plan.users.len() == 100));
+    assert!(accepted.iter().any(|plan| !plan.his.is_empty() && plan.users.len() > 1));
+}
+
+/// The input taken apart again, by its description.
+#[test]
+fn the_input() {
+    let (plans, bytes) = (plans(), input(&plans()));
+    let (mut at, mut number) = (0, 0);
+    while at < bytes.len() {
+        let length = bytes[at..at + 4].iter().fold(0, |sum, byte| 256 * sum + usize::from(*byte));
+        assert_eq!(bytes[at + 4..at + 4 + length], plans[number]);
+        (at, number) = (at + 4 + length, number + 1);
+    }
+    assert_eq!(number, plans.len());
+}
+
+#[test]
+fn the_output() {
+    let text = output(&plans());
+    let lines: Vec<&str> = text.lines().collect();
+    assert_eq!(lines.len(), plans().len());
+    assert_eq!(lines[0], "plan 1 0 cell 0 15 0 1 1 frame 0 1 1 hi 0 0 user 1 2 0 15");
+    assert_eq!(lines[3], "plan 4 0 cell 503 100 1 4 12 frame 1023 9 3 hi 49 3 user 65535 6 99 1");
+    assert_eq!(lines[11], "plan 12 1");
+    assert_eq!(lines[106], "plan 107 2");
+}
+
+#[test]
+fn the_command_writes_both() {
+    let directory = std::env::temp_dir().join(format!("judge-{}-plans", std::process::id()));
+    let status =
+        std::process::Command::new(env!("CARGO_BIN_EXE_judge")).arg("plans").arg(&directory).status();
+    assert!(status.unwrap().success());
+    assert_eq!(std::fs::read(directory.join("stdin")).unwrap(), input(&plans()));
+    assert_eq!(std::fs::read(directory.join("stdout")).unwrap(), output(&plans()).into_bytes());
+    std::fs::remove_dir_all(directory).unwrap();
 }

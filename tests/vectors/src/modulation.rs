@@ -116,10 +116,6 @@ pub fn lines() -> Vec<String> {
             }
         }
     }
-    for w in 0..2 {
-        let (i, j) = map(1, w);
-        out.push(format!("bpsk {w} {i},{j}"));
-    }
     out
 }
 

@@ -1,20 +1,26 @@
--- `crs_vectors::values` ends. Assumes nothing.
-use native.Mathlib.Omega.{arith}
+-- `crs_vectors::values` ends, and takes each pair of bits of the word. The measure is the number of values left. Assumes nothing.
+use Prim.Native.Nat.{_≤_}
 use borrow.Author.Needs.{needs}
 use Rattle.crs_vectors.proofs.values.Statement.{statement}
 use Rattle.crs_vectors.proofs.values.Tie as tie
 
 abbrev Inv-loop : tie.InvT-loop
-Inv-loop count s₀ left₀ s left = Unit {0}
+Inv-loop word n left₀ left = left ≤ 14
 
 abbrev μ-loop : tie.MeasureT-loop
-μ-loop count s₀ left₀ s left = left
+μ-loop word n left₀ left = left
 
 loop-holds : tie.Need-loop-holds Inv-loop μ-loop
-loop-holds c = tt
+loop-holds c = search needs
 
-word-requires : tie.Need-word-requires Inv-loop μ-loop
-word-requires c κs = (omega arith, omega arith)
+sub-left : tie.Need-sub-left Inv-loop μ-loop
+sub-left c = search needs
+
+mul-low : tie.Need-mul-low Inv-loop μ-loop
+mul-low c = search needs
+
+shr-value : tie.Need-shr-value Inv-loop μ-loop
+shr-value c = search needs
 
 value-requires : tie.Need-value-requires Inv-loop μ-loop
 value-requires c κs = search needs
@@ -22,17 +28,11 @@ value-requires c κs = search needs
 digit-requires : tie.Need-digit-requires Inv-loop μ-loop
 digit-requires c κs = search needs
 
-advance-requires : tie.Need-advance-requires Inv-loop μ-loop
-advance-requires c κs = (omega arith, omega arith)
-
-sub-left : tie.Need-sub-left Inv-loop μ-loop
-sub-left c = search needs
-
 loop-less : tie.Need-loop-less Inv-loop μ-loop
 loop-less c = search needs
 
 loop-again : tie.Need-loop-again Inv-loop μ-loop
-loop-again c = tt
+loop-again c = search needs
 
 returns : tie.Need-returns Inv-loop μ-loop
 returns c = search needs
@@ -44,11 +44,11 @@ values-spec =
     Inv-loop
     μ-loop
     loop-holds
-    word-requires
+    sub-left
+    mul-low
+    shr-value
     value-requires
     digit-requires
-    advance-requires
-    sub-left
     loop-less
     loop-again
     returns)

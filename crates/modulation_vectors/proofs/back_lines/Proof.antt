@@ -5,19 +5,22 @@ use Rattle.modulation_vectors.proofs.back_lines.Statement.{statement}
 use Rattle.modulation_vectors.proofs.back_lines.Tie as tie
 
 abbrev Inv-loop : tie.InvT-loop
-Inv-loop q i₀ i = i ≤ 17
+Inv-loop q n₀ n = n ≤ 17
 
 abbrev μ-loop : tie.MeasureT-loop
-μ-loop q i₀ i = 17 - i
+μ-loop q n₀ n = 17 - n
 
 loop-holds : tie.Need-loop-holds Inv-loop μ-loop
 loop-holds c = search needs
 
+level-requires : tie.Need-level-requires Inv-loop μ-loop
+level-requires c κs = search needs
+
 back-row-requires : tie.Need-back-row-requires Inv-loop μ-loop
 back-row-requires c κs = search needs
 
-add-i : tie.Need-add-i Inv-loop μ-loop
-add-i c = search needs
+add-n : tie.Need-add-n Inv-loop μ-loop
+add-n c = search needs
 
 loop-less : tie.Need-loop-less Inv-loop μ-loop
 loop-less c = search needs
@@ -31,4 +34,13 @@ returns c = search needs
 pub back-lines-spec : {M : Type 1} → statement M
 back-lines-spec =
     tie.close
-    (tie.spec Inv-loop μ-loop loop-holds back-row-requires add-i loop-less loop-again returns)
+    (tie.spec
+    Inv-loop
+    μ-loop
+    loop-holds
+    level-requires
+    back-row-requires
+    add-n
+    loop-less
+    loop-again
+    returns)

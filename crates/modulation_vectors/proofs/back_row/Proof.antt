@@ -5,10 +5,10 @@ use Rattle.modulation_vectors.proofs.back_row.Statement.{statement}
 use Rattle.modulation_vectors.proofs.back_row.Tie as tie
 
 abbrev Inv-loop : tie.InvT-loop
-Inv-loop q i j₀ j = j ≤ 17
+Inv-loop q i n₀ n = n ≤ 17
 
 abbrev μ-loop : tie.MeasureT-loop
-μ-loop q i j₀ j = 17 - j
+μ-loop q i n₀ n = 17 - n
 
 loop-holds : tie.Need-loop-holds Inv-loop μ-loop
 loop-holds c = search needs
@@ -16,14 +16,11 @@ loop-holds c = search needs
 level-requires : tie.Need-level-requires Inv-loop μ-loop
 level-requires c κs = search needs
 
-level-requires-2 : tie.Need-level-requires-2 Inv-loop μ-loop
-level-requires-2 c κs = search needs
-
 back-line-requires : tie.Need-back-line-requires Inv-loop μ-loop
 back-line-requires c κs = search needs
 
-add-j : tie.Need-add-j Inv-loop μ-loop
-add-j c = search needs
+add-n : tie.Need-add-n Inv-loop μ-loop
+add-n c = search needs
 
 loop-less : tie.Need-loop-less Inv-loop μ-loop
 loop-less c = search needs
@@ -42,9 +39,8 @@ back-row-spec =
     μ-loop
     loop-holds
     level-requires
-    level-requires-2
     back-line-requires
-    add-j
+    add-n
     loop-less
     loop-again
     returns)

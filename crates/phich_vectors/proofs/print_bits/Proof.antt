@@ -28,11 +28,11 @@ space-requires c κs = search needs
 bit-requires : tie.Need-bit-requires Inv-loop μ-loop
 bit-requires c κs = search needs
 
-cast-digit : tie.Need-cast-digit Inv-loop μ-loop
-cast-digit c = search needs
+cast-number : tie.Need-cast-number Inv-loop μ-loop
+cast-number c = search needs
 
-digit-requires : tie.Need-digit-requires Inv-loop μ-loop
-digit-requires c κs = search needs
+number-requires : tie.Need-number-requires Inv-loop μ-loop
+number-requires c κs = search needs
 
 next-at-requires : tie.Need-next-at-requires Inv-loop μ-loop
 next-at-requires c κs = search needs
@@ -64,8 +64,8 @@ print-bits-spec =
     hi-at-requires
     space-requires
     bit-requires
-    cast-digit
-    digit-requires
+    cast-number
+    number-requires
     next-at-requires
     add-k
     loop-less

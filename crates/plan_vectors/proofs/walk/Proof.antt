@@ -1,4 +1,4 @@
--- `plan_vectors::walk` is safe and ends: the position stays within the table. The measure is what is left of it. Assumes nothing.
+-- `plan_vectors::walk` is safe and ends: the position stays within the input, and no more records are counted than bytes. The measure is what is left of it. Assumes nothing.
 use Prim.Native.Nat.{_-_, _≤_}
 use borrow.Author.Needs.{needs}
 use lib.ListN.{length}
@@ -6,31 +6,31 @@ use Rattle.plan_vectors.proofs.walk.Statement.{statement}
 use Rattle.plan_vectors.proofs.walk.Tie as tie
 
 abbrev Inv-loop : tie.InvT-loop
-Inv-loop table at₀ at = at ≤ length table
+Inv-loop input number₀ at₀ number at = (number ≤ at) × (at ≤ length input)
 
 abbrev μ-loop : tie.MeasureT-loop
-μ-loop table at₀ at = length table - at
+μ-loop input number₀ at₀ number at = length input - at
 
 loop-holds : tie.Need-loop-holds Inv-loop μ-loop
 loop-holds c = search needs
 
-sub-if1 : tie.Need-sub-if1 Inv-loop μ-loop
-sub-if1 c = search needs
+add-number : tie.Need-add-number Inv-loop μ-loop
+add-number c = search needs
+
+sub-record : tie.Need-sub-record Inv-loop μ-loop
+sub-record c = search needs
+
+part-record-start : tie.Need-part-record-start Inv-loop μ-loop
+part-record-start c = search needs
+
+part-record-end : tie.Need-part-record-end Inv-loop μ-loop
+part-record-end c = search needs
+
+record-requires : tie.Need-record-requires Inv-loop μ-loop
+record-requires c κs = search needs
 
 returns : tie.Need-returns Inv-loop μ-loop
 returns c = search needs
-
-add-wide : tie.Need-add-wide Inv-loop μ-loop
-add-wide c = search needs
-
-shared-slice-read-wide : tie.Need-shared-slice-read-wide Inv-loop μ-loop
-shared-slice-read-wide c = search needs
-
-wide-requires : tie.Need-wide-requires Inv-loop μ-loop
-wide-requires c κs = search needs
-
-add-start : tie.Need-add-start Inv-loop μ-loop
-add-start c = search needs
 
 sub-if2 : tie.Need-sub-if2 Inv-loop μ-loop
 sub-if2 c = search needs
@@ -38,23 +38,8 @@ sub-if2 c = search needs
 returns-2 : tie.Need-returns-2 Inv-loop μ-loop
 returns-2 c = search needs
 
-add-end : tie.Need-add-end Inv-loop μ-loop
-add-end c = search needs
-
-shared-slice-read-show : tie.Need-shared-slice-read-show Inv-loop μ-loop
-shared-slice-read-show c = search needs
-
-sub-show : tie.Need-sub-show Inv-loop μ-loop
-sub-show c = search needs
-
-part-show-start : tie.Need-part-show-start Inv-loop μ-loop
-part-show-start c = search needs
-
-part-show-end : tie.Need-part-show-end Inv-loop μ-loop
-part-show-end c = search needs
-
-show-requires : tie.Need-show-requires Inv-loop μ-loop
-show-requires c κs = search needs
+add-at : tie.Need-add-at Inv-loop μ-loop
+add-at c = search needs
 
 loop-less : tie.Need-loop-less Inv-loop μ-loop
 loop-less c = search needs
@@ -72,20 +57,15 @@ walk-spec =
     Inv-loop
     μ-loop
     loop-holds
-    sub-if1
+    add-number
+    sub-record
+    part-record-start
+    part-record-end
+    record-requires
     returns
-    add-wide
-    shared-slice-read-wide
-    wide-requires
-    add-start
     sub-if2
     returns-2
-    add-end
-    shared-slice-read-show
-    sub-show
-    part-show-start
-    part-show-end
-    show-requires
+    add-at
     loop-less
     loop-again
     returns-3)
