@@ -19,7 +19,7 @@ use Rattle.plan.proofs.Valid.{valid}
 use Rattle.layout.specs.declared.Owner.the-variants.{Pbch, User as UserOf}
 use Rattle.counts.specs.Users.{userElements}
 use Rattle.places.specs.Places.{placesOf, ownsAt, placeCount}
-use Rattle.places.proofs.Counts.{cnt-most}
+use Rattle.base.proofs.Counts.{cnt-most}
 use Rattle.payload.specs.Sections.{sectionBytes, bytesOf, startOf, span, sectionBits}
 use Rattle.payload.specs.Payload.{pbchBits, userBits, heads, userSections, sections, payloadLength, usersStart}
 use Rattle.payload.specs.Bits.{ownerBits}

@@ -10,7 +10,7 @@ use Rattle.plan.proofs.Counts.{blocks-least, blocks-most, sixths-most, units-mo
 use Rattle.layout.specs.Rules.{formatGroup, isFormat, pcfich, unitHas, phich}
 use Rattle.layout.specs.Owners.{carriers}
 use Rattle.layout.proofs.Units.{units-fit}
-use Rattle.places.specs.Counts.{Listed}
+use Rattle.base.specs.Counts.{Listed}
 use Rattle.places.specs.Quads.{quadPlace, unitGroup, quadsPlace}
 use Rattle.places.specs.Places.{placeNumber, symbolAt, carrierAt, placesOf}
 use Rattle.places.proofs.Numbers.{first-row}

@@ -24,7 +24,7 @@ use Rattle.layout.specs.Owners.{slotOfCell, symbols, carriers, controlSymbols, 
 use Rattle.layout.specs.declared.Owner.the-variants.{Pbch, User as UserOf}
 use Rattle.places.specs.Places.{symbolAt, carrierAt, placesOf, ownsAt, orderOf, indexBy, indexOf}
 use Rattle.places.specs.Halves.{openPlace, openOfFour, inPbch, taken, openTo}
-use Rattle.places.proofs.Counts.{cnt-same}
+use Rattle.base.proofs.Counts.{cnt-same}
 use Rattle.places.proofs.Numbers.{slot-length, symbol-inside}
 use Rattle.places.proofs.Halves.{pbch-half, user-places}
 use Rattle.grid.specs.Writing.{Room}

@@ -17,7 +17,7 @@ use Rattle.plan.specs.declared.Plan.{Plan}
 use Rattle.plan.specs.declared.Checked.the-variants.{Plan as accepted}
 use Rattle.layout.specs.declared.Owner.the-variants.{Pbch, User as UserOf}
 use Rattle.places.specs.Places.{placesOf, ownsAt, placeCount, placeOf, placeBy, orderOf}
-use Rattle.places.proofs.Counts.{cnt-same, nth-same}
+use Rattle.base.proofs.Counts.{cnt-same, nth-same}
 use Rattle.grid.specs.Elements.{elementIn}
 use Rattle.payload.specs.Payload.{pbchBits, userBits}
 use Rattle.subframe.specs.Elements.{pbchFirst, userInit, nthUser}

@@ -10,10 +10,10 @@ use Rattle.plan.proofs.Listed.{and-left, and-right}
 use Rattle.layout.specs.Rules.{formatGroup, isFormat, left, number, unitNumber, takes, unitHas}
 use Rattle.layout.proofs.Groups.{format-small, format-apart, number-is, below-all}
 use Rattle.layout.proofs.Units.{past-of-unit}
-use Rattle.places.specs.Counts.{cnt, nth}
+use Rattle.base.specs.Counts.{cnt, nth}
 use Rattle.places.specs.Quads.{isLeft, unitGroup}
-use Rattle.places.proofs.Counts.{nth-of, nth-is}
-use Rattle.places.proofs.Some.{isSome, some-in, in-some, all-apart}
+use Rattle.base.proofs.Counts.{nth-of, nth-is}
+use Rattle.base.proofs.Some.{isSome, some-in, in-some, all-apart}
 use Rattle.places.proofs.Quads.{Groups}
 
 -- a group left has as its number how many groups left stand below it

@@ -24,10 +24,10 @@ use Rattle.layout.specs.Owners.{symbols, carriers, slotOfCell, controlSymbols, 
 use Rattle.layout.specs.Chain.{syncArea}
 use Rattle.layout.specs.declared.Owner.{Owner}
 use Rattle.layout.specs.declared.Owner.the-variants.{Crs, Pbch, User as UserOf}
-use Rattle.places.specs.Counts.{cnt}
+use Rattle.base.specs.Counts.{cnt}
 use Rattle.places.specs.Places.{placeNumber, symbolAt, carrierAt, placesOf, ownsAt, placeCount, orderOf, ascending, indexBy, indexOf}
 use Rattle.places.specs.Halves.{without, openPlace, openOfFour, signals, inPbch, taken, openTo, before}
-use Rattle.places.proofs.Counts.{cnt-none, cnt-empty, cnt-add, cnt-same, cnt-skip, cnt-all}
+use Rattle.base.proofs.Counts.{cnt-none, cnt-empty, cnt-add, cnt-same, cnt-skip, cnt-all}
 use Rattle.places.proofs.Numbers.{slot-length, owns-at, place-both, carrier-inside}
 use Rattle.places.proofs.Inserted.{one-small}
 use Rattle.places.proofs.Free.{free-late}

@@ -12,10 +12,10 @@ use Rattle.base.proofs.Tests.{clash}
 use Rattle.base.specs.Choice.{one}
 use Rattle.layout.specs.Rules.{formatGroup, isFormat, left, number, unitNumber}
 use Rattle.layout.proofs.Groups.{below, number-is}
-use Rattle.places.specs.Counts.{cnt, nth}
+use Rattle.base.specs.Counts.{cnt, nth}
 use Rattle.places.specs.Quads.{isLeft, unitGroup}
 use Rattle.places.specs.Steps.{belowOf, stepOf}
-use Rattle.places.proofs.Counts.{cnt-le, cnt-own, nth-is}
+use Rattle.base.proofs.Counts.{cnt-le, cnt-own, nth-is}
 use Rattle.places.proofs.Channels.{number-cnt, left-count, format-groups}
 
 pub one-small : (b : Bool) → one b ≤ 1

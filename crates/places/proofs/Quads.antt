@@ -8,9 +8,9 @@ use lib.Dec.{T, eqb, ltb, eqb→eq}
 use Rattle.base.proofs.Computed.{allBelow, below-at}
 use Rattle.plan.proofs.Listed.{and-left, and-right}
 use Rattle.base.specs.Choice.{one}
-use Rattle.places.specs.Counts.{cnt, nth, which, Listed}
+use Rattle.base.specs.Counts.{cnt, nth, which, Listed}
 use Rattle.places.specs.Quads.{keeps, quadPlace, quadIndex, quadsPlace, quadsIndex, InQuads}
-use Rattle.places.proofs.Counts.{cnt-lt, nth-of, nth-is, which-is}
+use Rattle.base.proofs.Counts.{cnt-lt, nth-of, nth-is, which-is}
 
 -- ---- the four places of a group
 four-kept : (v : ℕ) → v < 3 → cnt (keeps v) 6 ≡ 4

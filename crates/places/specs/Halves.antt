@@ -13,7 +13,7 @@ use Rattle.layout.specs.Rules.{slotOf, inSlot, crsAny, pbchArea}
 use Rattle.layout.specs.Owners.{slotOfCell, controlSymbols, userHas}
 use Rattle.layout.specs.Chain.{syncArea}
 use Rattle.layout.specs.declared.Owner.{Owner}
-use Rattle.places.specs.Counts.{cnt}
+use Rattle.base.specs.Counts.{cnt}
 use Rattle.places.specs.Places.{placeNumber, ownsAt}
 
 -- the r-th of six subcarriers of symbol s has no reference signal of the ports below P

@@ -9,7 +9,7 @@ use Rattle.layout.specs.Rules.{formatGroup}
 use Rattle.layout.specs.Owners.{symbols, carriers, owns}
 use Rattle.layout.specs.declared.Owner.{Owner}
 use Rattle.layout.specs.declared.Owner.the-variants.{Crs, Sync, Pbch, Pcfich, Phich, User as UserOf, Held, Idle}
-use Rattle.places.specs.Counts.{cnt, nth, Listed}
+use Rattle.base.specs.Counts.{cnt, nth, Listed}
 use Rattle.places.specs.Quads.{unitGroup, quadsPlace, quadsIndex}
 
 -- document 01's place (s, k) as a number: an element on port p is at ((p×S+s)×12N+k)×3. In ascending numbers k goes first, then s

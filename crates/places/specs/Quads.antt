@@ -5,7 +5,7 @@ use mathlib.Core.Path.{_≡_}
 use mathlib.Core.Bool.{Bool, not}
 use lib.Dec.{eqb}
 use Rattle.layout.specs.Rules.{isFormat, left, unitNumber}
-use Rattle.places.specs.Counts.{cnt, nth, which}
+use Rattle.base.specs.Counts.{cnt, nth, which}
 
 -- "a group's four places skip k with k mod 3 = C mod 3": v is C mod 3
 unfoldable pub keeps : ℕ → ℕ → Bool

@@ -2,18 +2,10 @@
 // functions here are for the channels whose order is not that of the grid: PCFICH and the PHICH units, which go quad by quad.
 ghost use mathlib.Core.Path.{_≡_};
 ghost use Prim.Native.Nat.{ℕ, _+_, _≤_, _<_};
-ghost use lib.Dec.{ltb};
-ghost use Rattle.base.specs.Choice.{one};
 ghost use Rattle.layout.specs.Rules.{formatGroup, left, unitNumber};
 ghost use Rattle.places.specs.Quads.{unitGroup, quadPlace};
 ghost use Rattle.places.specs.Steps.{stepOf};
 use plan::Cell;
-
-fn one_below(a: usize, b: usize) -> usize
-    ensures { λ r. ⌜ (r ≡ one (ltb a b)) × (r ≤ 1) ⌝ }
-{
-    if a < b { 1 } else { 0 }
-}
 
 // The group of PCFICH's quad i. Every accepted plan has 15 blocks or more.
 pub fn format_group(cell: Cell, i: usize) -> usize
@@ -38,9 +30,14 @@ fn step(a: usize, b: usize, c: usize, d: usize, n: usize, t: usize) -> usize
     requires { ⌜ n < 512 ⌝ }
     ensures { λ r. ⌜ (r ≡ stepOf a b c d n t) × (r ≤ 1) ⌝ }
 {
-    one_below(
+    base::one_below(
         t,
-        n + 1 + (one_below(a, t) + one_below(b, t) + one_below(c, t) + one_below(d, t)),
+        n
+            + 1
+            + (base::one_below(a, t)
+                + base::one_below(b, t)
+                + base::one_below(c, t)
+                + base::one_below(d, t)),
     )
 }
 
@@ -68,5 +65,5 @@ pub fn quad_place(cell: Cell, g: usize, j: usize) -> usize
     ensures { λ r. ⌜ r ≡ quadPlace (cell .identity) g j ⌝ }
 {
     let rest = (cell.identity as usize) % 3;
-    6 * g + (3 * (j / 2) + j % 2 + one_below(rest, j % 2 + 1))
+    6 * g + (3 * (j / 2) + j % 2 + base::one_below(rest, j % 2 + 1))
 }

@@ -21,7 +21,7 @@ use Rattle.plan.specs.declared.Checked.the-variants.{Plan as accepted}
 use Rattle.layout.specs.declared.Owner.{Owner}
 use Rattle.layout.specs.declared.Owner.the-variants.{Pbch, User as UserOf}
 use Rattle.places.specs.Places.{placesOf, ownsAt, placeCount, placeOf, placeBy, orderOf, indexOf}
-use Rattle.places.proofs.Counts.{cnt-same, nth-same}
+use Rattle.base.proofs.Counts.{cnt-same, nth-same}
 use Rattle.grid.specs.Elements.{elementIn}
 use Rattle.grid.specs.Writing.{sends, Room}
 use Rattle.compare.specs.declared.Seen.{Seen}
