@@ -40,6 +40,15 @@ pilot-quad c s k e d =
     let n : (k % 3 ≡ C % 3) → ⊥ = eqb-false _ _ d in
     rw (lt-ltb s (slotLength c) (omega arith), eq-eqb s 0 e, ne-eqb (k % 6) ((0 + C) % 6) (λ q. n (omega arith)), ne-eqb (k % 6) ((3 + C) % 6) (λ q. n (omega arith))) refl
 
+-- what the marks use lies in the centre
+pub used-centre : (c : Cell) (k : ℕ) → used c k ≡ true → centre c k ≡ true
+unfolding middle
+used-centre c k e =
+    let N = c .blocks in
+    let a : 6 * N ≤ k + 31 = leb-true _ _ (and-left (leb (6 * N) (k + 31)) (ltb k (6 * N + 31)) e) in
+    let b : k < 6 * N + 31 = ltb-true _ _ (and-right (leb (6 * N) (k + 31)) (ltb k (6 * N + 31)) e) in
+    both (le-leb (6 * N) (k + 36) (omega arith)) (lt-ltb k (6 * N + 36) (omega arith))
+
 -- what a cell and a frame have to satisfy
 pub record Fit (c : Cell) (k : ℕ) : Type 0 where
   pub wide : 6 ≤ c .blocks
@@ -66,13 +75,6 @@ module _ (c : Cell) (f : Frame) (s k : ℕ) (fit : Fit c k) where
   abbrev At : Owner → Type 0
   At o = fixedAt c f s k ≡ o
 
-  centre-used : used c k ≡ true → centre c k ≡ true
-  unfolding middle
-  centre-used e =
-      let a : 6 * N ≤ k + 31 = leb-true _ _ (and-left (leb (6 * N) (k + 31)) (ltb k (6 * N + 31)) e) in
-      let b : k < 6 * N + 31 = ltb-true _ _ (and-right (leb (6 * N) (k + 31)) (ltb k (6 * N + 31)) e) in
-      both (le-leb (6 * N) (k + 36) (omega arith)) (lt-ltb k (6 * N + 36) (omega arith))
-
   at-crs : (p : ℕ) → crs c p s k ≡ true → At (Crs p)
   unfolding crs fixedAt
   at-crs p e =
@@ -95,7 +97,7 @@ module _ (c : Cell) (f : Frame) (s k : ℕ) (fit : Fit c k) where
       let t = and-right (marked f) (eqb (s + 1) L) me in
       let w = and-right (marked f && eqb (s + 1) L) (used c k) e in
       let z : s + 1 ≡ L = eqb-true _ _ t in
-      in-sync (omega arith) (omega arith) m (or-left _ _ t) (centre-used w) ∙ rw (w, t) refl
+      in-sync (omega arith) (omega arith) m (or-left _ _ t) (used-centre c k w) ∙ rw (w, t) refl
 
   at-sss : sss c f s k ≡ true → At (Sync Secondary)
   unfolding sss
@@ -105,7 +107,7 @@ module _ (c : Cell) (f : Frame) (s k : ℕ) (fit : Fit c k) where
       let t = and-right (marked f) (eqb (s + 2) L) me in
       let w = and-right (marked f && eqb (s + 2) L) (used c k) e in
       let z : s + 2 ≡ L = eqb-true _ _ t in
-      in-sync (omega arith) (omega arith) m (or-right (eqb (s + 1) L) _ t) (centre-used w) ∙ rw (w, ne-eqb (s + 1) L (λ x. omega arith)) refl
+      in-sync (omega arith) (omega arith) m (or-right (eqb (s + 1) L) _ t) (used-centre c k w) ∙ rw (w, ne-eqb (s + 1) L (λ x. omega arith)) refl
 
   at-held-sync : heldBySync c f s k ≡ true → At Held
   unfolding heldBySync inSyncArea

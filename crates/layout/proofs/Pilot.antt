@@ -46,7 +46,7 @@ pub slot-length : (c : Cell) → (6 ≤ slotLength c) × (slotLength c ≤ 7)
 unfolding slotLength
 slot-length c = by-test (eqb (c .prefix) 1) (λ t. rw t (omega arith, omega arith)) (λ t. rw t (omega arith, omega arith))
 
-slot-small : (c : Cell) (s : ℕ) → slotOf c s ≤ 1
+pub slot-small : (c : Cell) (s : ℕ) → slotOf c s ≤ 1
 unfolding slotOf
 slot-small c s = by-test (ltb s (slotLength c)) (λ e. rw e (omega arith)) (λ e. rw e (omega arith))
 

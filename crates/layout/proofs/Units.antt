@@ -5,11 +5,12 @@ use mathlib.Core.Path.{_≡_, refl, sym, ap, _∙_}
 use mathlib.Core.Logic.{_⊎_, inl, inr}
 use mathlib.Core.Bool.{Bool, true, false, _&&_, _||_, and-false, or-true}
 use native.Mathlib.Omega.{arith}
-use native.Mathlib.Nat.{mod-lt, mul-le-mul-right, add-assoc}
+use native.Mathlib.Nat.{mod-lt, suc-mul, mul-le-mul-right, add-assoc}
 use lib.Dec.{leb, ltb, eqb}
 use borrow.Author.Tests.{eq-eqb, lt-ltb, le-ltb, le-leb, eqb-true, ltb-true, leb-true}
 use Rattle.base.proofs.Tests.{or-cases, on-if}
-use Rattle.base.proofs.Counts.{nth-test}
+use Rattle.base.specs.Counts.{cnt}
+use Rattle.base.proofs.Counts.{nth-is, nth-test}
 use Rattle.layout.specs.Rules.{left, isLeft, unitNumber, unitGroup, unitHas}
 use Rattle.layout.specs.Chain.{number, takes, unitIn, past}
 use Rattle.plan.specs.Fields.{unitsOf}
@@ -25,7 +26,14 @@ pub units-fit : (c : Cell) → c .sixths ≤ 12 → 6 ≤ c .blocks → unitsOf 
 unfolding unitsOf
 units-fit c l m = omega (arith, mul-le-mul-right (c .blocks) l)
 
--- ---- a unit has a group where the group is left and the unit takes its number
+-- how far the number of quad i lies past the identity's
+past-of-unit : (c : Cell) → 0 < left c → (m i n : ℕ) → m + i * left c / 3 < left c → n ≡ unitNumber c m i → past (c .identity) (left c) n ≡ m + i * left c / 3
+unfolding unitNumber
+past-of-unit c pos m i n l e =
+    let h = left c in
+    ring.past-of (c .identity) h pos (m + i * h / 3) n l (e ∙ ap (λ (x : ℕ). x % h) (add-assoc (c .identity) m (i * h / 3)))
+
+-- ---- the groups of a unit's quads
 pub number-lt : (c : Cell) → 6 ≤ c .blocks → (m i : ℕ) → unitNumber c m i < left c
 unfolding unitNumber
 number-lt c big m i = mod-lt (c .identity + m + i * left c / 3) (omega arith)
@@ -34,17 +42,46 @@ spread : (a x y z : Bool) → a && x || a && y || a && z ≡ a && (x || y || z)
 spread true x y z = refl
 spread false x y z = refl
 
-module _ (c : Cell) (big : 6 ≤ c .blocks) (m t : ℕ) (in-t : t < 2 * c .blocks) where
-  -- t is the group of quad i
-  group-test : (i : ℕ) → eqb t (unitGroup c m i) ≡ isLeft c t && eqb (number c t) (unitNumber c m i)
-  unfolding unitGroup
-  group-test i = nth-test (isLeft c) (2 * c .blocks) (unitNumber c m i) t in-t (omega (arith, number-lt c big m i, left-count c big))
+module _ (c : Cell) (big : 6 ≤ c .blocks) (m : ℕ) where
+  numbered : (i : ℕ) → unitNumber c m i < cnt (isLeft c) (2 * c .blocks)
+  numbered i = omega (arith, number-lt c big m i, left-count c big)
 
-  pub unit-has : (s : ℕ) → unitHas c m s t ≡ isLeft c t && takes c m (number c t)
-  unfolding unitHas takes
-  unit-has s =
-      rw (group-test 0, group-test 1, group-test 2)
-      (spread (isLeft c t) (eqb (number c t) (unitNumber c m 0)) (eqb (number c t) (unitNumber c m 1)) (eqb (number c t) (unitNumber c m 2)))
+  -- the group of quad i is left, and has its number
+  pub unit-left : (i : ℕ) → isLeft c (unitGroup c m i) ≡ true
+  unfolding unitGroup
+  unit-left i = nth-is (isLeft c) (2 * c .blocks) (unitNumber c m i) (numbered i) .0
+
+  pub unit-small : (i : ℕ) → unitGroup c m i < 2 * c .blocks
+  unfolding unitGroup
+  unit-small i = nth-is (isLeft c) (2 * c .blocks) (unitNumber c m i) (numbered i) .1
+
+  unit-number : (i : ℕ) → number c (unitGroup c m i) ≡ unitNumber c m i
+  unfolding unitGroup
+  unit-number i = nth-is (isLeft c) (2 * c .blocks) (unitNumber c m i) (numbered i) .2
+
+  -- a unit in the first third of the numbers has three groups
+  pub unit-apart : m < left c / 3 → (i j : ℕ) → i < j → j < 3 → unitGroup c m i ≡ unitGroup c m j → ⊥
+  unit-apart third i j l u e =
+      let h = left c in
+      let z : i * h + h ≤ j * h = rw (← suc-mul i h) (mul-le-mul-right h l) in
+      let y : j * h ≤ 2 * h = mul-le-mul-right h (omega arith) in
+      let d : unitNumber c m i ≡ unitNumber c m j = sym (unit-number i) ∙ ap (number c) e ∙ unit-number j in
+      let a = past-of-unit c (omega arith) m i (unitNumber c m i) (omega arith) refl in
+      let b = past-of-unit c (omega arith) m j (unitNumber c m i) (omega arith) d in
+      omega (arith, a, b)
+
+  module _ (t : ℕ) (in-t : t < 2 * c .blocks) where
+    -- t is the group of quad i
+    group-test : (i : ℕ) → eqb t (unitGroup c m i) ≡ isLeft c t && eqb (number c t) (unitNumber c m i)
+    unfolding unitGroup
+    group-test i = nth-test (isLeft c) (2 * c .blocks) (unitNumber c m i) t in-t (numbered i)
+
+    -- the unit has a group where it is left and the unit takes its number
+    pub unit-has : (s : ℕ) → unitHas c m s t ≡ isLeft c t && takes c m (number c t)
+    unfolding unitHas takes
+    unit-has s =
+        rw (group-test 0, group-test 1, group-test 2)
+        (spread (isLeft c t) (eqb (number c t) (unitNumber c m 0)) (eqb (number c t) (unitNumber c m 1)) (eqb (number c t) (unitNumber c m 2)))
 
 -- ---- and unitIn names the unit that takes a number
 module _ (c : Cell) (pos : 0 < left c) (fit : unitsOf c ≤ left c / 3) where
@@ -56,10 +93,6 @@ module _ (c : Cell) (pos : 0 < left c) (fit : unitsOf c ≤ left c / 3) where
 
   abbrev M : ℕ
   M = unitsOf c
-
-  pub past-of-unit : (m i n : ℕ) → m + i * h / 3 < h → n ≡ unitNumber c m i → past C h n ≡ m + i * h / 3
-  unfolding unitNumber
-  past-of-unit m i n l e = ring.past-of C h pos (m + i * h / 3) n l (e ∙ ap (λ (x : ℕ). x % h) (add-assoc C m (i * h / 3)))
 
   unit-of-past : (m i n : ℕ) → n < h → past C h n ≡ m + i * h / 3 → eqb n (unitNumber c m i) ≡ true
   unfolding unitNumber
@@ -100,7 +133,7 @@ module _ (c : Cell) (pos : 0 < left c) (fit : unitsOf c ≤ left c / 3) where
     unit-at n e = go (or-cases _ _ e)
       where
         on : (i : ℕ) → m + i * h / 3 < h → eqb n (unitNumber c m i) ≡ true → past C h n ≡ m + i * h / 3
-        on i l w = past-of-unit m i n l (eqb-true _ _ w)
+        on i l w = past-of-unit c pos m i n l (eqb-true _ _ w)
 
         go₁ : (eqb n (unitNumber c m 0) ≡ true) ⊎ (eqb n (unitNumber c m 1) ≡ true) → unitIn c (past C h n) ≡ Phich m
         go₁ (inl w) = at0 (past C h n) (on 0 (omega arith) w)
