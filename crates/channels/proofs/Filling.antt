@@ -58,7 +58,7 @@ module _ (w : List ℕ) (p : Plan) (ch : Channel) (grid : List ℕ) (ok : Channe
 
   pub pbch-in : (a : Area) → a ≡ pbchArea (p .cell) (p .frame) → AreaIn a 2 2 grid
   pbch-in a e =
-      let L = slot-length (p .cell .prefix) in
+      let L = slot-length (p .cell) in
       subst (λ (b : Area). AreaIn b 2 2 grid) (sym e) (record {
         cell = v .cell;
         frame = v .frame;

@@ -13,9 +13,7 @@ use Rattle.base.proofs.Computed.{allBelow, below-at}
 use Rattle.plan.specs.declared.Cell.{Cell}
 use Rattle.plan.specs.declared.Frame.{Frame}
 use Rattle.base.specs.Choice.{one}
-use Rattle.layout.specs.Rules.{slotOf, inSlot, shift, marked, middle, pbchArea}
-use Rattle.layout.specs.Owners.{slotOfCell}
-use Rattle.layout.specs.Chain.{syncArea}
+use Rattle.layout.specs.Rules.{inSyncArea, slotLength, slotOf, inSlot, crsShift, marked, middle, inPbchArea}
 use Rattle.counts.specs.Users.{taken as takenRow}
 use Rattle.places.specs.Halves.{taken}
 use Rattle.places.proofs.Halves.{first-at, last-at, none-at, not-second}
@@ -58,14 +56,14 @@ module _ (L C P s : ℕ) (long : 6 ≤ L) where
   l = inSlot L s
 
   pub mask-first : l ≡ 0 → Masks L C P s (maskBut (C % 6) (ltb 0 P) (ltb 1 P))
-  unfolding shift
+  unfolding crsShift
   mask-first e =
       let t = eq-eqb l 0 e in
       let k : (0 + C) % 6 ≡ C % 6 = omega arith in
       record { bits = λ r h. but-bits (C % 6) (omega arith) (ltb 0 P) (ltb 1 P) r h ∙ sym (first-at L C P s long (rw t refl) (not-second L C P s long (inl t)) r ∙ (rw (t, k) refl)) }
 
   pub mask-third : (l ≡ 0 → ⊥) → l + 3 ≡ L → Masks L C P s (maskBut ((C + 3) % 6) (ltb 0 P) (ltb 1 P))
-  unfolding shift
+  unfolding crsShift
   mask-third n e =
       let t = eq-eqb (l + 3) L e in
       let f = ne-eqb l 0 n in
@@ -77,13 +75,13 @@ module _ (L C P s : ℕ) (long : 6 ≤ L) where
     neither = rw (ne-eqb l 0 n, ne-eqb (l + 3) L m) refl
 
     pub mask-second : l ≡ 1 → s < L → Masks L C P s (maskBut (C % 6) (ltb 2 P) (ltb 3 P))
-    unfolding shift slotOf
+    unfolding crsShift slotOf
     mask-second e f =
         let k : (0 + C) % 6 ≡ C % 6 = omega arith in
         record { bits = λ r h. but-bits (C % 6) (omega arith) (ltb 2 P) (ltb 3 P) r h ∙ sym (last-at L C P s long neither (eq-eqb l 1 e) r ∙ (rw (lt-ltb s L f, k) refl)) }
 
     pub mask-other : l ≡ 1 → L ≤ s → Masks L C P s (maskBut ((C + 3) % 6) (ltb 2 P) (ltb 3 P))
-    unfolding shift slotOf
+    unfolding crsShift slotOf
     mask-other e f =
         let k : (3 + C) % 6 ≡ (C + 3) % 6 = omega arith in
         record { bits = λ r h. but-bits ((C + 3) % 6) (omega arith) (ltb 2 P) (ltb 3 P) r h ∙ sym (last-at L C P s long neither (eq-eqb l 1 e) r ∙ (rw (le-ltb s L f, k) refl)) }
@@ -99,12 +97,12 @@ joined : (m x z p q c : Bool) → m && x && c || z && p && q && c ≡ (m && x ||
 joined m x z p q true = ap₂ _||_ (and-true (m && x)) (and-true (z && p && q)) ∙ sym (and-true (m && x || z && p && q))
 joined m x z p q false = ap₂ _||_ (and-false (m && x)) (and-false (z && p && q)) ∙ sym (and-false (m && x || z && p && q))
 
-pub taken-centre : (c : Cell) (f : Frame) (s b : ℕ) → taken c f s b ≡ centreOut (c .blocks) (takenRow (slotOfCell c) (f .subframe) s) b
-unfolding taken syncArea pbchArea middle takenRow centreOut
+pub taken-centre : (c : Cell) (f : Frame) (s b : ℕ) → taken c f s b ≡ centreOut (c .blocks) (takenRow c f s) b
+unfolding taken inSyncArea inPbchArea middle takenRow centreOut
 taken-centre c f s b =
-    joined (marked (f .subframe)) (eqb (s + 1) (slotOfCell c) || eqb (s + 2) (slotOfCell c)) (eqb (f .subframe) 0) (leb (slotOfCell c) s) (ltb s (slotOfCell c + 4))
+    joined (marked f) (eqb (s + 1) (slotLength c) || eqb (s + 2) (slotLength c)) (eqb (f .subframe) 0) (leb (slotLength c) s) (ltb s (slotLength c + 4))
     (leb (6 * c .blocks) (6 * b + 36) && ltb (6 * b) (6 * c .blocks + 36))
-    ∙ ap (λ (x : Bool). takenRow (slotOfCell c) (f .subframe) s && x)
+    ∙ ap (λ (x : Bool). takenRow c f s && x)
     (ap₂ _&&_
     (leb-same (6 * c .blocks) (6 * b + 36) (c .blocks) (b + 6) (λ h. omega arith) (λ h. omega arith))
     (leb-same (suc (6 * b)) (6 * c .blocks + 36) (suc b) (c .blocks + 6) (λ h. omega arith) (λ h. omega arith)))

@@ -16,10 +16,11 @@ use Rattle.gold.specs.Steps.{after}
 use Rattle.plan.specs.Valid.{CellIn}
 use Rattle.plan.proofs.Counts.{blocks-least, blocks-most}
 use Rattle.layout.specs.Rules.{slotLength}
-use Rattle.layout.specs.Owners.{slotOfCell, symbols, carriers}
+use Rattle.layout.specs.Owners.{symbols, carriers}
+use Rattle.layout.proofs.Pilot.{slot-length}
 use Rattle.counts.specs.Users.{taken as takenRow}
 use Rattle.places.specs.Places.{placesOf}
-use Rattle.places.proofs.Numbers.{symbols-most, slot-length}
+use Rattle.places.proofs.Numbers.{symbols-most}
 use Rattle.codeword.specs.declared.Stream.{Stream}
 use Rattle.codeword.specs.Streams.{Stands}
 use Rattle.codeword.proofs.Laws.{begins}
@@ -39,7 +40,7 @@ pub left-out : (a : Area) (s b : ℕ) (out : Bool) → out ≡ leavesRow a s →
 unfolding centreOut
 left-out a s b out e =
     ap (λ (x : Bool). a .leaves && x) (taken-centre (a .cell) (a .frame) s b)
-    ∙ sym (and-assoc (a .leaves) (takenRow (slotOfCell (a .cell)) (a .frame .subframe) s) (leb (a .cell .blocks) (b + 6) && ltb b (a .cell .blocks + 6)))
+    ∙ sym (and-assoc (a .leaves) (takenRow (a .cell) (a .frame) s) (leb (a .cell .blocks) (b + 6) && ltb b (a .cell .blocks + 6)))
     ∙ ap (λ (x : Bool). x && (leb (a .cell .blocks) (b + 6) && ltb b (a .cell .blocks + 6))) (sym e)
 
 module _ {a : Area} {row : Row} {b q unit : ℕ} {bits : List ℕ} {w : Walk} {g : List ℕ} (i : HalfIn a row b q unit bits w g) where
@@ -209,7 +210,7 @@ pub grid-size : (slot prefix n : ℕ) → slot ≡ slotLength prefix → n < 256
 grid-size slot prefix n e h = omega (arith, row-inside (2 * slot) 15 (12 * n) 0 (omega (arith, slot-fits slot prefix e)) (omega arith))
 
 pub row-made :
-    (a : Area) (s slot n mask : ℕ) (out : Bool) → a .first ≤ s → s < a .last → slot ≡ slotOfCell (a .cell) → n ≡ a .cell .blocks
+    (a : Area) (s slot n mask : ℕ) (out : Bool) → a .first ≤ s → s < a .last → slot ≡ slotLength (a .cell) → n ≡ a .cell .blocks
     → Masks slot (a .cell .identity) (a .signals) s mask → out ≡ leavesRow a s
     → RowIn a s (record { base = s * (12 * n); places = 2 * slot * (12 * n); mask = mask; out = out })
 row-made a s slot n mask out f l e d m o =
@@ -223,7 +224,7 @@ row-made a s slot n mask out f l e d m o =
     }
 
 pub leaves-taken :
-    (a : Area) (s slot : ℕ) (t : Bool) → a .leaves ≡ true → slot ≡ slotOfCell (a .cell) → t ≡ takenRow slot (a .frame .subframe) s
+    (a : Area) (s slot : ℕ) (t : Bool) → a .leaves ≡ true → slot ≡ slotLength (a .cell) → t ≡ takenRow slot (a .frame .subframe) s
     → t ≡ leavesRow a s
 leaves-taken a s slot t l e d = d ∙ (rw (e, l) refl)
 

@@ -51,7 +51,7 @@ pub fn pbch_area(cell: Cell, frame: Frame) -> Area
     requires { ⌜ 6 ≤ cell .blocks ⌝ }
     ensures { λ r. ⌜ r ≡ pbchArea cell frame ⌝ }
 {
-    let slot = layout::slot_length(cell.prefix);
+    let slot = layout::slot_length(cell);
     let blocks = base::wide(cell.blocks);
     Area {
         cell: cell,
@@ -75,7 +75,7 @@ pub fn user_area(cell: Cell, frame: Frame, u: User) -> Area
         cell: cell,
         frame: frame,
         first: layout::control_symbols(cell, frame),
-        last: 2 * layout::slot_length(cell.prefix),
+        last: 2 * layout::slot_length(cell),
         from: 2 * first,
         to: 2 * (first + count),
         signals: cell.ports,
@@ -248,7 +248,7 @@ fn leaves_row(a: Area, s: usize) -> bool
     ensures { λ r. ⌜ r ≡ leavesRow a s ⌝ }
 {
     if a.leaves {
-        return counts::taken(layout::slot_length(a.cell.prefix), a.frame.subframe, s);
+        return counts::taken(layout::slot_length(a.cell), a.frame.subframe, s);
     }
     false
 }
@@ -258,7 +258,7 @@ pub fn row_of(a: Area, s: usize) -> Row
     requires { ⌜ (a .first ≤ s) × (s < a .last) × (a .last ≤ symbols (a .cell)) ⌝ }
     ensures { λ r. ⌜ RowIn a s r ⌝ }
 {
-    let slot = layout::slot_length(a.cell.prefix);
+    let slot = layout::slot_length(a.cell);
     let carriers = 12 * base::wide(a.cell.blocks);
     let identity = a.cell.identity as usize;
     Row {

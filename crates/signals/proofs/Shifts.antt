@@ -7,8 +7,7 @@ use lib.Dec.{eqb}
 use borrow.Author.Tests.{lt-ltb, le-ltb, eq-eqb, eqb-true}
 use Rattle.base.proofs.Tests.{same-test}
 use Rattle.plan.specs.declared.Cell.{Cell}
-use Rattle.layout.specs.Rules.{slotOf, inSlot, shift}
-use Rattle.layout.specs.Owners.{slotOfCell}
+use Rattle.layout.specs.Rules.{slotLength, slotOf, inSlot, crsShift}
 
 -- the first symbol of its slot
 pub opens-first : (L s : ℕ) → s < L → eqb s 0 ≡ eqb (inSlot L s) 0
@@ -29,20 +28,20 @@ slot-second L s l = (rw (le-ltb s L l) refl, omega arith)
 
 -- ports 0 and 1
 pub shift-opening : (q l n : ℕ) → q < 2 → eqb l 0 ≡ true → (3 * q ≡ shift q l n) × (3 * q ≤ 6)
-unfolding shift
+unfolding crsShift
 shift-opening zero l n h e = (rw e refl, omega arith)
 shift-opening (suc zero) l n h e = (rw e refl, omega arith)
 shift-opening (suc (suc q)) l n h e = absurd (omega arith)
 
 pub shift-later : (q l n : ℕ) → q < 2 → eqb l 0 ≡ false → (3 * (1 - q) ≡ shift q l n) × (3 * (1 - q) ≤ 6)
-unfolding shift
+unfolding crsShift
 shift-later zero l n h e = (rw e refl, omega arith)
 shift-later (suc zero) l n h e = (rw e refl, omega arith)
 shift-later (suc (suc q)) l n h e = absurd (omega arith)
 
 -- ports 2 and 3
 pub shift-last : (q l n : ℕ) {x : ℕ} → 2 ≤ q → q < 4 → (x ≡ n) × (x ≤ 1) → (3 * (q - 2 + x) ≡ shift q l n) × (3 * (q - 2 + x) ≤ 6)
-unfolding shift
+unfolding crsShift
 shift-last zero l n a b e = absurd (omega arith)
 shift-last (suc zero) l n a b e = absurd (omega arith)
 shift-last (suc (suc zero)) l n a b e = (omega arith, omega arith)
@@ -50,6 +49,6 @@ shift-last (suc (suc (suc zero))) l n a b e = (omega arith, omega arith)
 shift-last (suc (suc (suc (suc q)))) l n a b e = absurd (omega arith)
 
 -- the first subcarrier
-pub carrier-first : (c : Cell) (s q : ℕ) {x L v : ℕ} → x ≡ q → L ≡ slotOfCell c → v ≡ shift x (inSlot L s) (slotOf L s)
-    → (v + c .identity) % 6 ≡ (shift q (inSlot (slotOfCell c) s) (slotOf (slotOfCell c) s) + c .identity) % 6
+pub carrier-first : (c : Cell) (s q : ℕ) {x L v : ℕ} → x ≡ q → L ≡ slotLength c → v ≡ crsShift L x s
+    → (v + c .identity) % 6 ≡ (crsShift c q s + c .identity) % 6
 carrier-first c s q ex eL ev = cc

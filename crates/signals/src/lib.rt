@@ -11,8 +11,8 @@ ghost use lib.Dec.{eqb};
 ghost use lib.ListN.{length};
 ghost use Rattle.gold.specs.Steps.{after};
 ghost use Rattle.plan.specs.Valid.{CellIn};
-ghost use Rattle.layout.specs.Rules.{slotOf, inSlot, shift as shiftOf};
-ghost use Rattle.layout.specs.Owners.{slotOfCell, carriers};
+ghost use Rattle.layout.specs.Rules.{slotLength, slotOf, inSlot, crsShift as shiftOf};
+ghost use Rattle.layout.specs.Owners.{carriers};
 ghost use Rattle.places.specs.Places.{placesOf};
 ghost use Rattle.grid.specs.Writing.{Written};
 ghost use Rattle.signals.specs.Signals.{crsSends, crsSent, markSends, pssSent, sssSent};
@@ -23,7 +23,7 @@ pub fn row_at(cell: Cell, s: usize, port: u8) -> usize
     requires { ⌜ s < 14 ⌝ }
     ensures { λ r. ⌜ r ≡ port * placesOf cell + s * carriers cell ⌝ }
 {
-    let rows = base::wide(port) * (2 * layout::slot_length(cell.prefix)) + s;
+    let rows = base::wide(port) * (2 * layout::slot_length(cell)) + s;
     rows * (12 * base::wide(cell.blocks))
 }
 
@@ -58,9 +58,9 @@ fn shift(port: usize, slot: usize, s: usize) -> usize
 // The first subcarrier of a port's reference signal in symbol s.
 pub fn first_carrier(cell: Cell, s: usize, port: u8) -> usize
     requires { ⌜ port < 4 ⌝ }
-    ensures { λ r. ⌜ r ≡ (shiftOf port (inSlot (slotOfCell cell) s) (slotOf (slotOfCell cell) s) + cell .identity) % 6 ⌝ }
+    ensures { λ r. ⌜ r ≡ (shiftOf port (inSlot cell s) (slotOf cell s) + cell .identity) % 6 ⌝ }
 {
-    let v = shift(base::wide(port), layout::slot_length(cell.prefix), s);
+    let v = shift(base::wide(port), layout::slot_length(cell), s);
     (v + (cell.identity as usize)) % 6
 }
 
@@ -116,9 +116,9 @@ pub fn fill_crs(r: Registers, cell: Cell, s: usize, port: u8, grid: &mut [u8]) -
 // The number of the first of 62 elements in the middle of the symbol that stands y from the first slot's end, on port 0.
 pub fn mark_at(cell: Cell, y: usize) -> usize
     requires { ⌜ CellIn cell × (y ≤ 2) ⌝ }
-    ensures { λ r. ⌜ r ≡ (slotOfCell cell - y) * carriers cell + (6 * cell .blocks - 31) ⌝ }
+    ensures { λ r. ⌜ r ≡ (slotLength cell - y) * carriers cell + (6 * cell .blocks - 31) ⌝ }
 {
-    let s = layout::slot_length(cell.prefix) - y;
+    let s = layout::slot_length(cell) - y;
     row_at(cell, s, 0) + (6 * base::wide(cell.blocks) - 31)
 }
 
