@@ -5,7 +5,7 @@ use mathlib.Core.Bool.{Bool, true, false, cond, _&&_}
 use mathlib.Core.List.{List}
 use lib.Dec.{leb, ltb, eqb}
 use Rattle.layout.specs.Owners.{carriers}
-use Rattle.layout.specs.Rules.{slotLength}
+use Rattle.plan.specs.declared.Cell.{Cell}
 use Rattle.counts.specs.Users.{taken as takenRow}
 use Rattle.places.specs.Places.{placesOf}
 use Rattle.places.specs.Halves.{without}
@@ -26,8 +26,8 @@ abbrev pub bitOf : ℕ → ℕ → Bool
 bitOf mask r = eqb (mask / 2 ^ r % 2) 1
 
 -- bit r of the mask says whether the r-th of six subcarriers of symbol s has no reference signal
-pub record Masks (L C P s mask : ℕ) : Type 0 where
-  pub bits : (r : ℕ) → r < 6 → bitOf mask r ≡ without L C P s r
+pub record Masks (c : Cell) (P s mask : ℕ) : Type 0 where
+  pub bits : (r : ℕ) → r < 6 → bitOf mask r ≡ without c P s r
 
 -- half block b is one of the centre's twelve, and those are left out
 unfoldable pub centreOut : ℕ → Bool → ℕ → Bool

@@ -101,11 +101,13 @@ fn mask_but(v: usize, a: bool, b: bool) -> u8
 
 // The subcarriers of six in symbol s that have no reference signal of the ports below `signals`: ports 0 and 1 use l = 0 and the
 // third symbol from the slot's end, ports 2 and 3 use l = 1.
-fn row_mask(slot: usize, identity: usize, signals: u8, s: usize) -> u8
-    requires { ⌜ (6 ≤ slot) × (slot ≤ 7) × (identity < 65536) × (s < 14) ⌝ }
-    ensures { λ r. ⌜ Masks slot identity signals s r ⌝ }
+fn row_mask(cell: Cell, signals: u8, s: usize) -> u8
+    requires { ⌜ s < 14 ⌝ }
+    ensures { λ r. ⌜ Masks cell signals s r ⌝ }
 {
-    let l = layout::in_slot(slot, s);
+    let slot = layout::slot_length(cell);
+    let identity = cell.identity as usize;
+    let l = layout::in_slot(cell, s);
     if l == 0 {
         return mask_but(identity % 6, 0 < signals, 1 < signals);
     }
@@ -248,7 +250,7 @@ fn leaves_row(a: Area, s: usize) -> bool
     ensures { λ r. ⌜ r ≡ leavesRow a s ⌝ }
 {
     if a.leaves {
-        return counts::taken(layout::slot_length(a.cell), a.frame.subframe, s);
+        return counts::taken(a.cell, a.frame, s);
     }
     false
 }
@@ -260,11 +262,10 @@ pub fn row_of(a: Area, s: usize) -> Row
 {
     let slot = layout::slot_length(a.cell);
     let carriers = 12 * base::wide(a.cell.blocks);
-    let identity = a.cell.identity as usize;
     Row {
         base: s * carriers,
         places: 2 * slot * carriers,
-        mask: row_mask(slot, identity, a.signals, s),
+        mask: row_mask(a.cell, a.signals, s),
         out: leaves_row(a, s),
     }
 }
