@@ -88,11 +88,10 @@ module _ (w : List ℕ) (p : Plan) where
       → crsSends (p .cell) (symbolAt (p .cell) (e % placesOf (p .cell))) q e ≡ true
   unfolding owns fixedRule crs crsOf crsSends
   crs-covers q e o d =
-      let L = slotLength (p .cell) in
       let s = symbolAt (p .cell) (e % placesOf (p .cell)) in
       let k = carrierAt (p .cell) (e % placesOf (p .cell)) in
-      let y = crsSymbol L q (inSlot L s) in
-      let v = standsAt (p .cell) (crsShift L q s) k in
+      let y = crsSymbol (p .cell) q s in
+      let v = standsAt (p .cell) (crsShift (p .cell) q s) k in
       both (both (eq-eqb _ _ d) (eq-eqb s s refl)) (and-right y v (and-right (ltb q (p .cell .ports)) (y && v) o))
 
   -- ---- synchronisation signals

@@ -7,11 +7,10 @@ use plan::Frame;
 use sync::Sss;
 ghost use mathlib.Core.Path.{_≡_};
 ghost use Prim.Native.Nat.{ℕ, _+_, _-_, _*_, _%_, _≤_, _<_};
-ghost use lib.Dec.{eqb};
 ghost use lib.ListN.{length};
 ghost use Rattle.gold.specs.Steps.{after};
 ghost use Rattle.plan.specs.Valid.{CellIn};
-ghost use Rattle.layout.specs.Rules.{slotLength, slotOf, inSlot, crsShift as shiftOf};
+ghost use Rattle.layout.specs.Rules.{slotLength, slotOf, crsShift};
 ghost use Rattle.layout.specs.Owners.{carriers};
 ghost use Rattle.places.specs.Places.{placesOf};
 ghost use Rattle.grid.specs.Writing.{Written};
@@ -27,40 +26,33 @@ pub fn row_at(cell: Cell, s: usize, port: u8) -> usize
     rows * (12 * base::wide(cell.blocks))
 }
 
-// Whether symbol s is the first of its slot.
-fn opens(slot: usize, s: usize) -> bool
-    ensures { λ r. ⌜ r ≡ eqb (inSlot slot s) 0 ⌝ }
-{
-    if s < slot { s == 0 } else { s == slot }
-}
-
 // 0 for the first slot, 1 for the second.
-fn slot_number(slot: usize, s: usize) -> usize
-    ensures { λ r. ⌜ (r ≡ slotOf slot s) × (r ≤ 1) ⌝ }
+fn slot_number(cell: Cell, s: usize) -> usize
+    ensures { λ r. ⌜ (r ≡ slotOf cell s) × (r ≤ 1) ⌝ }
 {
-    if s < slot { 0 } else { 1 }
+    if s < layout::slot_length(cell) { 0 } else { 1 }
 }
 
 // The shift v of a port's reference signal in symbol s. No cell has more than four ports.
-fn shift(port: usize, slot: usize, s: usize) -> usize
+fn shift(cell: Cell, port: usize, s: usize) -> usize
     requires { ⌜ port < 4 ⌝ }
-    ensures { λ r. ⌜ (r ≡ shiftOf port (inSlot slot s) (slotOf slot s)) × (r ≤ 6) ⌝ }
+    ensures { λ r. ⌜ (r ≡ crsShift cell port s) × (r ≤ 6) ⌝ }
 {
     if port < 2 {
-        if opens(slot, s) {
+        if layout::in_slot(cell, s) == 0 {
             return 3 * port;
         }
         return 3 * (1 - port);
     }
-    3 * (port - 2 + slot_number(slot, s))
+    3 * (port - 2 + slot_number(cell, s))
 }
 
 // The first subcarrier of a port's reference signal in symbol s.
 pub fn first_carrier(cell: Cell, s: usize, port: u8) -> usize
     requires { ⌜ port < 4 ⌝ }
-    ensures { λ r. ⌜ r ≡ (shiftOf port (inSlot cell s) (slotOf cell s) + cell .identity) % 6 ⌝ }
+    ensures { λ r. ⌜ r ≡ (crsShift cell port s + cell .identity) % 6 ⌝ }
 {
-    let v = shift(base::wide(port), layout::slot_length(cell), s);
+    let v = shift(cell, base::wide(port), s);
     (v + (cell.identity as usize)) % 6
 }
 
