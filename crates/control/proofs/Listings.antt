@@ -14,7 +14,7 @@ use Rattle.base.specs.Counts.{Listed}
 use Rattle.places.specs.Quads.{quadPlace, quadsPlace}
 use Rattle.places.specs.Places.{placeNumber, symbolAt, carrierAt, placesOf}
 use Rattle.places.proofs.Numbers.{first-row}
-use Rattle.places.proofs.Quads.{Groups, place-group, quads-at}
+use Rattle.places.proofs.Quads.{Groups, place-below, quads-at}
 use Rattle.places.proofs.Channels.{format-groups, unit-groups}
 use Rattle.places.proofs.Listing.{pcfich-is, phich-is, by-quads}
 use Rattle.control.specs.Control.{pcfichIndex, phichIndex}
@@ -26,7 +26,7 @@ place-at c group j i k e h =
 
 -- a place of a group stands in symbol 0
 pub place-inside : (c : Cell) (g k : ℕ) → g < 2 * c .blocks → k < 4 → quadPlace c 0 g k < placesOf c
-place-inside c g k h l = omega (arith, place-group c g k l, first-row c)
+place-inside c g k h l = omega (arith, place-below c g h k l, first-row c)
 
 module _ (c : Cell) (ok : CellIn c) where
   pub some-carriers : 0 < carriers c
@@ -38,9 +38,6 @@ module _ (c : Cell) (ok : CellIn c) where
   pub six : 6 ≤ c .blocks
   six = omega (arith, blocks-least c ok)
 
-  pub few-groups : 2 * c .blocks < 512
-  few-groups = omega (arith, blocks-most c ok)
-
   pub pcfich-groups : Groups 4 (2 * c .blocks) (formatGroup c) (isFormat c)
   pcfich-groups = format-groups c six
 
@@ -50,7 +47,7 @@ module _ (c : Cell) (ok : CellIn c) where
   unfolding pcfichIndex
   pcfich-listed =
       by-quads c 4 (formatGroup c) (isFormat c) some-carriers pcfich-groups
-      (λ (t : ℕ). pcfich c (symbolAt c t) (carrierAt c t)) (λ t. pcfich-is (c .identity) (c .blocks) (symbolAt c t) (carrierAt c t))
+      (λ (t : ℕ). pcfich c (symbolAt c t) (carrierAt c t)) (λ t. pcfich-is c (symbolAt c t) (carrierAt c t))
 
   module _ (m : ℕ) (in-m : m < unitsOf c) where
     pub unit-few : m < 256
@@ -66,4 +63,4 @@ module _ (c : Cell) (ok : CellIn c) where
     phich-listed =
         by-quads c 3 (unitGroup c m) (unitHas c m 0) some-carriers phich-groups
         (λ (t : ℕ). phich c m (symbolAt c t) (carrierAt c t))
-        (λ t. phich-is (c .identity) (c .blocks) (unitsOf c) m (symbolAt c t) (carrierAt c t) in-m)
+        (λ t. phich-is c m (symbolAt c t) (carrierAt c t) in-m)

@@ -15,15 +15,15 @@ use Rattle.places.specs.Quads.{quadPlace}
 use Rattle.grid.specs.Writing.{sentAt, Written, Room}
 use Rattle.grid.proofs.Writing.{room-kept}
 use Rattle.control.specs.Filling.{PairIn, PairWritten}
-use Rattle.control.proofs.Listings.{few-groups, place-inside}
+use Rattle.control.proofs.Listings.{place-inside}
 
-pub slot-few : (l prefix : ℕ) → l ≡ slotLength prefix → l ≤ 7
-slot-few l prefix e = omega (arith, slot-length prefix)
+pub slot-few : (l : ℕ) (c : Cell) → l ≡ slotLength c → l ≤ 7
+slot-few l c e = omega (arith, slot-length c)
 
 -- a port's places are few
-pub places-fit : (l prefix n b : ℕ) → l ≡ slotLength prefix → n ≡ b → b < 256 → 2 * l * (12 * n) ≤ 42840
-places-fit l prefix n b e f h =
-    let two : 2 * l ≤ 14 = omega (arith, e, slot-length prefix) in
+pub places-fit : (l : ℕ) (c : Cell) (n b : ℕ) → l ≡ slotLength c → n ≡ b → b < 256 → 2 * l * (12 * n) ≤ 42840
+places-fit l c n b e f h =
+    let two : 2 * l ≤ 14 = omega (arith, e, slot-length c) in
     let all : 12 * n ≤ 3060 = omega arith in
     mul-le-mul two all
 
@@ -31,10 +31,6 @@ pub places-are : (c : Cell) (l n : ℕ) → l ≡ slotLength c → n ≡ c .bloc
 places-are c l n e f = ap₂ (λ (x y : ℕ). 2 * x * (12 * y)) e f
 
 module _ {c : Cell} {g i : ℕ} {d e : Pair} {grid : List ℕ} (ok : PairIn c g i d e grid) where
-  -- what `quad_place` requires
-  pub group-few : g < 512
-  group-few = omega (arith, ok .group, few-groups c (ok .cell))
-
   -- what `put_place` requires
   pub first-ok : {T a : ℕ} → T ≡ placesOf c → a ≡ quadPlace c 0 g (2 * i) → Room (c .ports) T grid × (a < T) × Small 127 e × (2 ≤ 127)
   first-ok t q = (rw t (ok .room), rw (t, q) (place-inside c g (2 * i) (ok .group) (omega (arith, ok .half))), ok .second, omega arith)

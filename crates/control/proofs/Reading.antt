@@ -39,7 +39,7 @@ use Rattle.subframe.proofs.Acknowledged.{length-ok}
 use Rattle.subframe.specs.Elements.{spreadLength}
 use Rattle.recovery.specs.Recovery.{sectionOf}
 use Rattle.control.specs.Reading.{ownElement, sumRead, sumsOf, ackRead, ackFrom, pushed, PushIn, UnitRead, HiRead, ReadIn}
-use Rattle.control.proofs.Listings.{few-groups, place-inside, phich-groups}
+use Rattle.control.proofs.Listings.{place-inside, phich-groups}
 use Rattle.control.proofs.Packing.{Packed, push-ok, push-more, pushed-length, packed-none, packed-all}
 use Rattle.control.proofs.Words.{word-bits}
 use Rattle.layout.specs.Rules.{unitGroup}
@@ -50,11 +50,8 @@ unfolding ownPort
 turn-odd P x = let e : x % 2 % 2 ≡ x % 2 = omega arith in ap (λ (y : ℕ). cond (eqb P 4) y 0) e
 
 module _ {c : Cell} {m : ℕ} {grid : List ℕ} (ok : UnitRead c m grid) {i : ℕ} (in-i : i < 12) {g : ℕ} (eg : g ≡ unitGroup c m (i / 4)) where
-  group-in : g < 2 * c .blocks
+  pub group-in : g < 2 * c .blocks
   group-in = rw eg (phich-groups c (ok .cell) m (ok .unit) .small (i / 4) (omega arith))
-
-  pub group-few : g < 512
-  group-few = omega (arith, group-in, few-groups c (ok .cell))
 
   module _ {t port q T : ℕ} (et : t ≡ quadPlace c 0 g (i % 4)) (ep : port ≡ ownPort (c .ports) ((i / 4 + m) % 2)) (eq : q ≡ port) (eT : T ≡ placesOf c) where
     pub element-fits : (q * T < 2 ^ 64) × (q * T + t < 2 ^ 64) × (3 * (q * T + t) + 2 < length grid)

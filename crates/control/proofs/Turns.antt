@@ -82,10 +82,9 @@ module _ (c : Cell) (cfi : ℕ) (r : Registers) (g₀ : List ℕ) (ok : PcfichIn
         → s′ ≡ after s 4 → FormatTurn c cfi r s′ (n + 1) g₀ g′
     format-next {d = d} {e = e} w x q f h p z =
         let group : ℕ → ℕ = formatGroup c in
-        let C : ℕ = c .identity in
         let i : ℕ = 2 * (n % 2) in
-        let one = place-at c group (2 * n) (n / 2) i (omega arith) (omega arith) ∙ ap (λ (y : ℕ). quadPlace C y i) (sym q) in
-        let two = place-at c group (2 * n + 1) (n / 2) (i + 1) (omega arith) (omega arith) ∙ ap (λ (y : ℕ). quadPlace C y (i + 1)) (sym q) in
+        let one = place-at c group (2 * n) (n / 2) i (omega arith) (omega arith) ∙ ap (λ (y : ℕ). quadPlace c 0 y i) (sym q) in
+        let two = place-at c group (2 * n + 1) (n / 2) (i + 1) (omega arith) (omega arith) ∙ ap (λ (y : ℕ). quadPlace c 0 y (i + 1)) (sym q) in
         let sum : 4 * n + 4 ≡ 4 * (n + 1) = omega arith in
         record {
           most = omega arith;
@@ -149,10 +148,9 @@ module _ (c : Cell) (m : ℕ) (sums : List Pair) (g₀ : List ℕ) (ok : UnitIn 
         → UnitTurn c m sums (n + 1) g₀ g′
     unit-next q p =
         let group : ℕ → ℕ = unitGroup c m in
-        let C : ℕ = c .identity in
         let i : ℕ = 2 * (n % 2) in
-        let one = place-at c group (2 * n) (n / 2) i (omega arith) (omega arith) ∙ ap (λ (y : ℕ). quadPlace C y i) (sym q) in
-        let two = place-at c group (2 * n + 1) (n / 2) (i + 1) (omega arith) (omega arith) ∙ ap (λ (y : ℕ). quadPlace C y (i + 1)) (sym q) in
+        let one = place-at c group (2 * n) (n / 2) i (omega arith) (omega arith) ∙ ap (λ (y : ℕ). quadPlace c 0 y i) (sym q) in
+        let two = place-at c group (2 * n + 1) (n / 2) (i + 1) (omega arith) (omega arith) ∙ ap (λ (y : ℕ). quadPlace c 0 y (i + 1)) (sym q) in
         let u : 2 * n / 4 ≡ n / 2 = omega arith in
         let v : (2 * n + 1) / 4 ≡ n / 2 = omega arith in
         record {

@@ -42,8 +42,8 @@ module _ {c : Cell} {g i : ℕ} {d e : Pair} {grid : List ℕ} (ok : PairIn c g 
   -- the two places of the group are not one
   apart : quadPlace c 0 g (2 * i) ≡ quadPlace c 0 g (2 * i + 1) → ⊥
   apart q =
-      let C : ℕ = c .identity in
-      let z : 2 * i ≡ 2 * i + 1 = sym (place-index C g (2 * i) (omega (arith, ok .half))) ∙ ap (quadIndex C) q ∙ place-index C g (2 * i + 1) (omega (arith, ok .half)) in
+      let z : 2 * i ≡ 2 * i + 1 =
+      sym (place-index c g (ok .group) (2 * i) (omega (arith, ok .half))) ∙ ap (quadIndex c 0) q ∙ place-index c g (ok .group) (2 * i + 1) (omega (arith, ok .half)) in
       omega arith
 
   -- what `both` requires
@@ -98,10 +98,9 @@ module _ (c : Cell) (cfi : ℕ) (r : Registers) (g : List ℕ) (ok : PcfichIn c 
         → y ≡ bothOf seen x → s′ ≡ after s 4 → FormatTurn c cfi r s′ (n + 1) g y
     format-next {d = d} {e = e} w h q f k p b z =
         let group : ℕ → ℕ = formatGroup c in
-        let C : ℕ = c .identity in
         let i : ℕ = 2 * (n % 2) in
-        let one = place-at c group (2 * n) (n / 2) i (omega arith) (omega arith) ∙ ap (λ (y : ℕ). quadPlace C y i) (sym q) in
-        let two = place-at c group (2 * n + 1) (n / 2) (i + 1) (omega arith) (omega arith) ∙ ap (λ (y : ℕ). quadPlace C y (i + 1)) (sym q) in
+        let one = place-at c group (2 * n) (n / 2) i (omega arith) (omega arith) ∙ ap (λ (y : ℕ). quadPlace c 0 y i) (sym q) in
+        let two = place-at c group (2 * n + 1) (n / 2) (i + 1) (omega arith) (omega arith) ∙ ap (λ (y : ℕ). quadPlace c 0 y (i + 1)) (sym q) in
         let sum : 4 * n + 4 ≡ 4 * (n + 1) = omega arith in
         record {
           most = omega arith;
@@ -149,10 +148,9 @@ module _ (c : Cell) (m : ℕ) (sums : List Pair) (g : List ℕ) (ok : UnitIn c m
         → y ≡ bothOf seen x → UnitTurn c m sums (n + 1) g y
     unit-next q p b =
         let group : ℕ → ℕ = unitGroup c m in
-        let C : ℕ = c .identity in
         let i : ℕ = 2 * (n % 2) in
-        let one = place-at c group (2 * n) (n / 2) i (omega arith) (omega arith) ∙ ap (λ (y : ℕ). quadPlace C y i) (sym q) in
-        let two = place-at c group (2 * n + 1) (n / 2) (i + 1) (omega arith) (omega arith) ∙ ap (λ (y : ℕ). quadPlace C y (i + 1)) (sym q) in
+        let one = place-at c group (2 * n) (n / 2) i (omega arith) (omega arith) ∙ ap (λ (y : ℕ). quadPlace c 0 y i) (sym q) in
+        let two = place-at c group (2 * n + 1) (n / 2) (i + 1) (omega arith) (omega arith) ∙ ap (λ (y : ℕ). quadPlace c 0 y (i + 1)) (sym q) in
         let u : 2 * n / 4 ≡ n / 2 = omega arith in
         let v : (2 * n + 1) / 4 ≡ n / 2 = omega arith in
         record {
