@@ -17,7 +17,7 @@ use Rattle.plan.specs.declared.User.{User}
 use Rattle.plan.proofs.OneOf.{among-holds}
 use Rattle.plan.proofs.Valid.{valid}
 use Rattle.plan.proofs.Counts.{blocks-least}
-use Rattle.layout.proofs.Fixed.{slot-length}
+use Rattle.layout.proofs.Pilot.{slot-length}
 use Rattle.grid.specs.Writing.{Written}
 use Rattle.subframe.proofs.Acknowledged.{within, distinct}
 use Rattle.data.specs.Areas.{areaSends, areaElement, pbchArea, userArea, AreaIn}

@@ -4,8 +4,7 @@ use native.Mathlib.Omega.{arith}
 use mathlib.Core.Path.{refl, ap, _∙_}
 use Prim.Native.Nat.{ℕ, _+_, _-_, _*_}
 use Rattle.crs.specs.Crs.{crsInit}
-use Rattle.layout.proofs.Fixed.{slot-length}
-use Rattle.layout.specs.Rules.{slotLength}
+use Rattle.layout.proofs.Pilot.{slot-length}
 use borrow.Author.Needs.{needs}
 use Rattle.channels.proofs.crs_init.Statement.{statement}
 use Rattle.channels.proofs.crs_init.Tie as tie
@@ -29,7 +28,7 @@ returns : tie.Need-returns
 returns c =
     let a = c .before .before .before .before .args in
     let e = c .before .before .before .slot-length .ensures in
-    c .c-init .ensures ∙ early (a .cell .prefix) (a .cell .identity) (2 * a .frame .subframe) (a .frame .subframe) (slotLength (a .cell)) (a .s) refl (omega (arith, c .before .if1 .taken, e))
+    c .c-init .ensures ∙ early (a .cell) (2 * a .frame .subframe) (a .frame .subframe) (a .s) refl (omega (arith, c .before .if1 .taken, e))
 
 add-c-init : tie.Need-add-c-init
 add-c-init c = search needs
@@ -45,7 +44,7 @@ returns-2 c =
     let a = c .before .before .before .before .args in
     let e = c .before .before .before .slot-length .ensures in
     c .c-init2 .ensures ∙ ap (λ (x : ℕ). crsInit (a .cell .prefix) (a .cell .identity) (2 * a .frame .subframe + 1) (a .s - x)) e
-    ∙ late (a .cell .prefix) (a .cell .identity) (2 * a .frame .subframe) (a .frame .subframe) (slotLength (a .cell)) (a .s) refl (omega (arith, c .before .if1 .left, e))
+    ∙ late (a .cell) (2 * a .frame .subframe) (a .frame .subframe) (a .s) refl (omega (arith, c .before .if1 .left, e))
 
 pub crs-init-spec : {M : Type 1} → statement M
 crs-init-spec =
