@@ -23,8 +23,8 @@ use Rattle.plan.specs.Fields.{unitsOf}
 use Rattle.plan.specs.Rows.{usersOf, nthUser}
 use Rattle.plan.specs.declared.Plan.{Plan}
 use Rattle.plan.specs.declared.Checked.the-variants.{Plan as accepted}
-use Rattle.layout.specs.Rules.{inSlot, crsSymbol, crs, crsOf, marked, pss, sss, pbch, pbchArea}
-use Rattle.layout.specs.Owners.{slotOfCell, symbols, owns, fixedRule}
+use Rattle.layout.specs.Rules.{slotLength, inSlot, crsSymbol, crs, crsOf, marked, pss, sss, pbch, inPbchArea}
+use Rattle.layout.specs.Owners.{symbols, owns, fixedRule}
 use Rattle.layout.specs.declared.Mark.the-variants.{Primary, Secondary}
 use Rattle.layout.specs.declared.Owner.{Owner}
 use Rattle.layout.specs.declared.Owner.the-variants.{Crs, Sync, Pbch, Pcfich, Phich, User as UserOf, Held, Idle}
@@ -122,7 +122,7 @@ module _ (w : List ℕ) (p : Plan) (ok : checkOf w ≡ accepted p) (payload : Li
         pick (no n) = rw (ne-eqb q r n) refl
         pick (yes y) =
             let a = and-true (ltb r (p .cell .ports)) _ h in
-            let b = and-true (crsSymbol (slotOfCell (p .cell)) r (inSlot (slotOfCell (p .cell)) s)) _ (a .1) in
+            let b = and-true (crsSymbol (p .cell) r s) _ (a .1) in
             let c = crs-covers w p r e h y in
             clash (rw (b .0, c) refl) (none-at _ (p .cell .ports) (none-at _ (symbols (p .cell)) no-crs s (place-in w p ok e .0)) r (ltb-true r (p .cell .ports) (a .0)))
 
@@ -130,7 +130,7 @@ module _ (w : List ℕ) (p : Plan) (ok : checkOf w ≡ accepted p) (payload : Li
     unfolding pssElement marksSend owns fixedRule pss
     quiet-pss h = pick (ℕ-discrete q 0)
       where
-        m : marked (p .frame .subframe) ≡ true
+        m : marked (p .frame) ≡ true
         m = and-true _ _ (and-true _ _ h .0) .0
 
         pick : Dec (q ≡ 0) → pssElement (p .cell) q k ≡ silent
@@ -141,7 +141,7 @@ module _ (w : List ℕ) (p : Plan) (ok : checkOf w ≡ accepted p) (payload : Li
     unfolding sssElement marksSend owns fixedRule sss
     quiet-sss h = pick (ℕ-discrete q 0)
       where
-        m : marked (p .frame .subframe) ≡ true
+        m : marked (p .frame) ≡ true
         m = and-true _ _ (and-true _ _ h .0) .0
 
         pick : Dec (q ≡ 0) → sssElement (p .cell) (p .frame) q k ≡ silent
@@ -153,7 +153,7 @@ module _ (w : List ℕ) (p : Plan) (ok : checkOf w ≡ accepted p) (payload : Li
     inactive o h own = and-false _ _ h own
 
     pbch-zero : owns w p Pbch s k ≡ true → eqb (p .frame .subframe) 0 ≡ true
-    unfolding owns fixedRule pbch pbchArea
+    unfolding owns fixedRule pbch inPbchArea
     pbch-zero h = and-true _ _ (and-true _ _ (and-true _ _ (and-true _ _ h .0) .0) .0) .0
 
     quiet-pbch : owns w p Pbch s k ≡ true → elementFor w p payload Pbch q s k ≡ silent

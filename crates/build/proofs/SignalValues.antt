@@ -8,8 +8,8 @@ use Rattle.crs.specs.Crs.{crsInit}
 use Rattle.plan.specs.Check.{checkOf}
 use Rattle.plan.specs.declared.Plan.{Plan}
 use Rattle.plan.specs.declared.Checked.the-variants.{Plan as accepted}
-use Rattle.layout.specs.Rules.{slotOf, inSlot, crsSymbol, marked}
-use Rattle.layout.specs.Owners.{slotOfCell, owns}
+use Rattle.layout.specs.Rules.{slotLength, slotOf, inSlot, crsSymbol, marked}
+use Rattle.layout.specs.Owners.{owns}
 use Rattle.layout.specs.declared.Mark.the-variants.{Primary, Secondary}
 use Rattle.layout.specs.declared.Owner.the-variants.{Crs, Sync}
 use Rattle.places.specs.Places.{carrierAt, placesOf, ownsAt}
@@ -24,10 +24,10 @@ module _ (w : List ℕ) (p : Plan) (ok : checkOf w ≡ accepted p) (payload : Li
   T = placesOf (p .cell)
 
   abbrev L : ℕ
-  L = slotOfCell (p .cell)
+  L = slotLength (p .cell)
 
   pub crs-numbered :
-      (s q e : ℕ) → q < p .cell .ports → crsSymbol (slotOfCell (p .cell)) q (inSlot (slotOfCell (p .cell)) s) ≡ true → crsSends (p .cell) s q e ≡ true
+      (s q e : ℕ) → q < p .cell .ports → crsSymbol (p .cell) q s ≡ true → crsSends (p .cell) s q e ≡ true
       → crsSent (p .cell) (pairAt (crsInit (p .cell .prefix) (p .cell .identity) (2 * p .frame .subframe + slotOf L s) (inSlot L s)) (2 * (110 - p .cell .blocks))) e
       ≡ elementNumbered w p payload e
   unfolding elementFor ownsAt
@@ -37,7 +37,7 @@ module _ (w : List ℕ) (p : Plan) (ok : checkOf w ≡ accepted p) (payload : Li
       ∙ ap (λ (x : ℕ). crsElement (p .cell) (p .frame) q (e / T) x (carrierAt (p .cell) (e % T))) (sym (d .2))
       ∙ sym (numbered w p ok payload (Crs q) e (ap (λ (x : ℕ). owns w p (Crs q) x (carrierAt (p .cell) (e % T))) (d .2) ∙ d .0))
 
-  module _ (m : marked (p .frame .subframe) ≡ true) (e : ℕ) where
+  module _ (m : marked (p .frame) ≡ true) (e : ℕ) where
     pub pss-numbered : markSends (p .cell) 1 e ≡ true → pssSent (p .cell) e ≡ elementNumbered w p payload e
     unfolding elementFor ownsAt
     pss-numbered h = pss-value w p e h ∙ sym (numbered w p ok payload (Sync Primary) e (pss-sends w p e m .0 h .0))

@@ -21,7 +21,7 @@ use Rattle.counts.specs.Users.{userElements}
 use Rattle.counts.specs.Counts.{countOf}
 use Rattle.counts.proofs.UserElements.{user-elements}
 use Rattle.places.specs.Places.{placesOf, ownsAt}
-use Rattle.places.proofs.Counts.{cnt-most}
+use Rattle.base.proofs.Counts.{cnt-most}
 use Rattle.places.proofs.Elements.{count-is}
 use Rattle.payload.specs.Sections.{sectionBytes, bytesOf, startOf, sectionBits}
 use Rattle.payload.specs.Payload.{pbchBits, userBits, heads, sections, payloadLength, usersStart}

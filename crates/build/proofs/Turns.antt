@@ -20,8 +20,8 @@ use Rattle.plan.specs.declared.User.{User}
 use Rattle.plan.specs.declared.Plan.{Plan}
 use Rattle.plan.specs.declared.Checked.the-variants.{Plan as accepted}
 use Rattle.plan.proofs.Valid.{valid}
-use Rattle.layout.specs.Rules.{inSlot, crsSymbol, marked}
-use Rattle.layout.specs.Owners.{slotOfCell, symbols}
+use Rattle.layout.specs.Rules.{slotLength, inSlot, crsSymbol, marked}
+use Rattle.layout.specs.Owners.{symbols}
 use Rattle.layout.specs.declared.Owner.the-variants.{Pcfich, Phich, User as UserOf}
 use Rattle.places.specs.Places.{placesOf}
 use Rattle.payload.specs.Sections.{sectionBytes}
@@ -100,12 +100,12 @@ module _ (w : List ℕ) (p : Plan) (payload : List ℕ) {g₀ : List ℕ} (start
     crs-none = turn-none (crsIn p s)
 
     module _ (q : ℕ) {g : List ℕ} (so-far : Written (crsPorts p s q) E g₀ g) where
-      pub crs-pass : crsSymbol (slotOfCell (p .cell)) q (inSlot (slotOfCell (p .cell)) s) ≡ false → Written (crsPorts p s (q + 1)) E g₀ g
+      pub crs-pass : crsSymbol (p .cell) q s ≡ false → Written (crsPorts p s (q + 1)) E g₀ g
       unfolding crsPorts crsIn
       crs-pass h = turn-pass (crsIn p s) q so-far (λ e. rw h refl)
 
       pub crs-more :
-          (bits : List ℕ) {h : List ℕ} → crsSymbol (slotOfCell (p .cell)) q (inSlot (slotOfCell (p .cell)) s) ≡ true → q < p .cell .ports
+          (bits : List ℕ) {h : List ℕ} → crsSymbol (p .cell) q s ≡ true → q < p .cell .ports
           → Written (sendsOf p (Crs s q)) (sentOf w p bits (pairAt (initOf p (Crs s q)) (firstBit p (Crs s q))) (Crs s q)) g h
           → Written (crsPorts p s (q + 1)) E g₀ h
       unfolding crsPorts crsIn sendsOf sentOf initOf firstBit
@@ -127,12 +127,12 @@ module _ (w : List ℕ) (p : Plan) (payload : List ℕ) {g₀ : List ℕ} (start
   rows-end m n {g} a b c r = let e : m ≡ symbols (p .cell) = omega arith in subst (λ (x : ℕ). Written (crsRows p x) E g₀ g) e r
 
   -- ---- synchronisation
-  pub marks-none : marked (p .frame .subframe) ≡ false → Written (marksSend p) E g₀ g₀
+  pub marks-none : marked (p .frame) ≡ false → Written (marksSend p) E g₀ g₀
   unfolding marksSend
   marks-none h = same (λ e. rw h refl) (λ e k. refl) (none E g₀)
 
   pub marks-both :
-      {g h : List ℕ} → marked (p .frame .subframe) ≡ true → Written (markSends (p .cell) 1) (pssSent (p .cell)) g₀ g
+      {g h : List ℕ} → marked (p .frame) ≡ true → Written (markSends (p .cell) 1) (pssSent (p .cell)) g₀ g
       → Written (markSends (p .cell) 2) (sssSent (p .cell) (p .frame)) g h → Written (marksSend p) E g₀ h
   unfolding marksSend
   marks-both m r s =

@@ -10,8 +10,8 @@ use Rattle.plan.specs.Fields.{unitsOf}
 use Rattle.plan.specs.Rows.{usersOf}
 use Rattle.plan.specs.declared.Plan.{Plan}
 use Rattle.plan.specs.declared.Checked.the-variants.{Plan as accepted}
-use Rattle.layout.specs.Rules.{inSlot, crsSymbol, marked}
-use Rattle.layout.specs.Owners.{slotOfCell, symbols}
+use Rattle.layout.specs.Rules.{slotLength, inSlot, crsSymbol, marked}
+use Rattle.layout.specs.Owners.{symbols}
 use Rattle.layout.specs.declared.Owner.{Owner}
 use Rattle.layout.specs.declared.Owner.the-variants.{Crs, Sync, Pbch, Pcfich, Phich, User as UserOf, Held, Idle}
 use Rattle.places.specs.Places.{placesOf, ownsAt, indexOf}
@@ -41,7 +41,7 @@ ownerSends w p o e = ownsAt w p o (e % placesOf (p .cell)) && active w p o (e % 
 
 -- those of the reference signals in symbol s of the ports below n, and in the symbols below m
 unfoldable pub crsIn : Plan → ℕ → ℕ → ℕ → Bool
-crsIn p s q e = crsSymbol (slotOfCell (p .cell)) q (inSlot (slotOfCell (p .cell)) s) && crsSends (p .cell) s q e
+crsIn p s q e = crsSymbol (p .cell) q s && crsSends (p .cell) s q e
 
 unfoldable pub crsPorts : Plan → ℕ → ℕ → ℕ → Bool
 crsPorts p s n e = someBelow (λ (q : ℕ). crsIn p s q e) n
@@ -51,7 +51,7 @@ crsRows p m e = someBelow (λ (s : ℕ). crsPorts p s (p .cell .ports) e) m
 
 -- of both marks, of the PHICH units below m, and of the users below n
 unfoldable pub marksSend : Plan → ℕ → Bool
-marksSend p e = marked (p .frame .subframe) && (markSends (p .cell) 2 e || markSends (p .cell) 1 e)
+marksSend p e = marked (p .frame) && (markSends (p .cell) 2 e || markSends (p .cell) 1 e)
 
 unfoldable pub pbchSends : List ℕ → Plan → ℕ → Bool
 pbchSends w p e = eqb (p .frame .subframe) 0 && ownerSends w p Pbch e

@@ -12,8 +12,8 @@ ghost use Prim.Native.Nat.{ℕ, _<_};
 ghost use lib.ListN.{length};
 ghost use Rattle.plan.specs.Rows.{usersOf};
 ghost use Rattle.plan.specs.Fields.{unitsOf};
-ghost use Rattle.layout.specs.Rules.{inSlot, crsSymbol};
-ghost use Rattle.layout.specs.Owners.{slotOfCell, symbols};
+ghost use Rattle.layout.specs.Rules.{slotLength, inSlot, crsSymbol};
+ghost use Rattle.layout.specs.Owners.{symbols};
 ghost use Rattle.grid.specs.Writing.{Written};
 ghost use Rattle.subframe.specs.Grid.{elementNumbered, gridOf};
 ghost use Rattle.build.specs.Senders.{crsPorts, crsRows, marksSend, pbchSends, ownerSends, unitsSend, usersSend, Ready};
@@ -28,9 +28,9 @@ pub enum Built {
 
 // Whether the port's reference signal uses symbol s.
 pub fn uses(cell: Cell, port: u8, s: u8) -> bool
-    ensures { λ r. ⌜ r ≡ crsSymbol (slotOfCell cell) port (inSlot (slotOfCell cell) s) ⌝ }
+    ensures { λ r. ⌜ r ≡ crsSymbol cell port s ⌝ }
 {
-    let slot = layout::slot_length(cell.prefix);
+    let slot = layout::slot_length(cell);
     let l = layout::in_slot(slot, base::wide(s));
     if port < 2 {
         return l == 0 || l + 3 == slot;
@@ -57,7 +57,7 @@ fn fill_crs(plan: &[u8], p: Plan, payload: &[u8], grid: &mut [u8])
     requires { ⌜ Ready (now plan) p (now payload) (now grid) ⌝ }
     ensures { λ _. ⌜ Written (crsRows p (symbols (p .cell))) (elementNumbered (now (plan .entry)) p (now (payload .entry))) (now (grid .entry)) (now (grid .exit)) ⌝ }
 {
-    let rows = 2 * layout::slot_length(p.cell.prefix);
+    let rows = 2 * layout::slot_length(p.cell);
     let mut s: usize = 0;
     while s < rows {
         fill_crs_row(plan, p, payload, s as u8, grid);
@@ -70,7 +70,7 @@ fn fill_marks(plan: &[u8], p: Plan, payload: &[u8], grid: &mut [u8])
     requires { ⌜ Ready (now plan) p (now payload) (now grid) ⌝ }
     ensures { λ _. ⌜ Written (marksSend p) (elementNumbered (now (plan .entry)) p (now (payload .entry))) (now (grid .entry)) (now (grid .exit)) ⌝ }
 {
-    if layout::is_marked(p.frame.subframe) {
+    if layout::is_marked(p.frame) {
         signals::fill_pss(p.cell, grid);
         signals::fill_sss(p.cell, p.frame, grid);
     }

@@ -17,7 +17,7 @@ use Rattle.plan.specs.declared.User.{User}
 use Rattle.plan.proofs.OneOf.{among-holds}
 use Rattle.plan.proofs.Valid.{valid}
 use Rattle.plan.proofs.Counts.{blocks-least}
-use Rattle.layout.proofs.Fixed.{slot-length}
+use Rattle.layout.proofs.Pilot.{slot-length}
 use Rattle.grid.specs.Writing.{Written}
 use Rattle.subframe.proofs.Acknowledged.{within, distinct}
 use Rattle.data.specs.Areas.{areaSends, areaElement, pbchArea, userArea, AreaIn}
@@ -58,7 +58,7 @@ module _ (w : List ℕ) (p : Plan) (ch : Channel) (grid : List ℕ) (ok : Channe
 
   pub pbch-in : (a : Area) → a ≡ pbchArea (p .cell) (p .frame) → AreaIn a 2 2 grid
   pbch-in a e =
-      let L = slot-length (p .cell .prefix) in
+      let L = slot-length (p .cell) in
       subst (λ (b : Area). AreaIn b 2 2 grid) (sym e) (record {
         cell = v .cell;
         frame = v .frame;

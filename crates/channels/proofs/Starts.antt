@@ -9,19 +9,28 @@ use Rattle.crs.specs.Crs.{crsInit}
 use Rattle.plan.specs.declared.Cell.{Cell}
 use Rattle.plan.specs.declared.Frame.{Frame}
 use Rattle.base.specs.Choice.{if_then_else_}
-use Rattle.layout.specs.Rules.{slotOf, inSlot}
+use Rattle.layout.specs.Rules.{slotLength, slotOf, inSlot}
 use Rattle.subframe.specs.Elements.{pbchFirst}
 
 -- ---- the reference signals: a symbol of the first slot, and one of the second
-module _ (e C n f L s : ℕ) (en : n ≡ 2 * f) where
+module _ (c : Cell) (n f s : ℕ) (en : n ≡ 2 * f) where
+  abbrev e : ℕ
+  e = c .prefix
+
+  abbrev C : ℕ
+  C = c .identity
+
+  abbrev L : ℕ
+  L = slotLength c
+
   abbrev start : Bool → ℕ
   start t = crsInit e C (2 * f + (if t then 0 else 1)) (if t then s else s - L)
 
-  pub early : s < L → crsInit e C n s ≡ crsInit e C (2 * f + slotOf L s) (inSlot L s)
+  pub early : s < L → crsInit e C n s ≡ crsInit e C (2 * f + slotOf c s) (inSlot c s)
   unfolding slotOf inSlot
   early h = let q : n ≡ 2 * f + 0 = omega (arith, en) in ap (λ (x : ℕ). crsInit e C x s) q ∙ sym (ap start (lt-ltb s L h))
 
-  pub late : L ≤ s → crsInit e C (n + 1) (s - L) ≡ crsInit e C (2 * f + slotOf L s) (inSlot L s)
+  pub late : L ≤ s → crsInit e C (n + 1) (s - L) ≡ crsInit e C (2 * f + slotOf c s) (inSlot c s)
   unfolding slotOf inSlot
   late h = let q : n + 1 ≡ 2 * f + 1 = omega (arith, en) in ap (λ (x : ℕ). crsInit e C x (s - L)) q ∙ sym (ap start (le-ltb s L h))
 

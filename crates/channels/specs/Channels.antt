@@ -15,7 +15,7 @@ use Rattle.plan.specs.Valid.{UserIn}
 use Rattle.plan.specs.declared.Plan.{Plan}
 use Rattle.plan.specs.declared.Checked.the-variants.{Plan as accepted}
 use Rattle.layout.specs.Rules.{slotOf, inSlot}
-use Rattle.layout.specs.Owners.{slotOfCell, symbols}
+use Rattle.layout.specs.Owners.{symbols}
 use Rattle.places.specs.Places.{placesOf}
 use Rattle.grid.specs.Writing.{Room}
 use Rattle.subframe.specs.Elements.{pbchFirst, controlInit, userInit}
@@ -28,7 +28,7 @@ use Rattle.channels.specs.declared.Channel.the-variants.{Crs, Pbch, Pcfi
 -- its c_init, and the bit of the sequence at which it starts
 unfoldable pub initOf : Plan → Channel → ℕ
 initOf p (Crs s q) =
-    let L = slotOfCell (p .cell) in crsInit (p .cell .prefix) (p .cell .identity) (2 * p .frame .subframe + slotOf L s) (inSlot L s)
+    crsInit (p .cell .prefix) (p .cell .identity) (2 * p .frame .subframe + slotOf (p .cell) s) (inSlot (p .cell) s)
 initOf p Pbch = p .cell .identity
 initOf p Pcfich = controlInit (p .cell) (p .frame)
 initOf p (Phich m) = controlInit (p .cell) (p .frame)

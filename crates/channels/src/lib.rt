@@ -11,8 +11,8 @@ ghost use Rattle.gold.specs.Sequence.{pairAt};
 ghost use Rattle.gold.specs.Steps.{after};
 ghost use Rattle.crs.specs.Crs.{crsInit};
 ghost use Rattle.plan.specs.Valid.{CellIn, FrameIn};
-ghost use Rattle.layout.specs.Rules.{slotOf, inSlot};
-ghost use Rattle.layout.specs.Owners.{slotOfCell, symbols};
+ghost use Rattle.layout.specs.Rules.{slotLength, slotOf, inSlot};
+ghost use Rattle.layout.specs.Owners.{symbols};
 ghost use Rattle.grid.specs.Writing.{Written};
 ghost use Rattle.subframe.specs.Elements.{pbchFirst, controlInit, userInit};
 ghost use Rattle.channels.specs.Channels.{initOf, firstBit, sendsOf, sentOf, Among, ChannelIn};
@@ -29,9 +29,9 @@ pub enum Channel {
 // c_init of the reference signals in symbol s. The plan check gives an identity up to 503 and a subframe up to 9.
 fn crs_init(cell: Cell, frame: Frame, s: u8) -> u32
     requires { ⌜ CellIn cell × FrameIn frame × (s < symbols cell) ⌝ }
-    ensures { λ r. ⌜ r ≡ crsInit (cell .prefix) (cell .identity) (2 * frame .subframe + slotOf (slotOfCell cell) s) (inSlot (slotOfCell cell) s) ⌝ }
+    ensures { λ r. ⌜ r ≡ crsInit (cell .prefix) (cell .identity) (2 * frame .subframe + slotOf cell s) (inSlot cell s) ⌝ }
 {
-    let slot = layout::slot_length(cell.prefix) as u8;
+    let slot = layout::slot_length(cell) as u8;
     let n = 2 * frame.subframe;
     if s < slot {
         return crs::c_init(cell.prefix, cell.identity, n, s);

@@ -63,11 +63,11 @@ module _ (w : List ℕ) (p : Plan) (ok : checkOf w ≡ accepted p) where
   unfolding phichIndex indexOf indexBy orderOf
   phich-index m t = refl
 
-  pub pcfich-owns : (t : ℕ) → pcfich (p .cell .identity) (p .cell .blocks) (symbolAt (p .cell) t) (carrierAt (p .cell) t) ≡ ownsAt w p Pcfich t
+  pub pcfich-owns : (t : ℕ) → pcfich (p .cell) (symbolAt (p .cell) t) (carrierAt (p .cell) t) ≡ ownsAt w p Pcfich t
   unfolding ownsAt owns fixedRule
   pcfich-owns t = refl
 
-  pub phich-owns : (m t : ℕ) → phich (p .cell .identity) (p .cell .blocks) (unitsOf (p .cell)) m (symbolAt (p .cell) t) (carrierAt (p .cell) t) ≡ ownsAt w p (Phich m) t
+  pub phich-owns : (m t : ℕ) → phich (p .cell) m (symbolAt (p .cell) t) (carrierAt (p .cell) t) ≡ ownsAt w p (Phich m) t
   unfolding ownsAt owns fixedRule
   phich-owns m t = refl
 
@@ -80,14 +80,14 @@ module _ (w : List ℕ) (p : Plan) (ok : checkOf w ≡ accepted p) where
   pcfich-below e h =
       let t = e % placesOf (p .cell) in
       pcfich-listed (p .cell) cell-ok .below t (mod-lt e some)
-      (and-left (pcfich (p .cell .identity) (p .cell .blocks) (symbolAt (p .cell) t) (carrierAt (p .cell) t)) (sends (p .cell .ports) (pcfichIndex (p .cell) t / 2 % 2) (e / placesOf (p .cell))) h)
+      (and-left (pcfich (p .cell) (symbolAt (p .cell) t) (carrierAt (p .cell) t)) (sends (p .cell .ports) (pcfichIndex (p .cell) t / 2 % 2) (e / placesOf (p .cell))) h)
 
   phich-below : (m : ℕ) → m < unitsOf (p .cell) → (e : ℕ) → phichSends (p .cell) m e ≡ true → phichIndex (p .cell) m (e % placesOf (p .cell)) < 12
   unfolding phichSends
   phich-below m in-m e h =
       let t = e % placesOf (p .cell) in
       phich-listed (p .cell) cell-ok m in-m .below t (mod-lt e some)
-      (and-left (phich (p .cell .identity) (p .cell .blocks) (unitsOf (p .cell)) m (symbolAt (p .cell) t) (carrierAt (p .cell) t)) (sends (p .cell .ports) ((phichIndex (p .cell) m t / 4 + m) % 2) (e / placesOf (p .cell))) h)
+      (and-left (phich (p .cell) m (symbolAt (p .cell) t) (carrierAt (p .cell) t)) (sends (p .cell .ports) ((phichIndex (p .cell) m t / 4 + m) % 2) (e / placesOf (p .cell))) h)
 
   -- ---- values
   pcfich-symbols : (j : ℕ) → dataSymbol 2 (cfiBit (p .frame .cfi)) (outputs (pairAt (controlInit (p .cell) (p .frame)) 0)) j ≡ pcfichSymbol (p .cell) (p .frame) j

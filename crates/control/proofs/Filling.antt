@@ -12,7 +12,7 @@ use Rattle.base.proofs.Tests.{by-test}
 use Rattle.base.specs.declared.Pair.{Pair}
 use Rattle.base.specs.declared.Element.{Element}
 use Rattle.precoding.specs.Places.{onPort, beside, placed}
-use Rattle.places.specs.Counts.{Listed}
+use Rattle.base.specs.Counts.{Listed}
 use Rattle.plan.proofs.Listed.{and-left}
 use Rattle.grid.specs.Writing.{sends, sentAt, Written}
 use Rattle.grid.proofs.Writing.{none, same, over}

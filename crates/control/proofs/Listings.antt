@@ -7,26 +7,26 @@ use Rattle.plan.specs.Fields.{unitsOf}
 use Rattle.plan.specs.Valid.{CellIn}
 use Rattle.plan.specs.declared.Cell.{Cell}
 use Rattle.plan.proofs.Counts.{blocks-least, blocks-most, sixths-most, units-most}
-use Rattle.layout.specs.Rules.{formatGroup, isFormat, pcfich, unitHas, phich}
+use Rattle.layout.specs.Rules.{unitGroup, formatGroup, isFormat, pcfich, unitHas, phich}
 use Rattle.layout.specs.Owners.{carriers}
 use Rattle.layout.proofs.Units.{units-fit}
-use Rattle.places.specs.Counts.{Listed}
-use Rattle.places.specs.Quads.{quadPlace, unitGroup, quadsPlace}
+use Rattle.base.specs.Counts.{Listed}
+use Rattle.places.specs.Quads.{quadPlace, quadsPlace}
 use Rattle.places.specs.Places.{placeNumber, symbolAt, carrierAt, placesOf}
 use Rattle.places.proofs.Numbers.{first-row}
-use Rattle.places.proofs.Quads.{Groups, place-group, quads-at}
+use Rattle.places.proofs.Quads.{Groups, place-below, quads-at}
 use Rattle.places.proofs.Channels.{format-groups, unit-groups}
 use Rattle.places.proofs.Listing.{pcfich-is, phich-is, by-quads}
 use Rattle.control.specs.Control.{pcfichIndex, phichIndex}
 
 -- the place of index 4i + k: subcarrier of symbol 0
-pub place-at : (c : Cell) (group : ℕ → ℕ) (j i k : ℕ) → 4 * i + k ≡ j → k < 4 → placeNumber c 0 (quadsPlace (c .identity) group j) ≡ quadPlace (c .identity) (group i) k
+pub place-at : (c : Cell) (group : ℕ → ℕ) (j i k : ℕ) → 4 * i + k ≡ j → k < 4 → placeNumber c 0 (quadsPlace c group j) ≡ quadPlace c 0 (group i) k
 place-at c group j i k e h =
-    omega (arith, zero-mul (carriers c), ap (quadsPlace (c .identity) group) (sym e) ∙ quads-at (c .identity) group i k h)
+    omega (arith, zero-mul (carriers c), ap (quadsPlace c group) (sym e) ∙ quads-at c group i k h)
 
 -- a place of a group stands in symbol 0
-pub place-inside : (c : Cell) (g k : ℕ) → g < 2 * c .blocks → k < 4 → quadPlace (c .identity) g k < placesOf c
-place-inside c g k h l = omega (arith, place-group (c .identity) g k l, first-row c)
+pub place-inside : (c : Cell) (g k : ℕ) → g < 2 * c .blocks → k < 4 → quadPlace c 0 g k < placesOf c
+place-inside c g k h l = omega (arith, place-below c g h k l, first-row c)
 
 module _ (c : Cell) (ok : CellIn c) where
   pub some-carriers : 0 < carriers c
@@ -38,32 +38,29 @@ module _ (c : Cell) (ok : CellIn c) where
   pub six : 6 ≤ c .blocks
   six = omega (arith, blocks-least c ok)
 
-  pub few-groups : 2 * c .blocks < 512
-  few-groups = omega (arith, blocks-most c ok)
-
-  pub pcfich-groups : Groups 4 (2 * c .blocks) (formatGroup (c .identity) (c .blocks)) (isFormat (c .identity) (c .blocks))
-  pcfich-groups = format-groups (c .identity) (c .blocks) six
+  pub pcfich-groups : Groups 4 (2 * c .blocks) (formatGroup c) (isFormat c)
+  pcfich-groups = format-groups c six
 
   pub pcfich-listed :
-      Listed (λ (t : ℕ). pcfich (c .identity) (c .blocks) (symbolAt c t) (carrierAt c t)) (placesOf c) 16
-      (λ (j : ℕ). placeNumber c 0 (quadsPlace (c .identity) (formatGroup (c .identity) (c .blocks)) j)) (pcfichIndex c)
+      Listed (λ (t : ℕ). pcfich c (symbolAt c t) (carrierAt c t)) (placesOf c) 16
+      (λ (j : ℕ). placeNumber c 0 (quadsPlace c (formatGroup c) j)) (pcfichIndex c)
   unfolding pcfichIndex
   pcfich-listed =
-      by-quads c 4 (formatGroup (c .identity) (c .blocks)) (isFormat (c .identity) (c .blocks)) some-carriers pcfich-groups
-      (λ (t : ℕ). pcfich (c .identity) (c .blocks) (symbolAt c t) (carrierAt c t)) (λ t. pcfich-is (c .identity) (c .blocks) (symbolAt c t) (carrierAt c t))
+      by-quads c 4 (formatGroup c) (isFormat c) some-carriers pcfich-groups
+      (λ (t : ℕ). pcfich c (symbolAt c t) (carrierAt c t)) (λ t. pcfich-is c (symbolAt c t) (carrierAt c t))
 
   module _ (m : ℕ) (in-m : m < unitsOf c) where
     pub unit-few : m < 256
     unit-few = omega (arith, units-most c ok)
 
-    pub phich-groups : Groups 3 (2 * c .blocks) (unitGroup (c .identity) (c .blocks) m) (unitHas (c .identity) (c .blocks) m 0)
-    phich-groups = unit-groups (c .identity) (c .blocks) six m (omega (arith, units-fit c (sixths-most c ok) six))
+    pub phich-groups : Groups 3 (2 * c .blocks) (unitGroup c m) (unitHas c m 0)
+    phich-groups = unit-groups c six m (omega (arith, units-fit c (sixths-most c ok) six))
 
     pub phich-listed :
-        Listed (λ (t : ℕ). phich (c .identity) (c .blocks) (unitsOf c) m (symbolAt c t) (carrierAt c t)) (placesOf c) 12
-        (λ (j : ℕ). placeNumber c 0 (quadsPlace (c .identity) (unitGroup (c .identity) (c .blocks) m) j)) (phichIndex c m)
+        Listed (λ (t : ℕ). phich c m (symbolAt c t) (carrierAt c t)) (placesOf c) 12
+        (λ (j : ℕ). placeNumber c 0 (quadsPlace c (unitGroup c m) j)) (phichIndex c m)
     unfolding phichIndex
     phich-listed =
-        by-quads c 3 (unitGroup (c .identity) (c .blocks) m) (unitHas (c .identity) (c .blocks) m 0) some-carriers phich-groups
-        (λ (t : ℕ). phich (c .identity) (c .blocks) (unitsOf c) m (symbolAt c t) (carrierAt c t))
-        (λ t. phich-is (c .identity) (c .blocks) (unitsOf c) m (symbolAt c t) (carrierAt c t) in-m)
+        by-quads c 3 (unitGroup c m) (unitHas c m 0) some-carriers phich-groups
+        (λ (t : ℕ). phich c m (symbolAt c t) (carrierAt c t))
+        (λ t. phich-is c m (symbolAt c t) (carrierAt c t) in-m)

@@ -9,39 +9,35 @@ use Rattle.base.specs.Pairs.{Small}
 use Rattle.precoding.specs.Places.{onPort}
 use Rattle.plan.specs.declared.Cell.{Cell}
 use Rattle.layout.specs.Rules.{slotLength}
+use Rattle.layout.proofs.Pilot.{slot-length}
 use Rattle.places.specs.Places.{placesOf}
 use Rattle.places.specs.Quads.{quadPlace}
-use Rattle.places.proofs.Numbers.{slot-length}
 use Rattle.grid.specs.Writing.{sentAt, Written, Room}
 use Rattle.grid.proofs.Writing.{room-kept}
 use Rattle.control.specs.Filling.{PairIn, PairWritten}
-use Rattle.control.proofs.Listings.{few-groups, place-inside}
+use Rattle.control.proofs.Listings.{place-inside}
 
-pub slot-few : (l prefix : ℕ) → l ≡ slotLength prefix → l ≤ 7
-slot-few l prefix e = omega (arith, slot-length prefix)
+pub slot-few : (l : ℕ) (c : Cell) → l ≡ slotLength c → l ≤ 7
+slot-few l c e = omega (arith, slot-length c)
 
 -- a port's places are few
-pub places-fit : (l prefix n b : ℕ) → l ≡ slotLength prefix → n ≡ b → b < 256 → 2 * l * (12 * n) ≤ 42840
-places-fit l prefix n b e f h =
-    let two : 2 * l ≤ 14 = omega (arith, e, slot-length prefix) in
+pub places-fit : (l : ℕ) (c : Cell) (n b : ℕ) → l ≡ slotLength c → n ≡ b → b < 256 → 2 * l * (12 * n) ≤ 42840
+places-fit l c n b e f h =
+    let two : 2 * l ≤ 14 = omega (arith, e, slot-length c) in
     let all : 12 * n ≤ 3060 = omega arith in
     mul-le-mul two all
 
-pub places-are : (c : Cell) (l n : ℕ) → l ≡ slotLength (c .prefix) → n ≡ c .blocks → 2 * l * (12 * n) ≡ placesOf c
+pub places-are : (c : Cell) (l n : ℕ) → l ≡ slotLength c → n ≡ c .blocks → 2 * l * (12 * n) ≡ placesOf c
 places-are c l n e f = ap₂ (λ (x y : ℕ). 2 * x * (12 * y)) e f
 
 module _ {c : Cell} {g i : ℕ} {d e : Pair} {grid : List ℕ} (ok : PairIn c g i d e grid) where
-  -- what `quad_place` requires
-  pub group-few : g < 512
-  group-few = omega (arith, ok .group, few-groups c (ok .cell))
-
   -- what `put_place` requires
-  pub first-ok : {T a : ℕ} → T ≡ placesOf c → a ≡ quadPlace (c .identity) g (2 * i) → Room (c .ports) T grid × (a < T) × Small 127 e × (2 ≤ 127)
+  pub first-ok : {T a : ℕ} → T ≡ placesOf c → a ≡ quadPlace c 0 g (2 * i) → Room (c .ports) T grid × (a < T) × Small 127 e × (2 ≤ 127)
   first-ok t q = (rw t (ok .room), rw (t, q) (place-inside c g (2 * i) (ok .group) (omega (arith, ok .half))), ok .second, omega arith)
 
-  module _ {T a : ℕ} (turn : ℕ) {h : List ℕ} (t : T ≡ placesOf c) (q : a ≡ quadPlace (c .identity) g (2 * i))
+  module _ {T a : ℕ} (turn : ℕ) {h : List ℕ} (t : T ≡ placesOf c) (q : a ≡ quadPlace c 0 g (2 * i))
       (one : Written (sentAt (c .ports) T turn a) (λ (x : ℕ). onPort (c .ports) turn 2 0 d e (x / T)) grid h) where
-    pub second-ok : {b : ℕ} → b ≡ quadPlace (c .identity) g (2 * i + 1) → Room (c .ports) T h × (b < T) × Small 127 d × (2 ≤ 127)
+    pub second-ok : {b : ℕ} → b ≡ quadPlace c 0 g (2 * i + 1) → Room (c .ports) T h × (b < T) × Small 127 d × (2 ≤ 127)
     second-ok r = (
       room-kept (rw t (ok .room)) one,
       rw (t, r) (place-inside c g (2 * i + 1) (ok .group) (omega (arith, ok .half))),
@@ -49,7 +45,7 @@ module _ {c : Cell} {g i : ℕ} {d e : Pair} {grid : List ℕ} (ok : PairIn c g 
       omega arith,
     )
 
-    pub both : {b : ℕ} {k : List ℕ} → b ≡ quadPlace (c .identity) g (2 * i + 1)
+    pub both : {b : ℕ} {k : List ℕ} → b ≡ quadPlace c 0 g (2 * i + 1)
         → Written (sentAt (c .ports) T turn b) (λ (x : ℕ). onPort (c .ports) turn 2 1 e d (x / T)) h k
-        → PairWritten (c .ports) (placesOf c) turn (quadPlace (c .identity) g (2 * i)) (quadPlace (c .identity) g (2 * i + 1)) d e grid k
+        → PairWritten (c .ports) (placesOf c) turn (quadPlace c 0 g (2 * i)) (quadPlace c 0 g (2 * i + 1)) d e grid k
     both r two = rw (← t, ← q, ← r) (record { between = h; one = one; two = two })

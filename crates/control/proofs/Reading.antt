@@ -34,27 +34,25 @@ use Rattle.plan.specs.declared.Hi.{Hi}
 use Rattle.plan.specs.declared.Row.{Row}
 use Rattle.plan.proofs.RowLaws.{row-length, row-next}
 use Rattle.places.specs.Places.{placesOf}
-use Rattle.places.specs.Quads.{quadPlace, unitGroup}
+use Rattle.places.specs.Quads.{quadPlace}
 use Rattle.payload.specs.Sections.{sectionBytes}
 use Rattle.recovery.specs.Recovery.{sectionOf}
 use Rattle.control.specs.Reading.{ownElement, sumRead, sumsOf, ackRead, ackFrom, pushed, PushIn, UnitRead, HiRead, ReadIn}
-use Rattle.control.proofs.Listings.{few-groups, place-inside, phich-groups}
+use Rattle.control.proofs.Listings.{place-inside, phich-groups}
 use Rattle.control.proofs.Packing.{Packed, push-ok, push-more, pushed-length, packed-none, packed-all}
 use Rattle.control.proofs.Words.{word-bits}
+use Rattle.layout.specs.Rules.{unitGroup}
 
 -- ---- one sum
 turn-odd : (P x : ℕ) → ownPort P (x % 2) ≡ ownPort P x
 unfolding ownPort
 turn-odd P x = let e : x % 2 % 2 ≡ x % 2 = omega arith in ap (λ (y : ℕ). cond (eqb P 4) y 0) e
 
-module _ {c : Cell} {m : ℕ} {grid : List ℕ} (ok : UnitRead c m grid) {i : ℕ} (in-i : i < 12) {g : ℕ} (eg : g ≡ unitGroup (c .identity) (c .blocks) m (i / 4)) where
-  group-in : g < 2 * c .blocks
+module _ {c : Cell} {m : ℕ} {grid : List ℕ} (ok : UnitRead c m grid) {i : ℕ} (in-i : i < 12) {g : ℕ} (eg : g ≡ unitGroup c m (i / 4)) where
+  pub group-in : g < 2 * c .blocks
   group-in = rw eg (phich-groups c (ok .cell) m (ok .unit) .small (i / 4) (omega arith))
 
-  pub group-few : g < 512
-  group-few = omega (arith, group-in, few-groups c (ok .cell))
-
-  module _ {t port q T : ℕ} (et : t ≡ quadPlace (c .identity) g (i % 4)) (ep : port ≡ ownPort (c .ports) ((i / 4 + m) % 2)) (eq : q ≡ port) (eT : T ≡ placesOf c) where
+  module _ {t port q T : ℕ} (et : t ≡ quadPlace c 0 g (i % 4)) (ep : port ≡ ownPort (c .ports) ((i / 4 + m) % 2)) (eq : q ≡ port) (eT : T ≡ placesOf c) where
     pub element-fits : (q * T < 2 ^ 64) × (q * T + t < 2 ^ 64) × (3 * (q * T + t) + 2 < length grid)
     element-fits =
         rw eT (own-fits (ok .room) ((i / 4 + m) % 2) q t (eq ∙ ep) (rw et (place-inside c g (i % 4) group-in (omega arith))))
@@ -63,7 +61,7 @@ module _ {c : Cell} {m : ℕ} {grid : List ℕ} (ok : UnitRead c m grid) {i : �
     unfolding ownElement
     element-is =
         ap₂ (λ (x y : ℕ). x * y + t) (eq ∙ ep ∙ turn-odd (c .ports) (i / 4 + m)) eT
-        ∙ ap (λ (x : ℕ). ownPort (c .ports) (i / 4 + m) * placesOf c + x) (et ∙ ap (λ (x : ℕ). quadPlace (c .identity) x (i % 4)) eg)
+        ∙ ap (λ (x : ℕ). ownPort (c .ports) (i / 4 + m) * placesOf c + x) (et ∙ ap (λ (x : ℕ). quadPlace c 0 x (i % 4)) eg)
 
     pub sum-is : {e : Element} {a b : ℤ} → e ≡ elementIn grid (q * T + t) → a ≡ signedOf (e .i) → b ≡ signedOf (e .j) → record { re = a; im = b } ≡ sumRead c m grid i
     unfolding sumRead pairOf

@@ -27,8 +27,9 @@ use Rattle.plan.proofs.Listed.{every-at}
 use Rattle.plan.proofs.Valid.{valid}
 use Rattle.layout.specs.Owners.{carriers}
 use Rattle.layout.specs.declared.Owner.the-variants.{Phich}
+use Rattle.layout.specs.Rules.{unitGroup}
 use Rattle.places.specs.Places.{placesOf, placeOf}
-use Rattle.places.specs.Quads.{quadPlace, unitGroup}
+use Rattle.places.specs.Quads.{quadPlace}
 use Rattle.places.proofs.Listing.{phich-place}
 use Rattle.payload.specs.Sections.{sectionBytes}
 use Rattle.subframe.specs.Elements.{controlInit}
@@ -37,10 +38,10 @@ use Rattle.recovery.specs.Recovery.{symbolIn, sumsIn, ackBit}
 use Rattle.control.specs.Reading.{ownElement, sumRead, sumsOf, ackFrom, ReadIn}
 
 module _ (w : List ℕ) (p : Plan) (g : List ℕ) where
-  place-is : (m i : ℕ) → quadPlace (p .cell .identity) (unitGroup (p .cell .identity) (p .cell .blocks) m (i / 4)) (i % 4) ≡ placeOf w p (Phich m) i
+  place-is : (m i : ℕ) → quadPlace (p .cell) 0 (unitGroup (p .cell) m (i / 4)) (i % 4) ≡ placeOf w p (Phich m) i
   place-is m i =
       let e : 4 * (i / 4) + i % 4 ≡ i = omega arith in
-      let h : placeOf w p (Phich m) i ≡ 0 * carriers (p .cell) + quadPlace (p .cell .identity) (unitGroup (p .cell .identity) (p .cell .blocks) m (i / 4)) (i % 4) =
+      let h : placeOf w p (Phich m) i ≡ 0 * carriers (p .cell) + quadPlace (p .cell) 0 (unitGroup (p .cell) m (i / 4)) (i % 4) =
       ap (placeOf w p (Phich m)) (sym e) ∙ phich-place w p m (i / 4) (i % 4) (omega arith) in
       omega (arith, zero-mul (carriers (p .cell)))
 

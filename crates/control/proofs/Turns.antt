@@ -17,8 +17,8 @@ use Rattle.codeword.specs.Codewords.{scrambled, dataSymbol, cfiBit}
 use Rattle.codeword.specs.Streams.{outputs}
 use Rattle.plan.specs.Fields.{unitsOf}
 use Rattle.plan.specs.declared.Cell.{Cell}
-use Rattle.layout.specs.Rules.{formatGroup, pcfich, phich}
-use Rattle.places.specs.Quads.{quadPlace, unitGroup}
+use Rattle.layout.specs.Rules.{unitGroup, formatGroup, pcfich, phich}
+use Rattle.places.specs.Quads.{quadPlace}
 use Rattle.places.specs.Places.{symbolAt, carrierAt, placesOf}
 use Rattle.grid.specs.Writing.{Written}
 use Rattle.grid.proofs.Writing.{room-kept}
@@ -34,7 +34,7 @@ small-symbol w = let s = order-small 2 w (refl, omega arith, omega arith) in (om
 
 -- ---- PCFICH
 abbrev pcfichHas : Cell → ℕ → Bool
-pcfichHas c t = pcfich (c .identity) (c .blocks) (symbolAt c t) (carrierAt c t)
+pcfichHas c t = pcfich c (symbolAt c t) (carrierAt c t)
 
 abbrev byTwo : ℕ → ℕ
 byTwo j = j / 2 % 2
@@ -49,7 +49,7 @@ pub record FormatTurn (c : Cell) (cfi : ℕ) (r s : Registers) (n : ℕ) (g₀ g
 -- the two symbols of turn n and their group, in any grid of the cell
 pub format-in :
     {c : Cell} {cfi : ℕ} {g : List ℕ} → PcfichIn c cfi g → {n k : ℕ} {d e : Pair} → n < 8
-    → (w : ℕ) → k ≡ formatGroup (c .identity) (c .blocks) (n / 2) → d ≡ symbolFor 2 (w / 4) → e ≡ symbolFor 2 (w % 4) → PairIn c k (n % 2) d e g
+    → (w : ℕ) → k ≡ formatGroup c (n / 2) → d ≡ symbolFor 2 (w / 4) → e ≡ symbolFor 2 (w % 4) → PairIn c k (n % 2) d e g
 format-in {c = c} ok {n = n} in-n w q f h =
     record {
       cell = ok .cell;
@@ -71,21 +71,20 @@ module _ (c : Cell) (cfi : ℕ) (r : Registers) (g₀ : List ℕ) (ok : PcfichIn
 
   module _ {s : Registers} {n : ℕ} {g : List ℕ} (t : FormatTurn c cfi r s n g₀ g) (in-n : n < 8) where
     -- what `put_pair` requires
-    pub format-pair : {k : ℕ} {d e : Pair} (w : ℕ) → k ≡ formatGroup (c .identity) (c .blocks) (n / 2) → d ≡ symbolFor 2 (w / 4) → e ≡ symbolFor 2 (w % 4) → PairIn c k (n % 2) d e g
+    pub format-pair : {k : ℕ} {d e : Pair} (w : ℕ) → k ≡ formatGroup c (n / 2) → d ≡ symbolFor 2 (w / 4) → e ≡ symbolFor 2 (w % 4) → PairIn c k (n % 2) d e g
     format-pair w q f h = format-in (record { cell = ok .cell; some = ok .some; most = ok .most; room = room-kept (ok .room) (t .written) }) {n = n} in-n w q f h
 
     -- and what it has done, with the pair four steps on
     pub format-next :
         {s′ : Registers} {k : ℕ} {d e : Pair} {g′ : List ℕ} (w : ℕ) → w ≡ binary (scrambled (cfiBit cfi) (outputs r)) (4 * n) 4
-        → k ≡ formatGroup (c .identity) (c .blocks) (n / 2) → d ≡ symbolFor 2 (w / 4) → e ≡ symbolFor 2 (w % 4)
-        → PairWritten (c .ports) (placesOf c) (n % 2) (quadPlace (c .identity) k (2 * (n % 2))) (quadPlace (c .identity) k (2 * (n % 2) + 1)) d e g g′
+        → k ≡ formatGroup c (n / 2) → d ≡ symbolFor 2 (w / 4) → e ≡ symbolFor 2 (w % 4)
+        → PairWritten (c .ports) (placesOf c) (n % 2) (quadPlace c 0 k (2 * (n % 2))) (quadPlace c 0 k (2 * (n % 2) + 1)) d e g g′
         → s′ ≡ after s 4 → FormatTurn c cfi r s′ (n + 1) g₀ g′
     format-next {d = d} {e = e} w x q f h p z =
-        let group : ℕ → ℕ = formatGroup (c .identity) (c .blocks) in
-        let C : ℕ = c .identity in
+        let group : ℕ → ℕ = formatGroup c in
         let i : ℕ = 2 * (n % 2) in
-        let one = place-at c group (2 * n) (n / 2) i (omega arith) (omega arith) ∙ ap (λ (y : ℕ). quadPlace C y i) (sym q) in
-        let two = place-at c group (2 * n + 1) (n / 2) (i + 1) (omega arith) (omega arith) ∙ ap (λ (y : ℕ). quadPlace C y (i + 1)) (sym q) in
+        let one = place-at c group (2 * n) (n / 2) i (omega arith) (omega arith) ∙ ap (λ (y : ℕ). quadPlace c 0 y i) (sym q) in
+        let two = place-at c group (2 * n + 1) (n / 2) (i + 1) (omega arith) (omega arith) ∙ ap (λ (y : ℕ). quadPlace c 0 y (i + 1)) (sym q) in
         let sum : 4 * n + 4 ≡ 4 * (n + 1) = omega arith in
         record {
           most = omega arith;
@@ -103,7 +102,7 @@ module _ (c : Cell) (cfi : ℕ) (r : Registers) (g₀ : List ℕ) (ok : PcfichIn
 
 -- ---- a PHICH unit
 abbrev phichHas : Cell → ℕ → ℕ → Bool
-phichHas c m t = phich (c .identity) (c .blocks) (unitsOf c) m (symbolAt c t) (carrierAt c t)
+phichHas c m t = phich c m (symbolAt c t) (carrierAt c t)
 
 abbrev byQuad : ℕ → ℕ → ℕ
 byQuad m j = (j / 4 + m) % 2
@@ -117,7 +116,7 @@ pub record UnitTurn (c : Cell) (m : ℕ) (sums : List Pair) (n : ℕ) (g₀ g : 
 -- the two sums of turn n and their group, in any grid of the cell
 pub unit-in :
     {c : Cell} {m : ℕ} {sums : List Pair} {g : List ℕ} → UnitIn c m sums g → {n k : ℕ} → n < 6
-    → k ≡ unitGroup (c .identity) (c .blocks) m (n / 2) → PairIn c k (n % 2) (getD sums (2 * n) nil) (getD sums (2 * n + 1) nil) g
+    → k ≡ unitGroup c m (n / 2) → PairIn c k (n % 2) (getD sums (2 * n) nil) (getD sums (2 * n + 1) nil) g
 unit-in {c = c} {m = m} {sums = sums} ok {n = n} in-n q =
     record {
       cell = ok .cell;
@@ -140,19 +139,18 @@ module _ (c : Cell) (m : ℕ) (sums : List Pair) (g₀ : List ℕ) (ok : UnitIn 
       }
 
   module _ {n : ℕ} {g : List ℕ} (t : UnitTurn c m sums n g₀ g) (in-n : n < 6) where
-    pub unit-pair : {k : ℕ} → k ≡ unitGroup (c .identity) (c .blocks) m (n / 2) → PairIn c k (n % 2) (getD sums (2 * n) nil) (getD sums (2 * n + 1) nil) g
+    pub unit-pair : {k : ℕ} → k ≡ unitGroup c m (n / 2) → PairIn c k (n % 2) (getD sums (2 * n) nil) (getD sums (2 * n + 1) nil) g
     unit-pair q = unit-in {sums = sums} (record { cell = ok .cell; unit = ok .unit; room = room-kept (ok .room) (t .written); small = ok .small }) {n = n} in-n q
 
     pub unit-next :
-        {k : ℕ} {g′ : List ℕ} → k ≡ unitGroup (c .identity) (c .blocks) m (n / 2)
-        → PairWritten (c .ports) (placesOf c) ((n / 2 + m) % 2) (quadPlace (c .identity) k (2 * (n % 2))) (quadPlace (c .identity) k (2 * (n % 2) + 1)) (getD sums (2 * n) nil) (getD sums (2 * n + 1) nil) g g′
+        {k : ℕ} {g′ : List ℕ} → k ≡ unitGroup c m (n / 2)
+        → PairWritten (c .ports) (placesOf c) ((n / 2 + m) % 2) (quadPlace c 0 k (2 * (n % 2))) (quadPlace c 0 k (2 * (n % 2) + 1)) (getD sums (2 * n) nil) (getD sums (2 * n + 1) nil) g g′
         → UnitTurn c m sums (n + 1) g₀ g′
     unit-next q p =
-        let group : ℕ → ℕ = unitGroup (c .identity) (c .blocks) m in
-        let C : ℕ = c .identity in
+        let group : ℕ → ℕ = unitGroup c m in
         let i : ℕ = 2 * (n % 2) in
-        let one = place-at c group (2 * n) (n / 2) i (omega arith) (omega arith) ∙ ap (λ (y : ℕ). quadPlace C y i) (sym q) in
-        let two = place-at c group (2 * n + 1) (n / 2) (i + 1) (omega arith) (omega arith) ∙ ap (λ (y : ℕ). quadPlace C y (i + 1)) (sym q) in
+        let one = place-at c group (2 * n) (n / 2) i (omega arith) (omega arith) ∙ ap (λ (y : ℕ). quadPlace c 0 y i) (sym q) in
+        let two = place-at c group (2 * n + 1) (n / 2) (i + 1) (omega arith) (omega arith) ∙ ap (λ (y : ℕ). quadPlace c 0 y (i + 1)) (sym q) in
         let u : 2 * n / 4 ≡ n / 2 = omega arith in
         let v : (2 * n + 1) / 4 ≡ n / 2 = omega arith in
         record {

@@ -17,23 +17,23 @@ use Rattle.phich.specs.Spreading.{spreadLength}
 use Rattle.plan.specs.Fields.{unitsOf}
 use Rattle.plan.specs.declared.Cell.{Cell}
 use Rattle.plan.specs.declared.Hi.{Hi}
-use Rattle.layout.specs.Rules.{pcfich, phich, formatGroup}
+use Rattle.layout.specs.Rules.{unitGroup, pcfich, phich, formatGroup}
 use Rattle.places.specs.Places.{symbolAt, carrierAt, placesOf}
-use Rattle.places.specs.Quads.{unitGroup, quadsIndex}
+use Rattle.places.specs.Quads.{quadsIndex}
 use Rattle.grid.specs.Writing.{sends}
 
 -- which of PCFICH's places t is, and which of unit m's
 unfoldable pub pcfichIndex : Cell → ℕ → ℕ
-pcfichIndex c t = quadsIndex (c .identity) 4 (formatGroup (c .identity) (c .blocks)) (carrierAt c t)
+pcfichIndex c t = quadsIndex c 4 (formatGroup c) (carrierAt c t)
 
 unfoldable pub phichIndex : Cell → ℕ → ℕ → ℕ
-phichIndex c m t = quadsIndex (c .identity) 3 (unitGroup (c .identity) (c .blocks) m) (carrierAt c t)
+phichIndex c m t = quadsIndex c 3 (unitGroup c m) (carrierAt c t)
 
 -- the elements that PCFICH sends: those of its places, on the ports with a term
 unfoldable pub pcfichSends : Cell → ℕ → Bool
 pcfichSends c e =
     let t = e % placesOf c in
-    pcfich (c .identity) (c .blocks) (symbolAt c t) (carrierAt c t) && sends (c .ports) (pcfichIndex c t / 2 % 2) (e / placesOf c)
+    pcfich c (symbolAt c t) (carrierAt c t) && sends (c .ports) (pcfichIndex c t / 2 % 2) (e / placesOf c)
 
 unfoldable pub pcfichSent : Cell → ℕ → Registers → ℕ → Element
 pcfichSent c cfi r e =
@@ -44,7 +44,7 @@ pcfichSent c cfi r e =
 unfoldable pub phichSends : Cell → ℕ → ℕ → Bool
 phichSends c m e =
     let t = e % placesOf c in
-    phich (c .identity) (c .blocks) (unitsOf c) m (symbolAt c t) (carrierAt c t) && sends (c .ports) ((phichIndex c m t / 4 + m) % 2) (e / placesOf c)
+    phich c m (symbolAt c t) (carrierAt c t) && sends (c .ports) ((phichIndex c m t / 4 + m) % 2) (e / placesOf c)
 
 -- the sums of the unit over the HIs hs, whose bits are those of a slice
 unfoldable pub sumsFrom : Cell → ℕ → Registers → List Hi → List ℕ → ℕ → Pair

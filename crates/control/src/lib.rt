@@ -50,14 +50,14 @@ pub fn cfi_word(cfi: u8, i: usize) -> u32
 pub fn places_of(cell: Cell) -> usize
     ensures { λ r. ⌜ r ≡ placesOf cell ⌝ }
 {
-    2 * layout::slot_length(cell.prefix) * (12 * base::wide(cell.blocks))
+    2 * layout::slot_length(cell) * (12 * base::wide(cell.blocks))
 }
 
 // Two symbols at places 2i and 2i + 1 of group g, each beside the other. Callers take the group from the quads of a cell that the
 // plan check accepted, and have compared the grid's length.
 fn put_pair(cell: Cell, g: usize, i: usize, turn: u8, d: Pair, e: Pair, grid: &mut [u8])
     requires { ⌜ PairIn cell g i d e (now grid) ⌝ }
-    ensures { λ _. ⌜ PairWritten (cell .ports) (placesOf cell) turn (quadPlace (cell .identity) g (2 * i)) (quadPlace (cell .identity) g (2 * i + 1)) d e (now (grid .entry)) (now (grid .exit)) ⌝ }
+    ensures { λ _. ⌜ PairWritten (cell .ports) (placesOf cell) turn (quadPlace cell 0 g (2 * i)) (quadPlace cell 0 g (2 * i + 1)) d e (now (grid .entry)) (now (grid .exit)) ⌝ }
 {
     let places = places_of(cell);
     let a = places::quad_place(cell, g, 2 * i);
@@ -77,7 +77,7 @@ pub fn fill_pcfich(r: Registers, cell: Cell, cfi: u8, grid: &mut [u8]) -> Regist
         let w = cfi_word(cfi, 4 * n) ^ gold::word(s, 4);
         let d = modulation::symbol(2, w / 4);
         let e = modulation::symbol(2, w % 4);
-        let g = places::format_group(cell, n / 2);
+        let g = layout::format_group(cell, n / 2);
         put_pair(cell, g, n % 2, (n % 2) as u8, d, e, grid);
         s = gold::advance(s, 4);
         n += 1;

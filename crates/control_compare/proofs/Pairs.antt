@@ -10,7 +10,7 @@ use borrow.Author.Tests.{eqb-true, ne-eqb, ltb-true}
 use Rattle.base.specs.declared.Pair.{Pair}
 use Rattle.precoding.specs.Places.{onPort, beside}
 use Rattle.plan.proofs.Listed.{and-left, and-right}
-use Rattle.places.specs.Counts.{Listed}
+use Rattle.base.specs.Counts.{Listed}
 use Rattle.grid.specs.Writing.{sends, sentAt}
 use Rattle.compare.specs.declared.Seen.{Seen}
 use Rattle.compare.specs.declared.Seen.the-variants.{Weight}

@@ -19,8 +19,8 @@ use Rattle.codeword.specs.Streams.{outputs}
 use Rattle.precoding.specs.Places.{onPort}
 use Rattle.plan.specs.Fields.{unitsOf}
 use Rattle.plan.specs.declared.Cell.{Cell}
-use Rattle.layout.specs.Rules.{formatGroup, pcfich, phich}
-use Rattle.places.specs.Quads.{quadPlace, quadIndex, unitGroup}
+use Rattle.layout.specs.Rules.{unitGroup, formatGroup, pcfich, phich}
+use Rattle.places.specs.Quads.{quadPlace, quadIndex}
 use Rattle.places.specs.Places.{symbolAt, carrierAt, placesOf}
 use Rattle.places.proofs.Quads.{place-index}
 use Rattle.grid.specs.Writing.{sentAt, Room}
@@ -40,10 +40,10 @@ use Rattle.control_compare.proofs.Pairs.{pair-compared}
 -- ---- `compare_pair`
 module _ {c : Cell} {g i : ℕ} {d e : Pair} {grid : List ℕ} (ok : PairIn c g i d e grid) where
   -- the two places of the group are not one
-  apart : quadPlace (c .identity) g (2 * i) ≡ quadPlace (c .identity) g (2 * i + 1) → ⊥
+  apart : quadPlace c 0 g (2 * i) ≡ quadPlace c 0 g (2 * i + 1) → ⊥
   apart q =
-      let C : ℕ = c .identity in
-      let z : 2 * i ≡ 2 * i + 1 = sym (place-index C g (2 * i) (omega (arith, ok .half))) ∙ ap (quadIndex C) q ∙ place-index C g (2 * i + 1) (omega (arith, ok .half)) in
+      let z : 2 * i ≡ 2 * i + 1 =
+      sym (place-index c g (ok .group) (2 * i) (omega (arith, ok .half))) ∙ ap (quadIndex c 0) q ∙ place-index c g (ok .group) (2 * i + 1) (omega (arith, ok .half)) in
       omega arith
 
   -- what `both` requires
@@ -52,20 +52,20 @@ module _ {c : Cell} {g i : ℕ} {d e : Pair} {grid : List ℕ} (ok : PairIn c g 
 
   module _ {T : ℕ} (t : T ≡ placesOf c) where
     -- what `look_place` requires at the second place
-    pub second-ok : {b : ℕ} → b ≡ quadPlace (c .identity) g (2 * i + 1) → Room (c .ports) T grid × (b < T) × Small 127 d × (2 ≤ 127)
+    pub second-ok : {b : ℕ} → b ≡ quadPlace c 0 g (2 * i + 1) → Room (c .ports) T grid × (b < T) × Small 127 d × (2 ≤ 127)
     second-ok q = (rw t (ok .room), rw (t, q) (place-inside c g (2 * i + 1) (ok .group) (omega (arith, ok .half))), ok .first, omega arith)
 
-    module _ (turn : ℕ) {a b : ℕ} {r s : Seen} (p : a ≡ quadPlace (c .identity) g (2 * i)) (q : b ≡ quadPlace (c .identity) g (2 * i + 1))
+    module _ (turn : ℕ) {a b : ℕ} {r s : Seen} (p : a ≡ quadPlace c 0 g (2 * i)) (q : b ≡ quadPlace c 0 g (2 * i + 1))
         (one : Compared (sentAt (c .ports) T turn a) (λ (x : ℕ). onPort (c .ports) turn 2 0 d e (x / T)) grid r)
         (two : Compared (sentAt (c .ports) T turn b) (λ (x : ℕ). onPort (c .ports) turn 2 1 e d (x / T)) grid s) where
       pub pair-seen :
           {x : Seen} → x ≡ bothOf r s
-          → Compared (pairSends (c .ports) (placesOf c) turn (quadPlace (c .identity) g (2 * i)) (quadPlace (c .identity) g (2 * i + 1))) (pairSent (c .ports) (placesOf c) turn (quadPlace (c .identity) g (2 * i)) d e) grid x
+          → Compared (pairSends (c .ports) (placesOf c) turn (quadPlace c 0 g (2 * i)) (quadPlace c 0 g (2 * i + 1))) (pairSent (c .ports) (placesOf c) turn (quadPlace c 0 g (2 * i)) d e) grid x
       pair-seen z = rw (z, ← t, ← p, ← q) (pair-compared (c .ports) T turn a b (rw (p, q) apart) d e one two)
 
 -- ---- PCFICH
 abbrev pcfichHas : Cell → ℕ → Bool
-pcfichHas c t = pcfich (c .identity) (c .blocks) (symbolAt c t) (carrierAt c t)
+pcfichHas c t = pcfich c (symbolAt c t) (carrierAt c t)
 
 abbrev byTwo : ℕ → ℕ
 byTwo j = j / 2 % 2
@@ -93,15 +93,14 @@ module _ (c : Cell) (cfi : ℕ) (r : Registers) (g : List ℕ) (ok : PcfichIn c 
   module _ {s : Registers} {n : ℕ} {seen : Seen} (t : FormatTurn c cfi r s n g seen) (in-n : n < 8) where
     pub format-next :
         {s′ : Registers} {k : ℕ} {d e : Pair} {x y : Seen} (w : ℕ) → w ≡ binary (scrambled (cfiBit cfi) (outputs r)) (4 * n) 4
-        → k ≡ formatGroup (c .identity) (c .blocks) (n / 2) → d ≡ symbolFor 2 (w / 4) → e ≡ symbolFor 2 (w % 4)
-        → Compared (pairSends (c .ports) (placesOf c) (n % 2) (quadPlace (c .identity) k (2 * (n % 2))) (quadPlace (c .identity) k (2 * (n % 2) + 1))) (pairSent (c .ports) (placesOf c) (n % 2) (quadPlace (c .identity) k (2 * (n % 2))) d e) g x
+        → k ≡ formatGroup c (n / 2) → d ≡ symbolFor 2 (w / 4) → e ≡ symbolFor 2 (w % 4)
+        → Compared (pairSends (c .ports) (placesOf c) (n % 2) (quadPlace c 0 k (2 * (n % 2))) (quadPlace c 0 k (2 * (n % 2) + 1))) (pairSent (c .ports) (placesOf c) (n % 2) (quadPlace c 0 k (2 * (n % 2))) d e) g x
         → y ≡ bothOf seen x → s′ ≡ after s 4 → FormatTurn c cfi r s′ (n + 1) g y
     format-next {d = d} {e = e} w h q f k p b z =
-        let group : ℕ → ℕ = formatGroup (c .identity) (c .blocks) in
-        let C : ℕ = c .identity in
+        let group : ℕ → ℕ = formatGroup c in
         let i : ℕ = 2 * (n % 2) in
-        let one = place-at c group (2 * n) (n / 2) i (omega arith) (omega arith) ∙ ap (λ (y : ℕ). quadPlace C y i) (sym q) in
-        let two = place-at c group (2 * n + 1) (n / 2) (i + 1) (omega arith) (omega arith) ∙ ap (λ (y : ℕ). quadPlace C y (i + 1)) (sym q) in
+        let one = place-at c group (2 * n) (n / 2) i (omega arith) (omega arith) ∙ ap (λ (y : ℕ). quadPlace c 0 y i) (sym q) in
+        let two = place-at c group (2 * n + 1) (n / 2) (i + 1) (omega arith) (omega arith) ∙ ap (λ (y : ℕ). quadPlace c 0 y (i + 1)) (sym q) in
         let sum : 4 * n + 4 ≡ 4 * (n + 1) = omega arith in
         record {
           most = omega arith;
@@ -120,7 +119,7 @@ module _ (c : Cell) (cfi : ℕ) (r : Registers) (g : List ℕ) (ok : PcfichIn c 
 
 -- ---- a PHICH unit
 abbrev phichHas : Cell → ℕ → ℕ → Bool
-phichHas c m t = phich (c .identity) (c .blocks) (unitsOf c) m (symbolAt c t) (carrierAt c t)
+phichHas c m t = phich c m (symbolAt c t) (carrierAt c t)
 
 abbrev byQuad : ℕ → ℕ → ℕ
 byQuad m j = (j / 4 + m) % 2
@@ -144,15 +143,14 @@ module _ (c : Cell) (m : ℕ) (sums : List Pair) (g : List ℕ) (ok : UnitIn c m
 
   module _ {n : ℕ} {seen : Seen} (t : UnitTurn c m sums n g seen) (in-n : n < 6) where
     pub unit-next :
-        {k : ℕ} {x y : Seen} → k ≡ unitGroup (c .identity) (c .blocks) m (n / 2)
-        → Compared (pairSends (c .ports) (placesOf c) ((n / 2 + m) % 2) (quadPlace (c .identity) k (2 * (n % 2))) (quadPlace (c .identity) k (2 * (n % 2) + 1))) (pairSent (c .ports) (placesOf c) ((n / 2 + m) % 2) (quadPlace (c .identity) k (2 * (n % 2))) (getD sums (2 * n) nil) (getD sums (2 * n + 1) nil)) g x
+        {k : ℕ} {x y : Seen} → k ≡ unitGroup c m (n / 2)
+        → Compared (pairSends (c .ports) (placesOf c) ((n / 2 + m) % 2) (quadPlace c 0 k (2 * (n % 2))) (quadPlace c 0 k (2 * (n % 2) + 1))) (pairSent (c .ports) (placesOf c) ((n / 2 + m) % 2) (quadPlace c 0 k (2 * (n % 2))) (getD sums (2 * n) nil) (getD sums (2 * n + 1) nil)) g x
         → y ≡ bothOf seen x → UnitTurn c m sums (n + 1) g y
     unit-next q p b =
-        let group : ℕ → ℕ = unitGroup (c .identity) (c .blocks) m in
-        let C : ℕ = c .identity in
+        let group : ℕ → ℕ = unitGroup c m in
         let i : ℕ = 2 * (n % 2) in
-        let one = place-at c group (2 * n) (n / 2) i (omega arith) (omega arith) ∙ ap (λ (y : ℕ). quadPlace C y i) (sym q) in
-        let two = place-at c group (2 * n + 1) (n / 2) (i + 1) (omega arith) (omega arith) ∙ ap (λ (y : ℕ). quadPlace C y (i + 1)) (sym q) in
+        let one = place-at c group (2 * n) (n / 2) i (omega arith) (omega arith) ∙ ap (λ (y : ℕ). quadPlace c 0 y i) (sym q) in
+        let two = place-at c group (2 * n + 1) (n / 2) (i + 1) (omega arith) (omega arith) ∙ ap (λ (y : ℕ). quadPlace c 0 y (i + 1)) (sym q) in
         let u : 2 * n / 4 ≡ n / 2 = omega arith in
         let v : (2 * n + 1) / 4 ≡ n / 2 = omega arith in
         record {

@@ -2,104 +2,33 @@
 -- the owner counts add up to 12N×S". Assumes that the plan check answers with the plan, and theorem A: every place has one owner.
 use Prim.Native.Nat.{ℕ, zero, suc, _+_, _*_, _≤_, _<_}
 use mathlib.Core.Path.{_≡_, refl, sym, ap, _∙_}
-use mathlib.Core.Bool.{Bool, true, false, _&&_}
+use mathlib.Core.Bool.{Bool, true, false}
 use mathlib.Core.List.{List, [], _∷_, _++_}
-use native.Mathlib.Nat.{mul-one, mul-comm, not-suc-le-zero, le-of-suc-le-suc}
+use native.Mathlib.Nat.{mul-one, mul-comm}
 use native.Mathlib.Omega.{arith}
-use lib.Dec.{leb, ltb, eqb}
+use lib.Dec.{eqb}
 use lib.ListN.{length}
-use borrow.Author.Tests.{ltb-true}
-use Rattle.base.proofs.Tests.{by-test, clash, is-false}
+use Rattle.base.proofs.Tests.{by-test, is-false}
 use Rattle.base.specs.Tables.{table}
 use Rattle.plan.specs.Fields.{unitsOf}
 use Rattle.plan.specs.Check.{checkOf}
 use Rattle.plan.specs.Rows.{usersOf}
 use Rattle.plan.specs.Valid.{Valid}
-use Rattle.plan.specs.declared.Cell.{Cell}
-use Rattle.plan.specs.declared.User.{User}
 use Rattle.plan.specs.declared.Plan.{Plan}
 use Rattle.plan.specs.declared.Checked.the-variants.{Plan as accepted}
-use Rattle.plan.proofs.Listed.{and-left}
 use Rattle.plan.proofs.Valid.{valid}
 use Rattle.base.specs.Choice.{if_then_else_, one}
-use Rattle.layout.specs.Rules.{slotOf, crs, inGroup, phich}
-use Rattle.layout.specs.Owners.{slotOfCell, symbols, carriers, controlSymbols, fixedRule, above, userHas, userRule, owns, owners}
+use Rattle.layout.specs.Owners.{symbols, carriers, above, owns, owners}
+use Rattle.layout.proofs.Lists.{In, here, there}
+use Rattle.layout.proofs.Partition.{in-owners}
 use Rattle.layout.specs.declared.Mark.the-variants.{Primary, Secondary}
 use Rattle.layout.specs.declared.Owner.{Owner}
 use Rattle.layout.specs.declared.Owner.the-variants.{Crs, Sync, Pbch, Pcfich, Phich, User as UserOf, Held, Idle}
 use Rattle.counts.specs.Sums.{sumTo, sumOf}
-use Rattle.layout.proofs.OneOwner.{one-owner}
+use Rattle.layout.proofs.OneOwner.{fit, one-owner}
 use Rattle.counts.specs.Counts.{countOf, kindOf, kinds, kindCount}
 use Rattle.counts.proofs.Sums.{sum-const, swap, list-same}
-use Rattle.counts.proofs.Ranges.{big, few-ports, few-units}
-
--- ---- an owner whose rule holds somewhere is in the list
-data In {A : Type 0} : A → List A → Type 0 where
-  here : {a : A} {l : List A} → In a (a ∷ l)
-  there : {a b : A} {l : List A} → In a l → In a (b ∷ l)
-
-in-left : {A : Type 0} {a : A} {l : List A} (m : List A) → In a l → In a (l ++ m)
-in-left m In.here = In.here
-in-left m (In.there i) = In.there (in-left m i)
-
-in-right : {A : Type 0} {a : A} (l : List A) {m : List A} → In a m → In a (l ++ m)
-in-right [] i = i
-in-right (b ∷ l) i = In.there (in-right l i)
-
-in-table : (n : ℕ) (f : ℕ → Owner) (i : ℕ) → i < n → In (f i) (table n f)
-unfolding table
-in-table zero f i l = absurd (not-suc-le-zero l)
-in-table (suc n) f zero l = In.here
-in-table (suc n) f (suc i) l = In.there (in-table n (λ j. f (suc j)) i (le-of-suc-le-suc l))
-
-has-index : (us : List User) (i n k : ℕ) → userHas us i n k ≡ true → i < length us
-unfolding userHas
-has-index [] i n k e = clash e refl
-has-index (u ∷ us) zero n k e = omega arith
-has-index (u ∷ us) (suc i) n k e = omega (arith, has-index us i n k e)
-
-port-in : (c : Cell) (q : ℕ) → q < 4 → In (Crs q) (above c)
-unfolding above
-port-in c zero l = In.here
-port-in c (suc zero) l = In.there In.here
-port-in c (suc (suc zero)) l = In.there (In.there In.here)
-port-in c (suc (suc (suc zero))) l = In.there (In.there (In.there In.here))
-port-in c (suc (suc (suc (suc q)))) l = absurd (omega arith)
-
-module _ (w : List ℕ) (p : Plan) (ok : Valid w p) (s k : ℕ) where
-  above-in : (o : Owner) → fixedRule (p .cell) (p .frame) o s k ≡ true → In o (above (p .cell))
-  unfolding above fixedRule crs phich
-  above-in (Crs q) e =
-      let l : q < p .cell .ports = ltb-true _ _ (and-left (ltb q (p .cell .ports)) _ e) in
-      port-in (p .cell) q (omega (arith, few-ports (p .cell .ports) (ok .cell .ports)))
-  above-in (Sync Primary) e = In.there (In.there (In.there (In.there In.here)))
-  above-in (Sync Secondary) e = In.there (In.there (In.there (In.there (In.there In.here))))
-  above-in Pbch e = In.there (In.there (In.there (In.there (In.there (In.there In.here)))))
-  above-in Pcfich e = In.there (In.there (In.there (In.there (In.there (In.there (In.there In.here))))))
-  above-in Held e = In.there (In.there (In.there (In.there (In.there (In.there (In.there (In.there In.here)))))))
-  above-in (Phich m) e =
-      let t = ltb m (unitsOf (p .cell)) in
-      let g = inGroup (p .cell .identity) s k in
-      In.there (In.there (In.there (In.there (In.there (In.there (In.there (In.there (In.there
-      (in-table (unitsOf (p .cell)) Phich m (ltb-true _ _ (and-left t g (and-left (t && g) _ e))))))))))))
-  above-in (UserOf i) e = clash e refl
-  above-in Idle e = clash e refl
-
-  owner-in : (o : Owner) → owns w p o s k ≡ true → In o (owners w p)
-  unfolding owns fixedRule owners userRule
-  owner-in (Crs q) e = In.there (in-left _ (above-in (Crs q) e))
-  owner-in (Sync Primary) e = In.there (in-left _ (above-in (Sync Primary) e))
-  owner-in (Sync Secondary) e = In.there (in-left _ (above-in (Sync Secondary) e))
-  owner-in Pbch e = In.there (in-left _ (above-in Pbch e))
-  owner-in Pcfich e = In.there (in-left _ (above-in Pcfich e))
-  owner-in (Phich m) e = In.there (in-left _ (above-in (Phich m) e))
-  owner-in Held e = In.there (in-left _ (above-in Held e))
-  owner-in Idle e = In.here
-  owner-in (UserOf i) e =
-      let n = slotOf (slotOfCell (p .cell)) s in
-      let t = userHas (usersOf w p) i n k in
-      let g = leb (controlSymbols (p .cell) (p .frame)) s in
-      In.there (in-right (above (p .cell)) (in-table (length (usersOf w p)) UserOf i (has-index (usersOf w p) i n k (and-left t g (and-left (t && g) _ e)))))
+use Rattle.counts.proofs.Ranges.{big, few-units}
 
 -- ---- no owner is in the list twice: it is in the order of these codes
 abbrev code : Owner → ℕ
@@ -176,8 +105,8 @@ module _ (t : Owner → Bool) (a : Owner) (only : (o : Owner) → t o ≡ true �
 
   once : (b : ℕ) (os : List Owner) → Rise b os → In a os → t a ≡ true → sumOf os (λ o. one (t o)) ≡ 1
   unfolding sumOf
-  once b (o ∷ os) r In.here e = rw (e, none (suc (code a)) os (r .1) (omega arith)) refl
-  once b (o ∷ os) r (In.there i) e =
+  once b (o ∷ os) r here e = rw (e, none (suc (code a)) os (r .1) (omega arith)) refl
+  once b (o ∷ os) r (there i) e =
       by-test (t o)
       (λ x. rw (x, none (suc (code o)) os (r .1) (let z : code o ≡ code a = ap code (only o x) in omega arith)) refl)
       (λ x. rw (x, once (suc (code o)) os (r .1) i e) refl)
@@ -199,7 +128,7 @@ module _ (w : List ℕ) (p : Plan) (e : checkOf w ≡ accepted p) where
   place-one s k l m =
       let a = one-owner w p e s k l m in
       let ok = valid w p e in
-      once (λ o. owns w p o s k) (a .0) (a .2) 0 (owners w p) (rises w p ok) (owner-in w p ok s k (a .0) (a .1)) (a .1)
+      once (λ o. owns w p o s k) (a .0) (a .2) 0 (owners w p) (rises w p ok) (in-owners w p s k (fit w p e k m) (ok .apart) (a .0) (a .1)) (a .1)
 
   -- THEOREM B
   pub counts-add-up : sumOf (owners w p) (countOf w p) ≡ carriers (p .cell) * symbols (p .cell)

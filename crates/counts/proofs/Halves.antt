@@ -7,6 +7,7 @@ use lib.Dec.{leb, ltb}
 use borrow.Author.Tests.{lt-ltb, le-leb, ltb-true, ltb-false, leb-true, leb-false}
 use Rattle.base.proofs.Tests.{by-test, both, same-test}
 use Rattle.plan.proofs.Listed.{and-left, and-right}
+use Rattle.plan.specs.declared.Cell.{Cell}
 use Rattle.plan.specs.declared.User.{User}
 use Rattle.base.specs.Choice.{one}
 use Rattle.layout.specs.Rules.{middle, centre}
@@ -25,16 +26,17 @@ range a b c d j k f f′ g g′ =
 abbrev pub within : ℕ → ℕ → ℕ → Bool
 within a e b = leb a b && ltb b e
 
-abbrev pub central : ℕ → ℕ → Bool
-central N b = leb N (b + 6) && ltb b (N + 6)
+abbrev pub central : Cell → ℕ → Bool
+central c b = leb (c .blocks) (b + 6) && ltb b (c .blocks + 6)
 
 pub blocks-half : (u : User) (n k : ℕ) → blocksHave u n k ≡ within (2 * u .first) (2 * (u .first + u .count)) (k / 6)
 unfolding blocksHave
 blocks-half u n k = range (12 * u .first) (12 * (u .first + u .count)) (2 * u .first) (2 * (u .first + u .count)) (k / 6) k (λ h. omega arith) (λ h. omega arith) (λ h. omega arith) (λ h. omega arith)
 
-pub centre-half : (N k : ℕ) → centre N k ≡ central N (k / 6)
+pub centre-half : (c : Cell) (k : ℕ) → centre c k ≡ central c (k / 6)
 unfolding middle
-centre-half N k =
+centre-half c k =
+    let N = c .blocks in
     same-test _ _
     (λ h. let l : 6 * N ≤ k + 36 = leb-true _ _ (and-left (leb (6 * N) (k + 36)) (ltb k (6 * N + 36)) h) in
     let u : k < 6 * N + 36 = ltb-true _ _ (and-right (leb (6 * N) (k + 36)) (ltb k (6 * N + 36)) h) in
@@ -86,31 +88,34 @@ pub away : (x y z : ℕ) → x + y ≡ z → x ≡ z - y
 away x y z e = omega arith
 
 -- a user's half blocks among the cell's
-pub halves-are : (N first count : ℕ) (t : Bool) → first + count ≤ N
-    → sumTo (2 * N) (λ b. one (within (2 * first) (2 * (first + count)) b && not (t && central N b))) ≡ halves N first count t
+pub halves-are : (c : Cell) (first count : ℕ) (t : Bool) → first + count ≤ c .blocks
+    → sumTo (2 * c .blocks) (λ b. one (within (2 * first) (2 * (first + count)) b && not (t && central c b))) ≡ halves c first count t
 unfolding halves
-halves-are N first count true l =
+halves-are c first count true l =
+    let N = c .blocks in
     let a = 2 * first in
     let e = 2 * (first + count) in
     let i : min (2 * N) e - a ≡ 2 * count = omega arith in
     let j : min (2 * N) (min e (N + 6)) ≡ min e (N + 6) = omega arith in
-    let both-ways : sumTo (2 * N) (λ b. one (within a e b && not (central N b))) + sumTo (2 * N) (λ b. one (within a e b && central N b)) ≡ 2 * count =
-    sum-add (2 * N) _ _ ∙ sum-same (2 * N) _ (λ b. one (within a e b)) (λ b m. parted (within a e b) (central N b)) ∙ in-range a e (2 * N) ∙ i in
-    let shared : sumTo (2 * N) (λ b. one (within a e b && central N b)) ≡ min e (N + 6) - max a (N - 6) =
-    sum-same (2 * N) _ (λ b. one (within (max a (N - 6)) (min e (N + 6)) b)) (λ b m. let q : within a e b && central N b ≡ within (max a (N - 6)) (min e (N + 6)) b = rw (lowered N 6 (N + 6) b) (overlap a e (N - 6) (N + 6) b) in ap one q)
+    let both-ways : sumTo (2 * N) (λ b. one (within a e b && not (central c b))) + sumTo (2 * N) (λ b. one (within a e b && central c b)) ≡ 2 * count =
+    sum-add (2 * N) _ _ ∙ sum-same (2 * N) _ (λ b. one (within a e b)) (λ b m. parted (within a e b) (central c b)) ∙ in-range a e (2 * N) ∙ i in
+    let shared : sumTo (2 * N) (λ b. one (within a e b && central c b)) ≡ min e (N + 6) - max a (N - 6) =
+    sum-same (2 * N) _ (λ b. one (within (max a (N - 6)) (min e (N + 6)) b)) (λ b m. let q : within a e b && central c b ≡ within (max a (N - 6)) (min e (N + 6)) b = rw (lowered N 6 (N + 6) b) (overlap a e (N - 6) (N + 6) b) in ap one q)
     ∙ in-range (max a (N - 6)) (min e (N + 6)) (2 * N) ∙ ap (λ (x : ℕ). x - max a (N - 6)) j in
     away _ _ _ (rw (← shared) both-ways)
-halves-are N first count false l =
+halves-are c first count false l =
+    let N = c .blocks in
     let z : min (2 * N) (2 * (first + count)) - 2 * first ≡ 2 * count - 0 = omega arith in
     sum-same (2 * N) _ (λ b. one (within (2 * first) (2 * (first + count)) b)) (λ b m. ap one (and-true (within (2 * first) (2 * (first + count)) b)))
     ∙ in-range (2 * first) (2 * (first + count)) (2 * N) ∙ z
 
 -- the centre's twelve
-pub twelve : (N : ℕ) → 6 ≤ N → sumTo (2 * N) (λ b. one (central N b)) ≡ 12
-twelve N l =
+pub twelve : (c : Cell) → 6 ≤ c .blocks → sumTo (2 * c .blocks) (λ b. one (central c b)) ≡ 12
+twelve c l =
+    let N = c .blocks in
     let z : min (2 * N) (N + 6) - (N - 6) ≡ 12 = omega arith in
     sum-same (2 * N) _ _ (λ b m. ap one (lowered N 6 (N + 6) b)) ∙ in-range (N - 6) (N + 6) (2 * N) ∙ z
 
-pub halves-most : (N first count : ℕ) (t : Bool) → halves N first count t ≤ 2 * count
+pub halves-most : (c : Cell) (first count : ℕ) (t : Bool) → halves c first count t ≤ 2 * count
 unfolding halves
-halves-most N first count t = omega arith
+halves-most c first count t = omega arith

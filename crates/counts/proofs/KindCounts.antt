@@ -19,12 +19,13 @@ use Rattle.plan.specs.Check.{checkOf}
 use Rattle.plan.specs.Rows.{usersOf}
 use Rattle.plan.specs.declared.Plan.{Plan}
 use Rattle.plan.specs.declared.Checked.the-variants.{Plan as accepted}
-use Rattle.plan.proofs.OneOf.{among-holds}
 use Rattle.plan.proofs.Listed.{and-right}
 use Rattle.plan.proofs.Valid.{valid}
 use Rattle.base.specs.Choice.{if_then_else_, one}
-use Rattle.layout.specs.Rules.{middle, slotLength, slotOf, inSlot, crsSymbol, shift, standsAt, crsOf, crs, crsAny, marked, centre, used, pss, sss, heldBySync, pbchArea, heldByPbch, held}
-use Rattle.layout.specs.Owners.{slotOfCell, symbols, carriers, fixedRule, above, owns, owners}
+use Rattle.plan.specs.declared.Cell.{Cell}
+use Rattle.plan.specs.declared.Frame.{Frame}
+use Rattle.layout.specs.Rules.{middle, slotLength, inSlot, crsSymbol, crsShift, standsAt, crsOf, crs, crsBelow, crsOfFour, crsAny, marked, centre, used, pss, sss, inSyncArea, heldBySync, inPbchArea, heldByPbch, held}
+use Rattle.layout.specs.Owners.{symbols, carriers, fixedRule, above, owns, owners}
 use Rattle.layout.specs.declared.Mark.the-variants.{Primary, Secondary}
 use Rattle.layout.specs.declared.Owner.{Owner}
 use Rattle.layout.specs.declared.Owner.the-variants.{Crs, Sync, Pbch, Pcfich, Phich, User as UserOf, Held, Idle}
@@ -34,10 +35,9 @@ use Rattle.counts.specs.Users.{signals}
 use Rattle.counts.specs.Kinds.{crsElements, syncElements, pbchElements, holes, heldElements}
 use Rattle.counts.proofs.Logic.{agree, agreed, implies, follows, everyWay, by-table}
 use Rattle.counts.proofs.Sums.{six, by-six, sum-same, sum-none, sum-const, sum-add, sum-times, list-append}
-use Rattle.counts.proofs.Signals.{slot-length, four}
 use Rattle.counts.proofs.Halves.{within, in-range, lowered, parted, away}
 use Rattle.counts.proofs.Ranges.{big}
-use Rattle.counts.proofs.UserElements.{used-centre}
+use Rattle.layout.proofs.Fixed.{used-centre}
 use Rattle.counts.proofs.AddUp.{kinds-add-up}
 use Rattle.counts.proofs.FixedCounts.{open-row, pcfich-count, phich-count, pbch-count}
 
@@ -51,63 +51,74 @@ one-of-six = tt
 regroup : (a b d : Bool) → a && (b && d) ≡ a && b && d
 regroup a b d = agreed _ _ (by-table 3 (λ a b d. agree (a && (b && d)) (a && b && d)) tt a b d)
 
-abbrev sends : ℕ → ℕ → ℕ → ℕ → Bool
-sends L P q s = ltb q P && crsSymbol L q (inSlot L s)
+abbrev sends : Cell → ℕ → ℕ → Bool
+sends c q s = ltb q (c .ports) && crsSymbol c q s
 
-crs-row : (L C N P q s : ℕ) → sumTo (12 * N) (λ k. one (crs L C P q s k)) ≡ one (sends L P q s) * (2 * N)
+crs-row : (c : Cell) (q s : ℕ) → sumTo (carriers c) (λ k. one (crs c q s k)) ≡ one (sends c q s) * (2 * c .blocks)
 unfolding crs crsOf standsAt
-crs-row L C N P q s =
-    let z : 12 * N ≡ 6 * (2 * N) = omega arith in
-    let x = (shift q (inSlot L s) (slotOf L s) + C) % 6 in
+crs-row c q s =
+    let N = c .blocks in
+    let z : carriers c ≡ 6 * (2 * N) = omega arith in
+    let x = (crsShift c q s + c .identity) % 6 in
     rw z
-    (by-six (2 * N) _ (λ b r. one (sends L P q s && eqb r x))
+    (by-six (2 * N) _ (λ b r. one (sends c q s && eqb r x))
     (λ b r k m l e.
     let y : k % 6 ≡ r = omega arith in
-    rw y (ap one (regroup (ltb q P) (crsSymbol L q (inSlot L s)) (eqb r x))))
-    ∙ sum-const (2 * N) (one (sends L P q s)) _
-    (λ b m. eqb→eq _ _ (by-table 1 (λ g. hit g x) (below-at (λ x. everyWay 1 (λ g. hit g x)) 6 one-of-six x (omega arith)) (sends L P q s)))
-    ∙ mul-comm (2 * N) (one (sends L P q s)))
+    rw y (ap one (regroup (ltb q (c .ports)) (crsSymbol c q s) (eqb r x))))
+    ∙ sum-const (2 * N) (one (sends c q s)) _
+    (λ b m. eqb→eq _ _ (by-table 1 (λ g. hit g x) (below-at (λ x. everyWay 1 (λ g. hit g x)) 6 one-of-six x (omega arith)) (sends c q s)))
+    ∙ mul-comm (2 * N) (one (sends c q s)))
 
 -- how many symbols a port uses
-port-symbols : (e P q : ℕ) → sumTo (2 * slotLength e) (λ s. one (sends (slotLength e) P q s)) ≡ one (ltb q P) * (if ltb q 2 then 4 else 2)
+port-symbols : (c : Cell) (q : ℕ) → sumTo (symbols c) (λ s. one (sends c q s)) ≡ one (ltb q (c .ports)) * (if ltb q 2 then 4 else 2)
 unfolding slotLength sumTo crsSymbol inSlot
-port-symbols e P q = eqb→eq _ _ (by-table 3 (λ z x y. let L : ℕ = if z then 6 else 7 in eqb (sumTo (2 * L) (λ s. one (x && (if y then eqb (inSlot L s) 0 || eqb (inSlot L s + 3) L else eqb (inSlot L s) 1)))) (one x * (if y then 4 else 2))) tt (eqb e 1) (ltb q P) (ltb q 2))
+port-symbols c q =
+    by-test (ltb q (c .ports))
+    (λ x. by-test (ltb q 2)
+    (λ y. by-test (eqb (c .prefix) 1) (λ z. rw (x, y, z) refl) (λ z. rw (x, y, z) refl))
+    (λ y. by-test (eqb (c .prefix) 1) (λ z. rw (x, y, z) refl) (λ z. rw (x, y, z) refl)))
+    (λ x. rw x (sum-none (symbols c) _ (λ s l. refl) ∙ sym (zero-mul (if ltb q 2 then 4 else 2))))
 
 -- ---- the centre and what the marks use of it
-used-62 : (N : ℕ) → 6 ≤ N → sumTo (12 * N) (λ k. one (used N k)) ≡ 62
+used-62 : (c : Cell) → 6 ≤ c .blocks → sumTo (carriers c) (λ k. one (used c k)) ≡ 62
 unfolding middle
-used-62 N l =
+used-62 c l =
+    let N = c .blocks in
     let z : min (12 * N) (6 * N + 31) - (6 * N - 31) ≡ 62 = omega arith in
     sum-same (12 * N) _ (λ k. one (within (6 * N - 31) (6 * N + 31) k)) (λ k m. ap one (lowered (6 * N) 31 (6 * N + 31) k)) ∙ in-range (6 * N - 31) (6 * N + 31) (12 * N) ∙ z
 
-centre-72 : (N : ℕ) → 6 ≤ N → sumTo (12 * N) (λ k. one (centre N k)) ≡ 72
+centre-72 : (c : Cell) → 6 ≤ c .blocks → sumTo (carriers c) (λ k. one (centre c k)) ≡ 72
 unfolding middle
-centre-72 N l =
+centre-72 c l =
+    let N = c .blocks in
     let z : min (12 * N) (6 * N + 36) - (6 * N - 36) ≡ 72 = omega arith in
     sum-same (12 * N) _ (λ k. one (within (6 * N - 36) (6 * N + 36) k)) (λ k m. ap one (lowered (6 * N) 36 (6 * N + 36) k)) ∙ in-range (6 * N - 36) (6 * N + 36) (12 * N) ∙ z
 
-both-tests : (N k : ℕ) → centre N k && used N k ≡ used N k
-both-tests N k = same-test _ _ (λ h. and-right (centre N k) (used N k) h) (λ h. both (used-centre N k h) h)
+both-tests : (c : Cell) (k : ℕ) → centre c k && used c k ≡ used c k
+both-tests c k = same-test _ _ (λ h. and-right (centre c k) (used c k) h) (λ h. both (used-centre c k h) h)
 
-edges-10 : (N : ℕ) → 6 ≤ N → sumTo (12 * N) (λ k. one (centre N k && not (used N k))) ≡ 10
-edges-10 N l =
-    let z : sumTo (12 * N) (λ k. one (centre N k && not (used N k))) + sumTo (12 * N) (λ k. one (centre N k && used N k)) ≡ 72 =
-    sum-add (12 * N) _ _ ∙ sum-same (12 * N) _ (λ k. one (centre N k)) (λ k m. parted (centre N k) (used N k)) ∙ centre-72 N l in
-    let y : sumTo (12 * N) (λ k. one (centre N k && used N k)) ≡ 62 = sum-same (12 * N) _ (λ k. one (used N k)) (λ k m. ap one (both-tests N k)) ∙ used-62 N l in
+edges-10 : (c : Cell) → 6 ≤ c .blocks → sumTo (carriers c) (λ k. one (centre c k && not (used c k))) ≡ 10
+edges-10 c l =
+    let W = carriers c in
+    let z : sumTo W (λ k. one (centre c k && not (used c k))) + sumTo W (λ k. one (centre c k && used c k)) ≡ 72 =
+    sum-add W _ _ ∙ sum-same W _ (λ k. one (centre c k)) (λ k m. parted (centre c k) (used c k)) ∙ centre-72 c l in
+    let y : sumTo W (λ k. one (centre c k && used c k)) ≡ 62 = sum-same W _ (λ k. one (used c k)) (λ k m. ap one (both-tests c k)) ∙ used-62 c l in
     omega arith
 
--- a mark in the one symbol s with s + d = L
-mark-rows : (S N : ℕ) (t : ℕ → Bool) (m : Bool) → 6 ≤ N → sumTo S (λ s. one (t s)) ≡ one m → sumTo S (λ s. sumTo (12 * N) (λ k. one (t s && used N k))) ≡ one m * 62
-mark-rows S N t m l e =
-    sum-same S _ (λ s. one (t s) * 62)
-    (λ s i. by-test (t s) (λ x. rw x (used-62 N l)) (λ x. rw x (sum-none (12 * N) _ (λ k j. refl))))
-    ∙ sum-times S 62 (λ s. one (t s)) ∙ ap (λ (x : ℕ). x * 62) e
+-- a mark in one symbol
+mark-rows : (c : Cell) (t : ℕ → Bool) (m : Bool) → 6 ≤ c .blocks → sumTo (symbols c) (λ s. one (t s)) ≡ one m
+    → sumTo (symbols c) (λ s. sumTo (carriers c) (λ k. one (t s && used c k))) ≡ one m * 62
+mark-rows c t m l e =
+    sum-same (symbols c) _ (λ s. one (t s) * 62)
+    (λ s i. by-test (t s) (λ x. rw x (used-62 c l)) (λ x. rw x (sum-none (carriers c) _ (λ k j. refl))))
+    ∙ sum-times (symbols c) 62 (λ s. one (t s)) ∙ ap (λ (x : ℕ). x * 62) e
 
 -- in one symbol of a slot's last two
-mark-once : (e d : ℕ) (m : Bool) → (d ≡ 1) ⊎ (d ≡ 2) → sumTo (2 * slotLength e) (λ s. one (m && eqb (s + d) (slotLength e))) ≡ one m
+mark-once : (c : Cell) (d : ℕ) (m : Bool) → (d ≡ 1) ⊎ (d ≡ 2) → sumTo (symbols c) (λ s. one (m && eqb (s + d) (slotLength c))) ≡ one m
 unfolding slotLength sumTo
-mark-once e d m (inl h) = rw h (eqb→eq _ _ (by-table 2 (λ z m. let L : ℕ = if z then 6 else 7 in eqb (sumTo (2 * L) (λ s. one (m && eqb (s + 1) L))) (one m)) tt (eqb e 1) m))
-mark-once e d m (inr h) = rw h (eqb→eq _ _ (by-table 2 (λ z m. let L : ℕ = if z then 6 else 7 in eqb (sumTo (2 * L) (λ s. one (m && eqb (s + 2) L))) (one m)) tt (eqb e 1) m))
+mark-once c d true (inl h) = by-test (eqb (c .prefix) 1) (λ x. rw (h, x) refl) (λ x. rw (h, x) refl)
+mark-once c d true (inr h) = by-test (eqb (c .prefix) 1) (λ x. rw (h, x) refl) (λ x. rw (h, x) refl)
+mark-once c d false h = sum-none (symbols c) _ (λ s l. refl)
 
 times-62 : (m : Bool) → one m * 62 ≡ (if m then 62 else 0)
 times-62 true = refl
@@ -124,70 +135,70 @@ three-parts true true false h = clash (h refl) refl
 three-parts true false true h = refl
 three-parts true false false h = refl
 
-module _ (L C N P s : ℕ) (long : 6 ≤ L) (wide : 6 ≤ N) (ports : Among P portCounts) where
-  abbrev each : ℕ → ℕ
-  each Q = 12 * (6 - signals L Q (inSlot L s))
+module _ (c : Cell) (f : Frame) (wide : 6 ≤ c .blocks) (ports : Among (c .ports) portCounts) where
+  abbrev each : ℕ → ℕ → ℕ
+  each P s = 12 * (6 - signals c P s)
 
-  skipped : (k : ℕ) → crsAny L C P s k ≡ true → crsAny L C 4 s k ≡ true
-  unfolding crsAny crs
-  skipped k h = any-four (ltb 0 P) (ltb 1 P) (ltb 2 P) (ltb 3 P) (crsOf L C 0 s k) (crsOf L C 1 s k) (crsOf L C 2 s k) (crsOf L C 3 s k) h
+  abbrev marks : ℕ → Bool
+  marks s = marked f && (eqb (s + 1) (slotLength c) || eqb (s + 2) (slotLength c))
 
-  holes-row : sumTo (12 * N) (λ k. one (centre N k && crsAny L C 4 s k && not (crsAny L C P s k))) ≡ each P - each 4
-  holes-row =
-      away _ _ _
-      (ap (λ (x : ℕ). sumTo (12 * N) (λ k. one (centre N k && crsAny L C 4 s k && not (crsAny L C P s k))) + x) (sym (open-row L C N 4 s long wide (inr (inr (inl refl)))))
-      ∙ sum-add (12 * N) _ _
-      ∙ sum-same (12 * N) _ (λ k. one (centre N k && not (crsAny L C P s k))) (λ k m. three-parts (centre N k) (crsAny L C P s k) (crsAny L C 4 s k) (skipped k))
-      ∙ open-row L C N P s long wide ports)
+  abbrev area : ℕ → Bool
+  area s = eqb (f .subframe) 0 && leb (slotLength c) s && ltb s (slotLength c + 4)
 
-  module _ (f : ℕ) where
-    abbrev marks : Bool
-    marks = marked f && (eqb (s + 1) L || eqb (s + 2) L)
+  abbrev heldPart : ℕ → ℕ
+  heldPart s = (if marks s then 10 else 0) + (if area s then each (c .ports) s - each 4 s else 0)
 
-    abbrev area : Bool
-    area = eqb f 0 && leb L s && ltb s (L + 4)
+  module _ (s : ℕ) where
+    skipped : (k : ℕ) → crsAny c s k ≡ true → crsOfFour c s k ≡ true
+    unfolding crsBelow
+    skipped k h = any-four (ltb 0 (c .ports)) (ltb 1 (c .ports)) (ltb 2 (c .ports)) (ltb 3 (c .ports)) (crsOf c 0 s k) (crsOf c 1 s k) (crsOf c 2 s k) (crsOf c 3 s k) h
 
-    before : marks ≡ true → area ≡ false
+    holes-row : sumTo (carriers c) (λ k. one (centre c k && crsOfFour c s k && not (crsAny c s k))) ≡ each (c .ports) s - each 4 s
+    holes-row =
+        away _ _ _
+        (ap (λ (x : ℕ). sumTo (carriers c) (λ k. one (centre c k && crsOfFour c s k && not (crsAny c s k))) + x) (sym (open-row c 4 s wide (inr (inr (inl refl)))))
+        ∙ sum-add (carriers c) _ _
+        ∙ sum-same (carriers c) _ (λ k. one (centre c k && not (crsAny c s k))) (λ k m. three-parts (centre c k) (crsAny c s k) (crsOfFour c s k) (skipped k))
+        ∙ open-row c (c .ports) s wide ports)
+
+    before : marks s ≡ true → area s ≡ false
     before h =
+        let L = slotLength c in
         let l : s < L = early (and-right (marked f) (eqb (s + 1) L || eqb (s + 2) L) h) in
         rw (lt-leb L s l, and-false) refl
       where
-        early : eqb (s + 1) L || eqb (s + 2) L ≡ true → s < L
-        early e = by-test (eqb (s + 1) L)
-            (λ x. let z : s + 1 ≡ L = eqb-true _ _ x in omega arith)
-            (λ x. let z : s + 2 ≡ L = eqb-true _ _ (rw x at e) in omega arith)
+        early : eqb (s + 1) (slotLength c) || eqb (s + 2) (slotLength c) ≡ true → s < slotLength c
+        early e = by-test (eqb (s + 1) (slotLength c))
+            (λ x. let z : s + 1 ≡ slotLength c = eqb-true _ _ x in omega arith)
+            (λ x. let z : s + 2 ≡ slotLength c = eqb-true _ _ (rw x at e) in omega arith)
 
-    held-row : sumTo (12 * N) (λ k. one (held L C N P f s k)) ≡ (if marks then 10 else 0) + (if area then each P - each 4 else 0)
-    unfolding held heldBySync heldByPbch pbchArea
+    held-row : sumTo (carriers c) (λ k. one (held c f s k)) ≡ heldPart s
+    unfolding held inSyncArea heldBySync heldByPbch inPbchArea
     held-row =
-        by-test marks
+        by-test (marks s)
         (λ x. rw (x, before x)
-        (sum-same (12 * N) _ (λ k. one (centre N k && not (used N k))) (λ k m. ap one (or-false (centre N k && not (used N k)))) ∙ edges-10 N wide))
-        (λ x. by-test area
-        (λ y. rw (x, y)
-        (sum-same (12 * N) _ (λ k. one (centre N k && crsAny L C 4 s k && not (crsAny L C P s k))) (λ k m. rw (four L C s k) refl) ∙ holes-row ∙ sym (zero-add (each P - each 4))))
-        (λ y. rw (x, y) (sum-none (12 * N) _ (λ k m. refl))))
+        (sum-same (carriers c) _ (λ k. one (centre c k && not (used c k))) (λ k m. ap one (or-false (centre c k && not (used c k)))) ∙ edges-10 c wide))
+        (λ x. by-test (area s)
+        (λ y. rw (x, y) (holes-row ∙ sym (zero-add (each (c .ports) s - each 4 s))))
+        (λ y. rw (x, y) (sum-none (carriers c) _ (λ k m. refl))))
 
-abbrev heldPart : ℕ → ℕ → ℕ → ℕ → ℕ
-heldPart L P f s =
-    (if marked f && (eqb (s + 1) L || eqb (s + 2) L) then 10 else 0)
-    + (if eqb f 0 && leb L s && ltb s (L + 4) then 12 * (6 - signals L P (inSlot L s)) - 12 * (6 - signals L 4 (inSlot L s)) else 0)
-
-abbrev heldTest : ℕ → Bool → Bool → Bool → Bool
-heldTest P z x y =
-    let L : ℕ = if z then 6 else 7 in
-    eqb
-    (sumTo (2 * L) (λ s.
-    (if (x || y) && (eqb (s + 1) L || eqb (s + 2) L) then 10 else 0)
-    + (if x && leb L s && ltb s (L + 4) then 12 * (6 - signals L P (inSlot L s)) - 12 * (6 - signals L 4 (inSlot L s)) else 0)))
-    (if x then 20 + (if eqb P 1 then (if z then 48 else 36) else if eqb P 2 then 24 else 0) else if y then 20 else 0)
-
-held-rows : (e P f : ℕ) → Among P portCounts
-    → sumTo (2 * slotLength e) (heldPart (slotLength e) P f)
-    ≡ (if eqb f 0 then 20 + (if eqb P 1 then (if eqb e 1 then 48 else 36) else if eqb P 2 then 24 else 0) else if eqb f 5 then 20 else 0)
-unfolding slotLength sumTo signals crsSymbol inSlot marked
-held-rows e P f a =
-    eqb→eq _ _ (by-table 3 (heldTest P) (among-holds (λ P. everyWay 3 (heldTest P)) portCounts P tt a) (eqb e 1) (eqb f 0) (eqb f 5))
+  held-rows : sumTo (symbols c) heldPart ≡ heldElements c f
+  unfolding slotLength sumTo signals crsSymbol inSlot marked heldElements holes
+  held-rows = by-ports ports
+    where
+      by-ports : Among (c .ports) portCounts → sumTo (symbols c) heldPart ≡ heldElements c f
+      by-ports (inl p) =
+          by-test (eqb (c .prefix) 1)
+          (λ x. by-test (eqb (f .subframe) 0) (λ y. simp (x, y, p)) (λ y. by-test (eqb (f .subframe) 5) (λ z. simp (x, y, z, p)) (λ z. simp (x, y, z, p))))
+          (λ x. by-test (eqb (f .subframe) 0) (λ y. simp (x, y, p)) (λ y. by-test (eqb (f .subframe) 5) (λ z. simp (x, y, z, p)) (λ z. simp (x, y, z, p))))
+      by-ports (inr (inl p)) =
+          by-test (eqb (c .prefix) 1)
+          (λ x. by-test (eqb (f .subframe) 0) (λ y. simp (x, y, p)) (λ y. by-test (eqb (f .subframe) 5) (λ z. simp (x, y, z, p)) (λ z. simp (x, y, z, p))))
+          (λ x. by-test (eqb (f .subframe) 0) (λ y. simp (x, y, p)) (λ y. by-test (eqb (f .subframe) 5) (λ z. simp (x, y, z, p)) (λ z. simp (x, y, z, p))))
+      by-ports (inr (inr (inl p))) =
+          by-test (eqb (c .prefix) 1)
+          (λ x. by-test (eqb (f .subframe) 0) (λ y. simp (x, y, p)) (λ y. by-test (eqb (f .subframe) 5) (λ z. simp (x, y, z, p)) (λ z. simp (x, y, z, p))))
+          (λ x. by-test (eqb (f .subframe) 0) (λ y. simp (x, y, p)) (λ y. by-test (eqb (f .subframe) 5) (λ z. simp (x, y, z, p)) (λ z. simp (x, y, z, p))))
 
 -- ---- the kinds
 module _ (F : Owner → ℕ) where
@@ -225,14 +236,8 @@ module _ (w : List ℕ) (p : Plan) where
       )
 
   module _ (e : checkOf w ≡ accepted p) where
-    abbrev L : ℕ
-    L = slotOfCell (p .cell)
-
     abbrev N : ℕ
     N = p .cell .blocks
-
-    long : 6 ≤ L
-    long = slot-length (p .cell .prefix) .0
 
     wide : 6 ≤ N
     wide = let z = big N (valid w p e .cell .blocks) in omega arith
@@ -240,9 +245,9 @@ module _ (w : List ℕ) (p : Plan) where
     port-count : (q : ℕ) → countOf w p (Crs q) ≡ one (ltb q (p .cell .ports)) * (if ltb q 2 then 4 else 2) * (2 * N)
     unfolding countOf owns fixedRule
     port-count q =
-        sum-same (symbols (p .cell)) _ (λ s. one (sends L (p .cell .ports) q s) * (2 * N)) (λ s l. crs-row L (p .cell .identity) N (p .cell .ports) q s)
-        ∙ sum-times (symbols (p .cell)) (2 * N) (λ s. one (sends L (p .cell .ports) q s))
-        ∙ ap (λ (x : ℕ). x * (2 * N)) (port-symbols (p .cell .prefix) (p .cell .ports) q)
+        sum-same (symbols (p .cell)) _ (λ s. one (sends (p .cell) q s) * (2 * N)) (λ s l. crs-row (p .cell) q s)
+        ∙ sum-times (symbols (p .cell)) (2 * N) (λ s. one (sends (p .cell) q s))
+        ∙ ap (λ (x : ℕ). x * (2 * N)) (port-symbols (p .cell) q)
 
     pub crs-kind : kindCount w p 0 ≡ crsElements (p .cell)
     unfolding crsElements
@@ -259,22 +264,20 @@ module _ (w : List ℕ) (p : Plan) where
     primary : countOf w p (Sync Primary) ≡ syncElements (p .frame)
     unfolding countOf owns fixedRule pss syncElements
     primary =
-        let m = marked (p .frame .subframe) in
-        mark-rows (symbols (p .cell)) N (λ s. m && eqb (s + 1) L) m wide (mark-once (p .cell .prefix) 1 m (inl refl)) ∙ times-62 m
+        let m = marked (p .frame) in
+        mark-rows (p .cell) (λ s. m && eqb (s + 1) (slotLength (p .cell))) m wide (mark-once (p .cell) 1 m (inl refl)) ∙ times-62 m
 
     secondary : countOf w p (Sync Secondary) ≡ syncElements (p .frame)
     unfolding countOf owns fixedRule sss syncElements
     secondary =
-        let m = marked (p .frame .subframe) in
-        mark-rows (symbols (p .cell)) N (λ s. m && eqb (s + 2) L) m wide (mark-once (p .cell .prefix) 2 m (inr refl)) ∙ times-62 m
+        let m = marked (p .frame) in
+        mark-rows (p .cell) (λ s. m && eqb (s + 2) (slotLength (p .cell))) m wide (mark-once (p .cell) 2 m (inr refl)) ∙ times-62 m
 
     held-count : countOf w p Held ≡ heldElements (p .cell) (p .frame)
-    unfolding countOf owns fixedRule heldElements holes
+    unfolding countOf owns fixedRule
     held-count =
         let a = valid w p e .cell .ports in
-        sum-same (symbols (p .cell)) _ (heldPart L (p .cell .ports) (p .frame .subframe))
-        (λ s l. held-row L (p .cell .identity) N (p .cell .ports) s long wide a (p .frame .subframe))
-        ∙ held-rows (p .cell .prefix) (p .cell .ports) (p .frame .subframe) a
+        sum-same (symbols (p .cell)) _ _ (λ s l. held-row (p .cell) (p .frame) wide a s) ∙ held-rows (p .cell) (p .frame) wide a
 
     pub pss-kind : kindCount w p 1 ≡ syncElements (p .frame)
     pss-kind = omega (arith, parts 1, none 1 refl refl, primary)

@@ -16,12 +16,12 @@ use Rattle.plan.specs.declared.Plan.{Plan}
 use Rattle.plan.specs.declared.Checked.the-variants.{Plan as accepted}
 use Rattle.plan.proofs.Valid.{valid}
 use Rattle.base.specs.Choice.{if_then_else_}
-use Rattle.layout.specs.Rules.{marked}
-use Rattle.layout.specs.Owners.{slotOfCell, symbols, carriers}
+use Rattle.layout.specs.Rules.{slotLength, marked}
+use Rattle.layout.specs.Owners.{symbols, carriers}
+use Rattle.layout.proofs.Pilot.{slot-length}
 use Rattle.counts.specs.Sums.{sumTo}
 use Rattle.counts.specs.Counts.{kinds, kindCount}
 use Rattle.counts.specs.Kinds.{crsElements, syncElements, pbchElements, holes, heldElements}
-use Rattle.counts.proofs.Signals.{slot-length}
 use Rattle.counts.proofs.Ranges.{big, few-units}
 use Rattle.counts.proofs.AddUp.{kinds-add-up}
 use Rattle.counts.proofs.KindCounts.{crs-kind, pss-kind, sss-kind, pbch-kind, pcfich-kind, phich-kind, held-kind, idle-kind}
@@ -107,10 +107,10 @@ module _ (f : Frame) where
 pub places-most : (n S : ℕ) → n ≤ 255 → S ≤ 14 → 12 * n * S ≤ 42840
 places-most n S l m = le-trans (mul-le-mul-left (12 * n) m) (let z : 12 * n * 14 ≤ 42840 = omega arith in z)
 
-pub slot-places : (c : Cell) (L : ℕ) → L ≡ slotOfCell c → c .blocks ≤ 255 → 12 * c .blocks * (2 * L) ≤ 42840
-slot-places c L e l = let z = slot-length (c .prefix) in places-most (c .blocks) (2 * L) l (omega arith)
+pub slot-places : (c : Cell) (L : ℕ) → L ≡ slotLength c → c .blocks ≤ 255 → 12 * c .blocks * (2 * L) ≤ 42840
+slot-places c L e l = let z = slot-length c in places-most (c .blocks) (2 * L) l (omega arith)
 
-pub all-places : (c : Cell) (L : ℕ) → L ≡ slotOfCell c → 12 * c .blocks * (2 * L) ≡ carriers c * symbols c
+pub all-places : (c : Cell) (L : ℕ) → L ≡ slotLength c → 12 * c .blocks * (2 * L) ≡ carriers c * symbols c
 all-places c L e = ap (λ (x : ℕ). 12 * c .blocks * (2 * x)) e
 
 -- ---- the nine counts
@@ -149,7 +149,7 @@ module _ (w : List ℕ) (p : Plan) (ok : checkOf w ≡ accepted p)
   owned-few =
       let v = valid w p ok in
       let b = big (p .cell .blocks) (v .cell .blocks) in
-      let z = slot-length (p .cell .prefix) in
+      let z = slot-length (p .cell) in
       le-trans owned-most (places-most (p .cell .blocks) (symbols (p .cell)) (omega arith) (omega arith))
 
   pub nine : (total : ℕ) → total ≡ carriers (p .cell) * symbols (p .cell)

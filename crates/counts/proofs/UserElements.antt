@@ -8,8 +8,8 @@ use native.Mathlib.Nat.{not-suc-le-zero, le-of-suc-le-suc, mul-comm}
 use native.Mathlib.Omega.{arith}
 use lib.Dec.{T, leb, ltb, eqb}
 use lib.ListN.{length, getD}
-use borrow.Author.Tests.{ne-eqb, lt-ltb, le-ltb, le-leb, lt-leb, ltb-true, ltb-false, leb-true}
-use Rattle.base.proofs.Tests.{by-test, clash, both}
+use borrow.Author.Tests.{ne-eqb, lt-ltb, le-ltb, le-leb, lt-leb, ltb-true, ltb-false}
+use Rattle.base.proofs.Tests.{by-test, clash}
 use Rattle.base.specs.Tables.{table}
 use Rattle.plan.specs.Lists.{noneOf}
 use Rattle.plan.specs.Fields.{unitsOf}
@@ -21,11 +21,11 @@ use Rattle.plan.specs.declared.Frame.{Frame}
 use Rattle.plan.specs.declared.User.{User}
 use Rattle.plan.specs.declared.Plan.{Plan}
 use Rattle.plan.specs.declared.Checked.the-variants.{Plan as accepted}
-use Rattle.plan.proofs.Listed.{and-left, and-right, every-at}
+use Rattle.plan.proofs.Listed.{every-at}
 use Rattle.plan.proofs.Valid.{valid}
 use Rattle.base.specs.Choice.{one}
-use Rattle.layout.specs.Rules.{middle, slotOf, inSlot, crs, crsOfFour, crsAny, centre, used, marked, pss, sss, heldBySync, pbchArea, pbch, heldByPbch, held, inGroup, pcfich, phich}
-use Rattle.layout.specs.Owners.{slotOfCell, symbols, carriers, controlSymbols, fixedRule, above, free, userHas, userRule, blocksHave, owns}
+use Rattle.layout.specs.Rules.{slotLength, slotOf, crs, crsBelow, crsOfFour, crsAny, centre, used, marked, pss, sss, inSyncArea, heldBySync, inPbchArea, pbch, heldByPbch, held, inGroup, pcfich, phich}
+use Rattle.layout.specs.Owners.{symbols, carriers, controlSymbols, fixedRule, above, free, userHas, userRule, blocksHave, owns}
 use Rattle.layout.specs.declared.Owner.{Owner}
 use Rattle.layout.specs.declared.Owner.the-variants.{Phich, User as UserOf}
 use Rattle.counts.specs.Sums.{sumTo}
@@ -33,17 +33,11 @@ use Rattle.counts.specs.Counts.{countOf}
 use Rattle.counts.specs.Users.{signals, taken, rowElements, userElements}
 use Rattle.counts.proofs.Logic.{by-table, agree, agreed}
 use Rattle.counts.proofs.Sums.{sum-same, sum-none, sum-times, by-six}
-use Rattle.counts.proofs.Signals.{slot-length, hits, refs, half-left}
+use Rattle.layout.proofs.Fixed.{used-centre}
+use Rattle.counts.proofs.Signals.{hits, refs, half-left}
 use Rattle.counts.proofs.Halves.{within, central, blocks-half, centre-half, halves-are}
 
 -- ---- which places no owner above the users has, after symbol 0
-pub used-centre : (N k : ℕ) → used N k ≡ true → centre N k ≡ true
-unfolding middle
-used-centre N k e =
-    let a : 6 * N ≤ k + 31 = leb-true _ _ (and-left (leb (6 * N) (k + 31)) (ltb k (6 * N + 31)) e) in
-    let b : k < 6 * N + 31 = ltb-true _ _ (and-right (leb (6 * N) (k + 31)) (ltb k (6 * N + 31)) e) in
-    both (le-leb (6 * N) (k + 36) (omega arith)) (lt-ltb k (6 * N + 36) (omega arith))
-
 -- the tests of CRS (r0 to r3), of the marks' symbols (y and z, in a subframe with marks m), of the centre (c) and what is used of it (v),
 -- of PBCH's area (a) and of the places that it skips (q), taken together
 abbrev noneAbove : Bool → Bool → Bool → Bool → Bool → Bool → Bool → Bool → Bool → Bool → Bool → Bool
@@ -69,11 +63,11 @@ spread : (x y c : Bool) → (x || y) && c ≡ x && c || y && c
 spread x y c = agreed _ _ (by-table 3 (λ x y c. agree ((x || y) && c) (x && c || y && c)) tt x y c)
 
 module _ (c : Cell) (f : Frame) (s k : ℕ) (late : 0 < s) where
-  no-group : inGroup (c .identity) s k ≡ false
+  no-group : inGroup c s k ≡ false
   unfolding inGroup
   no-group = rw (ne-eqb s 0 (λ e. omega arith)) refl
 
-  no-unit : (m : ℕ) → phich (c .identity) (c .blocks) (unitsOf c) m s k ≡ false
+  no-unit : (m : ℕ) → phich c m s k ≡ false
   unfolding phich
   no-unit m = rw (no-group, and-false) refl
 
@@ -82,24 +76,26 @@ module _ (c : Cell) (f : Frame) (s k : ℕ) (late : 0 < s) where
   no-units zero g = refl
   no-units (suc n) g = rw (no-unit (g 0)) (no-units n (λ i. g (suc i)))
 
-  no-format : pcfich (c .identity) (c .blocks) s k ≡ false
+  no-format : pcfich c s k ≡ false
   unfolding pcfich
   no-format = rw no-group refl
 
-  -- no owner above the users: no reference signal, and not the centre where it is taken
-  pub late-free : free c f s k ≡ not (crsAny (slotOfCell c) (c .identity) (c .ports) s k) && not (taken (slotOfCell c) (f .subframe) s && centre (c .blocks) k)
-  unfolding free above noneOf fixedRule pss sss pbch held heldBySync heldByPbch crsAny taken pbchArea
+  -- no owner above the users: no reference signal, and neither the area of the marks nor PBCH's
+  pub area-free : free c f s k ≡ not (crsAny c s k) && not (inSyncArea c f s k || inPbchArea c f s k)
+  unfolding free above noneOf fixedRule pss sss pbch held heldBySync heldByPbch crsBelow crs inSyncArea
+  area-free =
+      let L = slotLength c in
+      rw (no-format, no-units (unitsOf c) (λ i. i))
+      (joined (crs c 0 s k) (crs c 1 s k) (crs c 2 s k) (crs c 3 s k) (marked f) (eqb (s + 1) L) (eqb (s + 2) L) (centre c k) (used c k) (inPbchArea c f s k) (crsOfFour c s k) (used-centre c k))
+
+  -- so not the centre where it is taken
+  late-free : free c f s k ≡ not (crsAny c s k) && not (taken c f s && centre c k)
+  unfolding taken inSyncArea inPbchArea
   late-free =
-      let L = slotOfCell c in
-      let C = c .identity in
-      let P = c .ports in
-      let N = c .blocks in
-      let m = marked (f .subframe) in
+      let L = slotLength c in
       let t = eqb (s + 1) L || eqb (s + 2) L in
       let b = eqb (f .subframe) 0 && leb L s && ltb s (L + 4) in
-      rw (no-format, no-units (unitsOf c) (λ i. i))
-      (joined (crs L C P 0 s k) (crs L C P 1 s k) (crs L C P 2 s k) (crs L C P 3 s k) m (eqb (s + 1) L) (eqb (s + 2) L) (centre N k) (used N k) (b && centre N k) (crsOfFour L C s k) (used-centre N k)
-      ∙ ap (λ (x : Bool). not (crs L C P 0 s k || crs L C P 1 s k || crs L C P 2 s k || crs L C P 3 s k) && not x) (sym (spread (m && t) b (centre N k))))
+      area-free ∙ ap (λ (x : Bool). not (crsAny c s k) && not x) (sym (spread (marked f && t) b (centre c k)))
 
 -- ---- the user's rule in a symbol after the control region, by half block and k mod 6
 has-at : (d : User) (us : List User) (i n k : ℕ) → i < length us → userHas us i n k ≡ blocksHave (getD us i d) n k
@@ -112,9 +108,6 @@ shuffle : (a q z : Bool) → a && true && (not q && not z) ≡ a && not z && not
 shuffle a q z = agreed _ _ (by-table 3 (λ a q z. agree (a && true && (not q && not z)) (a && not z && not q)) tt a q z)
 
 module _ (w : List ℕ) (p : Plan) (ok : Valid w p) (d : User) (i : ℕ) (li : i < length (usersOf w p)) (s : ℕ) where
-  abbrev L : ℕ
-  L = slotOfCell (p .cell)
-
   abbrev N : ℕ
   N = p .cell .blocks
 
@@ -122,7 +115,7 @@ module _ (w : List ℕ) (p : Plan) (ok : Valid w p) (d : User) (i : ℕ) (li : i
   u = getD (usersOf w p) i d
 
   abbrev has : ℕ → Bool
-  has b = within (2 * u .first) (2 * (u .first + u .count)) b && not (taken L (p .frame .subframe) s && central N b)
+  has b = within (2 * u .first) (2 * (u .first + u .count)) b && not (taken (p .cell) (p .frame) s && central (p .cell) b)
 
   abbrev Row : ℕ
   Row = sumTo (carriers (p .cell)) (λ k. one (userRule w p i s k))
@@ -134,26 +127,26 @@ module _ (w : List ℕ) (p : Plan) (ok : Valid w p) (d : User) (i : ℕ) (li : i
       (sum-none (carriers (p .cell)) _ (λ k m. rw (lt-leb (controlSymbols (p .cell) (p .frame)) s l, and-false) refl))
 
   module _ (late : controlSymbols (p .cell) (p .frame) ≤ s) (some : 0 < s) where
-    at-place : (a b : Bool) → ((k : ℕ) → crsAny L (p .cell .identity) (p .cell .ports) s k ≡ hits a b (p .cell .identity) (k % 6)) → (h r k : ℕ) → r < 6 → k ≡ 6 * h + r
-        → one (userRule w p i s k) ≡ one (has h && not (hits a b (p .cell .identity) r))
+    at-place : (a b : Bool) → ((k : ℕ) → crsAny (p .cell) s k ≡ hits a b (p .cell) (k % 6)) → (h r k : ℕ) → r < 6 → k ≡ 6 * h + r
+        → one (userRule w p i s k) ≡ one (has h && not (hits a b (p .cell) r))
     unfolding userRule
     at-place a b e h r k l z =
         let x : k / 6 ≡ h = omega arith in
         let y : k % 6 ≡ r = omega arith in
-        rw (has-at d (usersOf w p) i (slotOf L s) k li, blocks-half u (slotOf L s) k, le-leb (controlSymbols (p .cell) (p .frame)) s late, late-free (p .cell) (p .frame) s k some, e k, centre-half N k, x, y)
-        (ap one (shuffle (within (2 * u .first) (2 * (u .first + u .count)) h) (hits a b (p .cell .identity) r) (taken L (p .frame .subframe) s && central N h)))
+        rw (has-at d (usersOf w p) i (slotOf (p .cell) s) k li, blocks-half u (slotOf (p .cell) s) k, le-leb (controlSymbols (p .cell) (p .frame)) s late, late-free (p .cell) (p .frame) s k some, e k, centre-half (p .cell) k, x, y)
+        (ap one (shuffle (within (2 * u .first) (2 * (u .first + u .count)) h) (hits a b (p .cell) r) (taken (p .cell) (p .frame) s && central (p .cell) h)))
 
     late-row : Row ≡ rowElements (p .cell) (p .frame) (u .first) (u .count) s
     unfolding rowElements
     late-row =
-        let q = refs L (p .cell .identity) (p .cell .ports) s (slot-length (p .cell .prefix) .0) (ok .cell .ports) in
+        let q = refs (p .cell) (p .cell .ports) s (ok .cell .ports) in
         let z : 12 * N ≡ 6 * (2 * N) = omega arith in
-        let v = 6 - signals L (p .cell .ports) (inSlot L s) in
+        let v = 6 - signals (p .cell) (p .cell .ports) s in
         rw (z, le-ltb s (controlSymbols (p .cell) (p .frame)) late)
-        (by-six (2 * N) _ (λ h r. one (has h && not (hits (q .0) (q .1) (p .cell .identity) r))) (λ h r k m l e. at-place (q .0) (q .1) (q .2) h r k l e)
-        ∙ sum-same (2 * N) _ (λ h. one (has h) * v) (λ h m. half-left (has h) (q .0) (q .1) (p .cell .identity) ∙ ap (λ (x : ℕ). one (has h) * (6 - x)) (q .3))
+        (by-six (2 * N) _ (λ h r. one (has h && not (hits (q .0) (q .1) (p .cell) r))) (λ h r k m l e. at-place (q .0) (q .1) (q .2) h r k l e)
+        ∙ sum-same (2 * N) _ (λ h. one (has h) * v) (λ h m. half-left (has h) (q .0) (q .1) (p .cell) ∙ ap (λ (x : ℕ). one (has h) * (6 - x)) (q .3))
         ∙ sum-times (2 * N) v (λ h. one (has h))
-        ∙ ap (λ (x : ℕ). x * v) (halves-are N (u .first) (u .count) (taken L (p .frame .subframe) s) (every-at (UserIn (p .cell)) d (usersOf w p) i (ok .users) li .last))
+        ∙ ap (λ (x : ℕ). x * v) (halves-are (p .cell) (u .first) (u .count) (taken (p .cell) (p .frame) s) (every-at (UserIn (p .cell)) d (usersOf w p) i (ok .users) li .last))
         ∙ mul-comm _ _)
 
   row : Row ≡ rowElements (p .cell) (p .frame) (u .first) (u .count) s

@@ -23,14 +23,15 @@ use Rattle.plan.specs.declared.Checked.the-variants.{Plan as accepted}
 use Rattle.plan.proofs.Listed.{and-left, and-right, every-at}
 use Rattle.plan.proofs.Valid.{valid}
 use Rattle.base.specs.Choice.{one}
-use Rattle.layout.specs.Rules.{inSlot}
-use Rattle.layout.specs.Owners.{slotOfCell, symbols, carriers, controlSymbols}
+use Rattle.layout.specs.Rules.{slotLength}
+use Rattle.layout.specs.Owners.{symbols, carriers, controlSymbols}
+use Rattle.layout.proofs.Pilot.{slot-length}
 use Rattle.layout.specs.declared.Owner.the-variants.{User as UserOf}
 use Rattle.counts.specs.Sums.{sumTo, sumOf}
 use Rattle.counts.specs.Counts.{countOf}
 use Rattle.counts.specs.Users.{taken, halves, rowElements, userElements, allElements, usersElements}
 use Rattle.counts.proofs.Sums.{sum-even, sum-most, sum-part, swap}
-use Rattle.counts.proofs.Signals.{slot-length, signals-pair, signals-few}
+use Rattle.counts.proofs.Signals.{signals-pair, signals-few}
 use Rattle.counts.proofs.Halves.{within, in-range, halves-most}
 use Rattle.counts.proofs.Ranges.{big}
 use Rattle.counts.proofs.UserElements.{user-elements}
@@ -44,16 +45,19 @@ row-even : (c : Cell) (f : Frame) (first count s : ℕ) → (c .ports ≡ 2) ⊎
 unfolding rowElements
 row-even c f first count s two =
     on-if (λ (x : ℕ). x % 2 ≡ 0) (ltb s (controlSymbols c f)) (λ e. refl)
-    (λ e. even-times _ _ (signals-pair (slotOfCell c) (c .ports) (inSlot (slotOfCell c) s) (slot-length (c .prefix) .0) two))
+    (λ e. even-times _ _ (signals-pair c (c .ports) s two))
 
 pub elements-even : (c : Cell) (f : Frame) (first count : ℕ) → (c .ports ≡ 2) ⊎ (c .ports ≡ 4) → userElements c f first count % 2 ≡ 0
 unfolding userElements
 elements-even c f first count two = sum-even (symbols c) _ (λ s l. row-even c f first count s two)
 
 -- ---- never 0: in symbol 3 there is neither mark nor PBCH, and at least four of six subcarriers have no reference signal
-third-free : (L f : ℕ) → 6 ≤ L → taken L f 3 ≡ false
+third-free : (c : Cell) (f : Frame) → taken c f 3 ≡ false
 unfolding taken
-third-free L f h = rw (ne-eqb 4 L (λ e. omega arith), ne-eqb 5 L (λ e. omega arith), lt-leb L 3 (omega arith)) (simp and-false)
+third-free c f =
+    let L = slotLength c in
+    let h = slot-length c in
+    rw (ne-eqb 4 L (λ e. omega arith), ne-eqb 5 L (λ e. omega arith), lt-leb L 3 (omega arith)) (simp and-false)
 
 some-times : (x h : ℕ) → x ≤ 2 → 1 ≤ h → 1 ≤ (6 - x) * h
 some-times x h l m = omega (arith, mul-le-mul-right h (let z : 4 ≤ 6 - x = omega arith in z))
@@ -61,14 +65,13 @@ some-times x h l m = omega (arith, mul-le-mul-right h (let z : 4 ≤ 6 - x = ome
 row-some : (c : Cell) (f : Frame) (first count : ℕ) → f .cfi ≤ 3 → 1 ≤ count → 1 ≤ rowElements c f first count 3
 unfolding rowElements controlSymbols halves
 row-some c f first count l m =
-    let h = slot-length (c .prefix) in
-    rw (le-ltb 3 (f .cfi) l, third-free (slotOfCell c) (f .subframe) (h .0))
-    (some-times _ (2 * count - 0) (signals-few (slotOfCell c) (c .ports) (inSlot (slotOfCell c) 3) (h .0)) (omega arith))
+    rw (le-ltb 3 (f .cfi) l, third-free c f)
+    (some-times _ (2 * count - 0) (signals-few c (c .ports) 3) (omega arith))
 
 pub elements-some : (c : Cell) (f : Frame) (first count : ℕ) → f .cfi ≤ 3 → 1 ≤ count → 1 ≤ userElements c f first count
 unfolding userElements
 elements-some c f first count l m =
-    let h = slot-length (c .prefix) in
+    let h = slot-length c in
     le-trans (row-some c f first count l m) (sum-part (symbols c) (rowElements c f first count) 3 (omega arith))
 
 -- ---- at most its blocks'
@@ -79,7 +82,7 @@ pub row-most : (c : Cell) (f : Frame) (first count s : ℕ) → rowElements c f 
 unfolding rowElements
 row-most c f first count s =
     on-if (λ (x : ℕ). x ≤ 12 * count) (ltb s (controlSymbols c f)) (λ e. omega arith)
-    (λ e. most-times _ _ count (halves-most (c .blocks) first count (taken (slotOfCell c) (f .subframe) s)))
+    (λ e. most-times _ _ count (halves-most c first count (taken c f s)))
 
 pub elements-most : (c : Cell) (f : Frame) (first count : ℕ) → userElements c f first count ≤ symbols c * (12 * count)
 unfolding userElements
@@ -141,7 +144,7 @@ module _ (w : List ℕ) (p : Plan) (e : checkOf w ≡ accepted p) where
   pub users-few : usersElements w p ≤ 16800
   users-few =
       let v = valid w p e in
-      let h = slot-length (p .cell .prefix) in
+      let h = slot-length (p .cell) in
       let b = big (p .cell .blocks) (v .cell .blocks) in
       let z : symbols (p .cell) * carriers (p .cell) ≤ 14 * carriers (p .cell) = mul-le-mul-right (carriers (p .cell)) (let y : symbols (p .cell) ≤ 14 = omega arith in y) in
       le-trans users-most (le-trans z (let y : 14 * (12 * p .cell .blocks) ≤ 16800 = omega arith in y))

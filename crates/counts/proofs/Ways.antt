@@ -1,7 +1,7 @@
 -- One law for each way out of the code's functions. Assumes nothing.
 use Prim.Native.Nat.{ℕ, _+_, _-_, _*_, _≤_, _<_, min, max}
 use mathlib.Core.Path.{_≡_, refl, sym, ap, _∙_}
-use mathlib.Core.Logic.{_⊎_}
+use mathlib.Core.Logic.{inl, inr}
 use mathlib.Core.Bool.{Bool, true, false, _&&_, _||_, and-false}
 use native.Mathlib.Nat.{mul-le-mul-right}
 use native.Mathlib.Numerals.{add-one}
@@ -10,54 +10,33 @@ use lib.Dec.{ltb, eqb}
 use borrow.Author.Tests.{eq-eqb, ne-eqb, lt-ltb, le-ltb, le-leb, lt-leb}
 use Rattle.plan.specs.declared.Cell.{Cell}
 use Rattle.plan.specs.declared.Frame.{Frame}
-use Rattle.base.specs.Choice.{if_then_else_}
 use Rattle.layout.specs.Rules.{slotLength, inSlot, marked}
-use Rattle.layout.specs.Owners.{slotOfCell, symbols, controlSymbols}
+use Rattle.layout.specs.Owners.{symbols, controlSymbols}
 use Rattle.counts.specs.Sums.{sumTo}
 use Rattle.counts.specs.Users.{signals, taken, halves, rowElements, userElements}
 use Rattle.counts.proofs.Signals.{signals-outer, signals-second, signals-other}
 use Rattle.counts.proofs.Halves.{halves-most}
 
-pub extended : (e : ℕ) → e ≡ 1 → 6 ≡ slotLength e
-unfolding slotLength
-extended e h = rw (eq-eqb e 1 h) refl
+-- ---- half_places: L symbols of a slot, l the symbol's number in it
+module _ (c : Cell) (s l : ℕ) (el : l ≡ inSlot c s) where
+  pub places-first : l ≡ 0 → (x : ℕ) → x ≡ min (c .ports) 2 → 6 - x ≡ 6 - signals c (c .ports) s
+  places-first h x e = ap (λ (y : ℕ). 6 - y) (e ∙ sym (signals-outer c (c .ports) s (inl (sym el ∙ h))))
 
-pub normal : (e : ℕ) → (e ≡ 1 → ⊥) → 7 ≡ slotLength e
-unfolding slotLength
-normal e h = rw (ne-eqb e 1 h) refl
+  module _ (L : ℕ) (eL : L ≡ slotLength c) where
+    pub places-late : l + 3 ≡ L → (x : ℕ) → x ≡ min (c .ports) 2 → 6 - x ≡ 6 - signals c (c .ports) s
+    places-late h x e = ap (λ (y : ℕ). 6 - y) (e ∙ sym (signals-outer c (c .ports) s (inr (ap (λ (y : ℕ). y + 3) (sym el) ∙ h ∙ eL))))
 
-pub slot-first : (L s : ℕ) → s < L → s ≡ inSlot L s
-unfolding inSlot
-slot-first L s h = rw (lt-ltb s L h) refl
+    pub places-other : ((l ≡ 0) → ⊥) → ((l + 3 ≡ L) → ⊥) → ((l ≡ 1) → ⊥) → 6 ≡ 6 - signals c (c .ports) s
+    places-other n0 n3 n1 = ap (λ (y : ℕ). 6 - y) (sym (signals-other c (c .ports) s (λ h. n0 (el ∙ h)) (λ h. n3 (ap (λ (y : ℕ). y + 3) el ∙ h ∙ sym eL)) (λ h. n1 (el ∙ h))))
 
-pub slot-second : (L s : ℕ) → L ≤ s → s - L ≡ inSlot L s
-unfolding inSlot
-slot-second L s h = rw (le-ltb s L h) refl
-
-pub in-slot-small : (L s : ℕ) → s < 14 → inSlot L s < 14
-unfolding inSlot
-in-slot-small L s h = pick (ltb s L)
-  where
-    pick : (t : Bool) → (if t then s else s - L) < 14
-    pick true = h
-    pick false = omega arith
-
--- ---- half_places
-module _ (L P l : ℕ) (big : 6 ≤ L) where
-  pub places-outer : (l ≡ 0) ⊎ (l + 3 ≡ L) → (x : ℕ) → x ≡ min P 2 → 6 - x ≡ 6 - signals L P l
-  places-outer h x e = ap (λ (y : ℕ). 6 - y) (e ∙ sym (signals-outer L P l big h))
-
-  pub places-second : l ≡ 1 → (x y : ℕ) → x ≡ max P 2 → y ≡ min x 4 → 6 - (y - 2) ≡ 6 - signals L P l
-  places-second h x y e d = ap (λ (z : ℕ). 6 - z) (ap (λ (z : ℕ). z - 2) (d ∙ ap (λ (z : ℕ). min z 4) e) ∙ sym (signals-second L P l big h))
-
-  pub places-other : ((l ≡ 0) → ⊥) → ((l + 3 ≡ L) → ⊥) → ((l ≡ 1) → ⊥) → 6 ≡ 6 - signals L P l
-  places-other n0 n3 n1 = ap (λ (y : ℕ). 6 - y) (sym (signals-other L P l big n0 n3 n1))
+  pub places-second : l ≡ 1 → (x y : ℕ) → x ≡ max (c .ports) 2 → y ≡ min x 4 → 6 - (y - 2) ≡ 6 - signals c (c .ports) s
+  places-second h x y e d = ap (λ (z : ℕ). 6 - z) (ap (λ (z : ℕ). z - 2) (d ∙ ap (λ (z : ℕ). min z 4) e) ∙ sym (signals-second c (c .ports) s (sym el ∙ h)))
 
 -- ---- taken
-module _ (L f s : ℕ) where
-  pub before-marks : s + 2 < L → false ≡ taken L f s
+module _ (c : Cell) (f : Frame) (s L : ℕ) (eL : L ≡ slotLength c) where
+  pub before-marks : s + 2 < L → false ≡ taken c f s
   unfolding taken
-  before-marks l = rw (ne-eqb (s + 1) L (λ e. omega arith), ne-eqb (s + 2) L (λ e. omega arith), lt-leb L s (omega arith)) (simp and-false)
+  before-marks l = rw (← eL, ne-eqb (s + 1) L (λ e. omega arith), ne-eqb (s + 2) L (λ e. omega arith), lt-leb L s (omega arith)) (simp and-false)
 
   in-marks : s < L → L ≤ s + 2 → eqb (s + 1) L || eqb (s + 2) L ≡ true
   in-marks l m = pick (eqb (s + 1) L) refl
@@ -66,25 +45,25 @@ module _ (L f s : ℕ) where
       pick true e = refl
       pick false e = eq-eqb (s + 2) L (omega (arith, borrow.Author.Tests.eqb-false (s + 1) L e))
 
-  pub marks-first : s < L → L ≤ s + 2 → f ≡ 0 → true ≡ taken L f s
+  pub marks-first : s < L → L ≤ s + 2 → f .subframe ≡ 0 → true ≡ taken c f s
   unfolding taken marked
-  marks-first l m e = rw (in-marks l m, eq-eqb f 0 e) refl
+  marks-first l m e = rw (← eL, in-marks l m, eq-eqb (f .subframe) 0 e) refl
 
-  pub marks-other : s < L → L ≤ s + 2 → (f ≡ 0 → ⊥) → eqb f 5 ≡ taken L f s
+  pub marks-other : s < L → L ≤ s + 2 → (f .subframe ≡ 0 → ⊥) → eqb (f .subframe) 5 ≡ taken c f s
   unfolding taken marked
-  marks-other l m e = rw (in-marks l m, ne-eqb f 0 e) (pick (eqb f 5))
+  marks-other l m e = rw (← eL, in-marks l m, ne-eqb (f .subframe) 0 e) (pick (eqb (f .subframe) 5))
     where
       pick : (t : Bool) → t ≡ (t && true || false)
       pick true = refl
       pick false = refl
 
-  pub after-first : L ≤ s → f ≡ 0 → ltb s (L + 4) ≡ taken L f s
+  pub after-first : L ≤ s → f .subframe ≡ 0 → ltb s (L + 4) ≡ taken c f s
   unfolding taken marked
-  after-first l e = rw (ne-eqb (s + 1) L (λ q. omega arith), ne-eqb (s + 2) L (λ q. omega arith), eq-eqb f 0 e, le-leb L s l) refl
+  after-first l e = rw (← eL, ne-eqb (s + 1) L (λ q. omega arith), ne-eqb (s + 2) L (λ q. omega arith), eq-eqb (f .subframe) 0 e, le-leb L s l) refl
 
-  pub after-other : L ≤ s → (f ≡ 0 → ⊥) → false ≡ taken L f s
+  pub after-other : L ≤ s → (f .subframe ≡ 0 → ⊥) → false ≡ taken c f s
   unfolding taken
-  after-other l e = rw (ne-eqb (s + 1) L (λ q. omega arith), ne-eqb (s + 2) L (λ q. omega arith), ne-eqb f 0 e) (simp and-false)
+  after-other l e = rw (← eL, ne-eqb (s + 1) L (λ q. omega arith), ne-eqb (s + 2) L (λ q. omega arith), ne-eqb (f .subframe) 0 e) (simp and-false)
 
 -- ---- half blocks: low and high are shifted by six
 module _ (N first count low high : ℕ) (el : low ≡ max (2 * first + 6) N) (eh : high ≡ min (2 * first + 6 + 2 * count) (N + 12)) where
@@ -109,13 +88,13 @@ module _ (N first count low high : ℕ) (el : low ≡ max (2 * first + 6) N) (eh
 pub shared-most : (N first count x : ℕ) → x ≡ min (2 * (first + count)) (N + 6) - max (2 * first) (N - 6) → x ≤ 2 * count
 shared-most N first count x e = omega arith
 
-pub halves-outside : (N first count x : ℕ) (t : Bool) → t ≡ true → x ≡ min (2 * (first + count)) (N + 6) - max (2 * first) (N - 6) → 2 * count - x ≡ halves N first count t
+pub halves-outside : (c : Cell) (first count x : ℕ) (t : Bool) → t ≡ true → x ≡ min (2 * (first + count)) (c .blocks + 6) - max (2 * first) (c .blocks - 6) → 2 * count - x ≡ halves c first count t
 unfolding halves
-halves-outside N first count x t e d = rw (e, d) refl
+halves-outside c first count x t e d = rw (e, d) refl
 
-pub halves-all : (N first count : ℕ) (t : Bool) → t ≡ false → 2 * count ≡ halves N first count t
+pub halves-all : (c : Cell) (first count : ℕ) (t : Bool) → t ≡ false → 2 * count ≡ halves c first count t
 unfolding halves
-halves-all N first count t e = rw e (omega arith)
+halves-all c first count t e = rw e (omega arith)
 
 -- ---- rows
 pub early-row : (c : Cell) (f : Frame) (first count s : ℕ) → s < f .cfi → 0 ≡ rowElements c f first count s
@@ -125,13 +104,13 @@ early-row c f first count s l = rw (lt-ltb s (f .cfi) l) refl
 product-most : (x h n : ℕ) → h ≤ 2 * n → n ≤ 255 → (6 - x) * h ≤ 3060
 product-most x h n l m = omega (arith, mul-le-mul-right h (let z : 6 - x ≤ 6 = omega arith in z))
 
-module _ (c : Cell) (f : Frame) (first count s L l a h : ℕ) (t : Bool) (eL : L ≡ slotOfCell c) (el : l ≡ inSlot L s) (ea : a ≡ 6 - signals L (c .ports) l) (et : t ≡ taken L (f .subframe) s) (eh : h ≡ halves (c .blocks) first count t) where
+module _ (c : Cell) (f : Frame) (first count s a h : ℕ) (t : Bool) (ea : a ≡ 6 - signals c (c .ports) s) (et : t ≡ taken c f s) (eh : h ≡ halves c first count t) where
   pub late-row : f .cfi ≤ s → a * h ≡ rowElements c f first count s
   unfolding rowElements controlSymbols
-  late-row m = rw (le-ltb s (f .cfi) m, eh, et, ea, el, eL) refl
+  late-row m = rw (le-ltb s (f .cfi) m, eh, et, ea) refl
 
   pub row-fits : count ≤ 255 → a * h ≤ 3060
-  row-fits m = rw (ea, eh) (product-most (signals L (c .ports) l) (halves (c .blocks) first count t) count (halves-most (c .blocks) first count t) m)
+  row-fits m = rw (ea, eh) (product-most (signals c (c .ports) s) (halves c first count t) count (halves-most c first count t) m)
 
 -- ---- one more symbol
 module _ (c : Cell) (f : Frame) (first count : ℕ) where
@@ -143,7 +122,7 @@ module _ (c : Cell) (f : Frame) (first count : ℕ) where
   unfolding sumTo
   more-rows s n r e d = rw (e, d, add-one) refl
 
-  pub all-rows : (s n S L : ℕ) → L ≡ slotOfCell c → S ≡ 2 * L → s ≤ S → S ≤ s → n ≡ sumTo s (rowElements c f first count) → n ≡ userElements c f first count
+  pub all-rows : (s n S L : ℕ) → L ≡ slotLength c → S ≡ 2 * L → s ≤ S → S ≤ s → n ≡ sumTo s (rowElements c f first count) → n ≡ userElements c f first count
   unfolding userElements
   all-rows s n S L e d l m h =
       let z : s ≡ symbols c = omega arith in

@@ -11,7 +11,7 @@ unfoldable pub crsElements : Cell → ℕ
 crsElements c = (if eqb (c .ports) 1 then 8 else if eqb (c .ports) 2 then 16 else 24) * c .blocks
 
 unfoldable pub syncElements : Frame → ℕ
-syncElements f = if marked (f .subframe) then 62 else 0
+syncElements f = if marked f then 62 else 0
 
 unfoldable pub pbchElements : Cell → Frame → ℕ
 pbchElements c f = if eqb (f .subframe) 0 then (if eqb (c .prefix) 1 then 216 else 240) else 0

@@ -1,5 +1,4 @@
 -- For the inner contracts only: a user's count without a look at each place. proofs/UserElements.antt: it is the number of its places.
--- In document 01's letters: N blocks, P ports, f subframe, l a symbol's number in its slot; L is the number of symbols of a slot.
 use Prim.Native.Nat.{ℕ, _+_, _-_, _*_, min, max}
 use mathlib.Core.Bool.{Bool, _&&_, _||_}
 use mathlib.Core.List.{List}
@@ -10,29 +9,29 @@ use Rattle.plan.specs.declared.Frame.{Frame}
 use Rattle.plan.specs.declared.User.{User}
 use Rattle.plan.specs.declared.Plan.{Plan}
 use Rattle.base.specs.Choice.{if_then_else_, one}
-use Rattle.layout.specs.Rules.{inSlot, crsSymbol, marked}
-use Rattle.layout.specs.Owners.{slotOfCell, symbols, controlSymbols}
+use Rattle.layout.specs.Rules.{slotLength, crsSymbol, marked}
+use Rattle.layout.specs.Owners.{symbols, controlSymbols}
 use Rattle.counts.specs.Sums.{sumTo, sumOf}
 
--- how many of six subcarriers in a row have reference signals: each of the ports 0 to 3 below P that uses symbol l has one of the six
-unfoldable pub signals : ℕ → ℕ → ℕ → ℕ
-signals L P l = sumTo 4 (λ q. one (ltb q P && crsSymbol L q l))
+-- how many of six subcarriers in a row have reference signals: each of the ports 0 to 3 below P that uses symbol s has one of the six
+unfoldable pub signals : Cell → ℕ → ℕ → ℕ
+signals c P s = sumTo 4 (λ q. one (ltb q P && crsSymbol c q s))
 
 -- the centre 72 subcarriers of symbol s are not the users': "f = 0, 5, slot 2f .. PSS in the last symbol .. SSS one symbol earlier";
 -- "PBCH, f = 0, slot 1, l = 0..3"
-unfoldable pub taken : ℕ → ℕ → ℕ → Bool
-taken L f s = marked f && (eqb (s + 1) L || eqb (s + 2) L) || eqb f 0 && leb L s && ltb s (L + 4)
+unfoldable pub taken : Cell → Frame → ℕ → Bool
+taken c f s =
+    marked f && (eqb (s + 1) (slotLength c) || eqb (s + 2) (slotLength c)) || eqb (f .subframe) 0 && leb (slotLength c) s && ltb s (slotLength c + 4)
 
 -- a user's half blocks of six subcarriers, 2 first to 2 (first + count) - 1; where the centre is taken, without its twelve, N - 6 to
 -- N + 5: for an odd N these are no whole blocks
-unfoldable pub halves : ℕ → ℕ → ℕ → Bool → ℕ
-halves N first count t = 2 * count - (if t then min (2 * (first + count)) (N + 6) - max (2 * first) (N - 6) else 0)
+unfoldable pub halves : Cell → ℕ → ℕ → Bool → ℕ
+halves c first count t = 2 * count - (if t then min (2 * (first + count)) (c .blocks + 6) - max (2 * first) (c .blocks - 6) else 0)
 
 -- a user's places in symbol s: "its blocks, symbols s ≥ CFI, not owned above"
 unfoldable pub rowElements : Cell → Frame → ℕ → ℕ → ℕ → ℕ
 rowElements c f first count s =
-    if ltb s (controlSymbols c f) then 0
-    else (6 - signals (slotOfCell c) (c .ports) (inSlot (slotOfCell c) s)) * halves (c .blocks) first count (taken (slotOfCell c) (f .subframe) s)
+    if ltb s (controlSymbols c f) then 0 else (6 - signals c (c .ports) s) * halves c first count (taken c f s)
 
 -- A USER'S COUNT, and that of all users
 unfoldable pub userElements : Cell → Frame → ℕ → ℕ → ℕ

@@ -5,7 +5,6 @@ ghost use Prim.Native.Nat.{ℕ, _+_, _-_, _*_, _≤_, _<_, min, max};
 ghost use mathlib.Core.Bool.{Bool};
 ghost use Rattle.plan.specs.Check.{checkOf};
 ghost use Rattle.plan.specs.declared.Checked.the-variants.{Plan as accepted};
-ghost use Rattle.layout.specs.Rules.{slotLength, inSlot};
 ghost use Rattle.layout.specs.Owners.{symbols, carriers};
 ghost use Rattle.counts.specs.Users.{signals, taken as takenAt, halves, rowElements, userElements};
 ghost use Rattle.counts.specs.Counts.{kinds, kindCount};
@@ -28,17 +27,18 @@ fn larger(a: usize, b: usize) -> usize
     if a < b { b } else { a }
 }
 
-// The places of six subcarriers in symbol l of a slot that no reference signal has: ports 0 and 1 use l = 0 and the third symbol
-// from the slot's end, ports 2 and 3 use l = 1.
-fn half_places(length: usize, ports: u8, l: usize) -> usize
-    requires { ⌜ (6 ≤ length) × (l < 14) ⌝ }
-    ensures { λ r. ⌜ r ≡ 6 - signals length ports l ⌝ }
+// The places of six subcarriers in symbol s that no reference signal has: ports 0 and 1 use l = 0 and the third symbol from the
+// slot's end, ports 2 and 3 use l = 1.
+fn half_places(cell: Cell, s: usize) -> usize
+    requires { ⌜ s < 14 ⌝ }
+    ensures { λ r. ⌜ r ≡ 6 - signals cell (cell .ports) s ⌝ }
 {
-    let n = ports as usize;
+    let n = cell.ports as usize;
+    let l = layout::in_slot(cell, s);
     if l == 0 {
         return 6 - smaller(n, 2);
     }
-    if l + 3 == length {
+    if l + 3 == slot_length(cell) {
         return 6 - smaller(n, 2);
     }
     if l == 1 {
@@ -48,30 +48,31 @@ fn half_places(length: usize, ports: u8, l: usize) -> usize
 }
 
 // Whether symbol s has synchronisation marks or PBCH in its centre.
-pub fn taken(length: usize, subframe: u8, s: usize) -> bool
-    requires { ⌜ (6 ≤ length) × (length ≤ 7) × (s < 14) ⌝ }
-    ensures { λ r. ⌜ r ≡ takenAt length subframe s ⌝ }
+pub fn taken(cell: Cell, frame: Frame, s: usize) -> bool
+    requires { ⌜ s < 14 ⌝ }
+    ensures { λ r. ⌜ r ≡ takenAt cell frame s ⌝ }
 {
+    let length = slot_length(cell);
     if s < length {
         if s + 2 < length {
             return false;
         }
-        if subframe == 0 {
+        if frame.subframe == 0 {
             return true;
         }
-        return subframe == 5;
+        return frame.subframe == 5;
     }
-    if subframe == 0 {
+    if frame.subframe == 0 {
         return s < length + 4;
     }
     false
 }
 
 // How many of a user's half blocks are the centre's. All is shifted by six: the centre's first half block, N - 6, is N here.
-fn centre_halves(blocks: u8, first: u8, count: u8) -> usize
-    ensures { λ r. ⌜ r ≡ min (2 * (first + count)) (blocks + 6) - max (2 * first) (blocks - 6) ⌝ }
+fn centre_halves(cell: Cell, first: u8, count: u8) -> usize
+    ensures { λ r. ⌜ r ≡ min (2 * (first + count)) (cell .blocks + 6) - max (2 * first) (cell .blocks - 6) ⌝ }
 {
-    let n = blocks as usize;
+    let n = cell.blocks as usize;
     let start = 2 * (first as usize) + 6;
     let low = larger(start, n);
     let high = smaller(start + 2 * (count as usize), n + 12);
@@ -82,12 +83,12 @@ fn centre_halves(blocks: u8, first: u8, count: u8) -> usize
 }
 
 // A user's half blocks: all of its blocks', or those outside the centre.
-fn half_blocks(blocks: u8, first: u8, count: u8, outside: bool) -> usize
-    ensures { λ r. ⌜ r ≡ halves blocks first count outside ⌝ }
+fn half_blocks(cell: Cell, first: u8, count: u8, outside: bool) -> usize
+    ensures { λ r. ⌜ r ≡ halves cell first count outside ⌝ }
 {
     let all = 2 * (count as usize);
     if outside {
-        return all - centre_halves(blocks, first, count);
+        return all - centre_halves(cell, first, count);
     }
     all
 }
@@ -100,16 +101,14 @@ fn row_count(cell: Cell, frame: Frame, first: u8, count: u8, s: usize) -> usize
     if s < (frame.cfi as usize) {
         return 0;
     }
-    let length = slot_length(cell.prefix);
-    let each = half_places(length, cell.ports, layout::in_slot(length, s));
-    each * half_blocks(cell.blocks, first, count, taken(length, frame.subframe, s))
+    half_places(cell, s) * half_blocks(cell, first, count, taken(cell, frame, s))
 }
 
 // A user's G: one turn for each symbol, constant work in each.
 pub fn user_count(cell: Cell, frame: Frame, first: u8, count: u8) -> usize
     ensures { λ r. ⌜ r ≡ userElements cell frame first count ⌝ }
 {
-    let symbols = 2 * slot_length(cell.prefix);
+    let symbols = 2 * slot_length(cell);
     let mut n: usize = 0;
     let mut s: usize = 0;
     while s < symbols {
@@ -206,7 +205,7 @@ fn held_count(cell: Cell, frame: Frame) -> usize
 pub fn places(cell: Cell) -> usize
     ensures { λ r. ⌜ r ≡ carriers cell * symbols cell ⌝ }
 {
-    12 * (cell.blocks as usize) * (2 * slot_length(cell.prefix))
+    12 * (cell.blocks as usize) * (2 * slot_length(cell))
 }
 
 // The counts of the nine kinds, in the order of gridcount's lines; idle's is what the others leave. The caller has the plan from the

@@ -19,13 +19,14 @@ use Rattle.plan.specs.declared.Checked.the-variants.{Plan as accepted}
 use Rattle.plan.proofs.Counts.{blocks-least}
 use Rattle.plan.proofs.Listed.{every-at}
 use Rattle.plan.proofs.Valid.{valid}
-use Rattle.layout.specs.Rules.{slotOf, middle, pbchArea as areaTest}
-use Rattle.layout.specs.Owners.{slotOfCell, symbols, carriers, controlSymbols, blocksHave, userHas, owns}
+use Rattle.layout.specs.Rules.{slotLength, slotOf, middle, inPbchArea as areaTest}
+use Rattle.layout.specs.Owners.{symbols, carriers, controlSymbols, blocksHave, userHas, owns}
 use Rattle.layout.specs.declared.Owner.the-variants.{Pbch, User as UserOf}
+use Rattle.layout.proofs.Pilot.{slot-length}
 use Rattle.places.specs.Places.{symbolAt, carrierAt, placesOf, ownsAt, orderOf, indexBy, indexOf}
 use Rattle.places.specs.Halves.{openPlace, openOfFour, inPbch, taken, openTo}
-use Rattle.places.proofs.Counts.{cnt-same}
-use Rattle.places.proofs.Numbers.{slot-length, symbol-inside}
+use Rattle.base.proofs.Counts.{cnt-same}
+use Rattle.places.proofs.Numbers.{symbol-inside}
 use Rattle.places.proofs.Halves.{pbch-half, user-places}
 use Rattle.grid.specs.Writing.{Room}
 use Rattle.data.specs.Areas.{areaHas, areaAt, areaIndex, pbchArea, userArea, AreaIn}
@@ -60,7 +61,7 @@ user-blocks (u ∷ us) (suc i) n k h d = user-blocks us i n k (omega arith) d
 
 module _ (w : List ℕ) (p : Plan) (ok : checkOf w ≡ accepted p) where
   abbrev L : ℕ
-  L = slotOfCell (p .cell)
+  L = slotLength (p .cell)
 
   abbrev N : ℕ
   N = p .cell .blocks
@@ -97,7 +98,7 @@ module _ (w : List ℕ) (p : Plan) (ok : checkOf w ≡ accepted p) where
     user-at s k in-s =
         rw (lt-ltb s (symbols (p .cell)) in-s)
         (regrouped (leb (controlSymbols (p .cell) (p .frame)) s) (leb (6 * (2 * u .first)) k) (ltb k (6 * (2 * (u .first + u .count)))) (openPlace (p .cell) s (k % 6)) (not (taken (p .cell) (p .frame) s (k / 6)))
-        ∙ ap (λ (t : Bool). (t && leb (controlSymbols (p .cell) (p .frame)) s && not (taken (p .cell) (p .frame) s (k / 6))) && openPlace (p .cell) s (k % 6)) (ap₂ _&&_ low high ∙ sym (user-blocks (usersOf w p) i (slotOf (slotOfCell (p .cell)) s) (6 * (k / 6)) in-i d))
+        ∙ ap (λ (t : Bool). (t && leb (controlSymbols (p .cell) (p .frame)) s && not (taken (p .cell) (p .frame) s (k / 6))) && openPlace (p .cell) s (k % 6)) (ap₂ _&&_ low high ∙ sym (user-blocks (usersOf w p) i (slotOf (p .cell) s) (6 * (k / 6)) in-i d))
         ∙ sym (user-places w p ok i s (k / 6) (k % 6) (omega arith))
         ∙ ap (owns w p (UserOf i) s) (split k))
       where
@@ -139,7 +140,7 @@ module _ (w : List ℕ) (p : Plan) (ok : checkOf w ≡ accepted p) where
         record {
           cell = valid w p ok .cell;
           frame = valid w p ok .frame;
-          rows = omega (arith, slot-length (p .cell .prefix));
+          rows = omega (arith, slot-length (p .cell));
           halves = omega (arith, wide);
           order = order;
           level = level;

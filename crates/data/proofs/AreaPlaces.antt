@@ -8,7 +8,8 @@ use native.Mathlib.Omega.{arith}
 use lib.Dec.{leb, ltb}
 use borrow.Author.Tests.{le-leb, lt-leb, lt-ltb, le-ltb, leb-true}
 use Rattle.base.proofs.Tests.{by-test, clash}
-use Rattle.layout.specs.Owners.{slotOfCell, carriers}
+use Rattle.layout.specs.Owners.{carriers}
+use Rattle.layout.specs.Rules.{slotLength}
 use Rattle.places.specs.Places.{symbolAt, carrierAt}
 use Rattle.places.specs.Halves.{without, taken}
 use Rattle.places.proofs.Numbers.{place-symbol, place-carrier, place-both, carrier-inside}
@@ -24,7 +25,7 @@ leb-same a b c d f g =
 
 -- the r-th subcarrier of half block b of symbol s, if the area has any of these
 abbrev pub openIn : Area → ℕ → ℕ → Bool
-openIn a s r = without (slotOfCell (a .cell)) (a .cell .identity) (a .signals) s r
+openIn a s r = without (a .cell) (a .signals) s r
 
 abbrev pub leftOut : Area → ℕ → ℕ → Bool
 leftOut a s b = a .leaves && taken (a .cell) (a .frame) s b

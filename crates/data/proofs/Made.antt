@@ -5,11 +5,12 @@ use mathlib.Core.Bool.{true, false}
 use Rattle.plan.specs.declared.Cell.{Cell}
 use Rattle.plan.specs.declared.Frame.{Frame}
 use Rattle.plan.specs.declared.User.{User}
-use Rattle.layout.specs.Owners.{slotOfCell, controlSymbols}
+use Rattle.layout.specs.Owners.{controlSymbols}
+use Rattle.layout.specs.Rules.{slotLength}
 use Rattle.data.specs.declared.Area.{Area}
 use Rattle.data.specs.Areas.{pbchArea, userArea}
 
-module _ (c : Cell) (f : Frame) (slot : ℕ) (is-slot : slot ≡ slotOfCell c) where
+module _ (c : Cell) (f : Frame) (slot : ℕ) (is-slot : slot ≡ slotLength c) where
   pub pbch-made :
       (n : ℕ) → n ≡ c .blocks
       → _≡_ {A = Area} (record { cell = c; frame = f; first = slot; last = slot + 4; from = n - 6; to = n + 6; signals = 4; leaves = false }) (pbchArea c f)

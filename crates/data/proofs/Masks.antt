@@ -8,14 +8,11 @@ use native.Mathlib.Nat.{div-le-self}
 use native.Mathlib.Omega.{arith}
 use lib.Dec.{leb, ltb, eqb, eqb→eq, T}
 use borrow.Author.Tests.{le-leb, lt-leb, lt-ltb, le-ltb, eq-eqb, ne-eqb, leb-true}
-use Rattle.base.proofs.Tests.{by-test}
 use Rattle.base.proofs.Computed.{allBelow, below-at}
 use Rattle.plan.specs.declared.Cell.{Cell}
 use Rattle.plan.specs.declared.Frame.{Frame}
 use Rattle.base.specs.Choice.{one}
-use Rattle.layout.specs.Rules.{slotOf, inSlot, shift, marked, middle, pbchArea}
-use Rattle.layout.specs.Owners.{slotOfCell}
-use Rattle.layout.specs.Chain.{syncArea}
+use Rattle.layout.specs.Rules.{inSyncArea, slotLength, slotOf, inSlot, crsShift, marked, middle, inPbchArea}
 use Rattle.counts.specs.Users.{taken as takenRow}
 use Rattle.places.specs.Halves.{taken}
 use Rattle.places.proofs.Halves.{first-at, last-at, none-at, not-second}
@@ -53,43 +50,49 @@ but-bits v h a b r l =
     (eqb→eq _ _ (below-at (λ (r : ℕ). eqb (one (bitOf (63 - cond a (32 / 2 ^ (5 - v)) 0 - cond b (32 / 2 ^ (5 - (v + 3) % 6)) 0) r)) (one (butTest v a b r))) 6 (below-at (Right a b) 6 (right a b) v h) r l))
 
 -- ---- a row's mask
-module _ (L C P s : ℕ) (long : 6 ≤ L) where
+module _ (c : Cell) (P s : ℕ) where
   abbrev l : ℕ
-  l = inSlot L s
+  l = inSlot c s
 
-  pub mask-first : l ≡ 0 → Masks L C P s (maskBut (C % 6) (ltb 0 P) (ltb 1 P))
-  unfolding shift
+  abbrev L : ℕ
+  L = slotLength c
+
+  abbrev C : ℕ
+  C = c .identity
+
+  pub mask-first : l ≡ 0 → Masks c P s (maskBut (C % 6) (ltb 0 P) (ltb 1 P))
+  unfolding crsShift
   mask-first e =
       let t = eq-eqb l 0 e in
       let k : (0 + C) % 6 ≡ C % 6 = omega arith in
-      record { bits = λ r h. but-bits (C % 6) (omega arith) (ltb 0 P) (ltb 1 P) r h ∙ sym (first-at L C P s long (rw t refl) (not-second L C P s long (inl t)) r ∙ (rw (t, k) refl)) }
+      record { bits = λ r h. but-bits (C % 6) (omega arith) (ltb 0 P) (ltb 1 P) r h ∙ sym (first-at c P s (rw t refl) (not-second c P s (inl t)) r ∙ (rw (t, k) refl)) }
 
-  pub mask-third : (l ≡ 0 → ⊥) → l + 3 ≡ L → Masks L C P s (maskBut ((C + 3) % 6) (ltb 0 P) (ltb 1 P))
-  unfolding shift
+  pub mask-third : (l ≡ 0 → ⊥) → l + 3 ≡ L → Masks c P s (maskBut ((C + 3) % 6) (ltb 0 P) (ltb 1 P))
+  unfolding crsShift
   mask-third n e =
       let t = eq-eqb (l + 3) L e in
       let f = ne-eqb l 0 n in
       let k : (3 + C) % 6 ≡ (C + 3) % 6 = omega arith in
-      record { bits = λ r h. but-bits ((C + 3) % 6) (omega arith) (ltb 0 P) (ltb 1 P) r h ∙ sym (first-at L C P s long (rw (f, t) refl) (not-second L C P s long (inr t)) r ∙ (rw (f, k) refl)) }
+      record { bits = λ r h. but-bits ((C + 3) % 6) (omega arith) (ltb 0 P) (ltb 1 P) r h ∙ sym (first-at c P s (rw (f, t) refl) (not-second c P s (inr t)) r ∙ (rw (f, k) refl)) }
 
   module _ (n : l ≡ 0 → ⊥) (m : l + 3 ≡ L → ⊥) where
     neither : eqb l 0 || eqb (l + 3) L ≡ false
     neither = rw (ne-eqb l 0 n, ne-eqb (l + 3) L m) refl
 
-    pub mask-second : l ≡ 1 → s < L → Masks L C P s (maskBut (C % 6) (ltb 2 P) (ltb 3 P))
-    unfolding shift slotOf
+    pub mask-second : l ≡ 1 → s < L → Masks c P s (maskBut (C % 6) (ltb 2 P) (ltb 3 P))
+    unfolding crsShift slotOf
     mask-second e f =
         let k : (0 + C) % 6 ≡ C % 6 = omega arith in
-        record { bits = λ r h. but-bits (C % 6) (omega arith) (ltb 2 P) (ltb 3 P) r h ∙ sym (last-at L C P s long neither (eq-eqb l 1 e) r ∙ (rw (lt-ltb s L f, k) refl)) }
+        record { bits = λ r h. but-bits (C % 6) (omega arith) (ltb 2 P) (ltb 3 P) r h ∙ sym (last-at c P s neither (eq-eqb l 1 e) r ∙ (rw (lt-ltb s L f, k) refl)) }
 
-    pub mask-other : l ≡ 1 → L ≤ s → Masks L C P s (maskBut ((C + 3) % 6) (ltb 2 P) (ltb 3 P))
-    unfolding shift slotOf
+    pub mask-other : l ≡ 1 → L ≤ s → Masks c P s (maskBut ((C + 3) % 6) (ltb 2 P) (ltb 3 P))
+    unfolding crsShift slotOf
     mask-other e f =
         let k : (3 + C) % 6 ≡ (C + 3) % 6 = omega arith in
-        record { bits = λ r h. but-bits ((C + 3) % 6) (omega arith) (ltb 2 P) (ltb 3 P) r h ∙ sym (last-at L C P s long neither (eq-eqb l 1 e) r ∙ (rw (le-ltb s L f, k) refl)) }
+        record { bits = λ r h. but-bits ((C + 3) % 6) (omega arith) (ltb 2 P) (ltb 3 P) r h ∙ sym (last-at c P s neither (eq-eqb l 1 e) r ∙ (rw (le-ltb s L f, k) refl)) }
 
-    pub mask-none : (l ≡ 1 → ⊥) → Masks L C P s 63
-    mask-none e = record { bits = λ r h. full r h ∙ sym (none-at L C P s long neither (ne-eqb l 1 e) r) }
+    pub mask-none : (l ≡ 1 → ⊥) → Masks c P s 63
+    mask-none e = record { bits = λ r h. full r h ∙ sym (none-at c P s neither (ne-eqb l 1 e) r) }
       where
         full : (r : ℕ) → r < 6 → bitOf 63 r ≡ true
         full r h = one-same (bitOf 63 r) true (eqb→eq _ _ (below-at (λ (r : ℕ). eqb (one (bitOf 63 r)) 1) 6 tt r h))
@@ -99,12 +102,12 @@ joined : (m x z p q c : Bool) → m && x && c || z && p && q && c ≡ (m && x ||
 joined m x z p q true = ap₂ _||_ (and-true (m && x)) (and-true (z && p && q)) ∙ sym (and-true (m && x || z && p && q))
 joined m x z p q false = ap₂ _||_ (and-false (m && x)) (and-false (z && p && q)) ∙ sym (and-false (m && x || z && p && q))
 
-pub taken-centre : (c : Cell) (f : Frame) (s b : ℕ) → taken c f s b ≡ centreOut (c .blocks) (takenRow (slotOfCell c) (f .subframe) s) b
-unfolding taken syncArea pbchArea middle takenRow centreOut
+pub taken-centre : (c : Cell) (f : Frame) (s b : ℕ) → taken c f s b ≡ centreOut (c .blocks) (takenRow c f s) b
+unfolding taken inSyncArea inPbchArea middle takenRow centreOut
 taken-centre c f s b =
-    joined (marked (f .subframe)) (eqb (s + 1) (slotOfCell c) || eqb (s + 2) (slotOfCell c)) (eqb (f .subframe) 0) (leb (slotOfCell c) s) (ltb s (slotOfCell c + 4))
+    joined (marked f) (eqb (s + 1) (slotLength c) || eqb (s + 2) (slotLength c)) (eqb (f .subframe) 0) (leb (slotLength c) s) (ltb s (slotLength c + 4))
     (leb (6 * c .blocks) (6 * b + 36) && ltb (6 * b) (6 * c .blocks + 36))
-    ∙ ap (λ (x : Bool). takenRow (slotOfCell c) (f .subframe) s && x)
+    ∙ ap (λ (x : Bool). takenRow c f s && x)
     (ap₂ _&&_
     (leb-same (6 * c .blocks) (6 * b + 36) (c .blocks) (b + 6) (λ h. omega arith) (λ h. omega arith))
     (leb-same (suc (6 * b)) (6 * c .blocks + 36) (suc b) (c .blocks + 6) (λ h. omega arith) (λ h. omega arith)))
@@ -149,7 +152,3 @@ module _ (N b : ℕ) (out : Bool) where
   pub centre-in : out ≡ false → false ≡ centreOut N out b
   unfolding centreOut
   centre-in e = rw e refl
-
-pub slot-in : (L s : ℕ) → inSlot L s ≤ s
-unfolding inSlot
-slot-in L s = by-test (ltb s L) (λ e. rw e (omega arith)) (λ e. rw e (omega arith))

@@ -15,11 +15,13 @@ use Rattle.gold.specs.declared.Registers.{Registers}
 use Rattle.gold.specs.Steps.{after}
 use Rattle.plan.specs.Valid.{CellIn}
 use Rattle.plan.proofs.Counts.{blocks-least, blocks-most}
+use Rattle.plan.specs.declared.Cell.{Cell}
 use Rattle.layout.specs.Rules.{slotLength}
-use Rattle.layout.specs.Owners.{slotOfCell, symbols, carriers}
+use Rattle.layout.specs.Owners.{symbols, carriers}
+use Rattle.layout.proofs.Pilot.{slot-length}
 use Rattle.counts.specs.Users.{taken as takenRow}
 use Rattle.places.specs.Places.{placesOf}
-use Rattle.places.proofs.Numbers.{symbols-most, slot-length}
+use Rattle.places.proofs.Numbers.{symbols-most}
 use Rattle.codeword.specs.declared.Stream.{Stream}
 use Rattle.codeword.specs.Streams.{Stands}
 use Rattle.codeword.proofs.Laws.{begins}
@@ -39,7 +41,7 @@ pub left-out : (a : Area) (s b : ℕ) (out : Bool) → out ≡ leavesRow a s →
 unfolding centreOut
 left-out a s b out e =
     ap (λ (x : Bool). a .leaves && x) (taken-centre (a .cell) (a .frame) s b)
-    ∙ sym (and-assoc (a .leaves) (takenRow (slotOfCell (a .cell)) (a .frame .subframe) s) (leb (a .cell .blocks) (b + 6) && ltb b (a .cell .blocks + 6)))
+    ∙ sym (and-assoc (a .leaves) (takenRow (a .cell) (a .frame) s) (leb (a .cell .blocks) (b + 6) && ltb b (a .cell .blocks + 6)))
     ∙ ap (λ (x : Bool). x && (leb (a .cell .blocks) (b + 6) && ltb b (a .cell .blocks + 6))) (sym e)
 
 module _ {a : Area} {row : Row} {b q unit : ℕ} {bits : List ℕ} {w : Walk} {g : List ℕ} (i : HalfIn a row b q unit bits w g) where
@@ -202,15 +204,15 @@ module _ (a : Area) (s : ℕ) (rows : s < a .last) (inside : a .last ≤ symbols
   pub row-base : (n : ℕ) → n < 256 → s * (12 * n) ≤ 42840
   row-base n h = omega (arith, row-inside s 14 (12 * n) 0 row-number (omega arith))
 
-pub slot-fits : (slot prefix : ℕ) → slot ≡ slotLength prefix → (6 ≤ slot) × (slot ≤ 7)
-slot-fits slot prefix e = (omega (arith, slot-length prefix), omega (arith, slot-length prefix))
+pub slot-fits : (slot : ℕ) (c : Cell) → slot ≡ slotLength c → slot ≤ 7
+slot-fits slot c e = omega (arith, slot-length c)
 
-pub grid-size : (slot prefix n : ℕ) → slot ≡ slotLength prefix → n < 256 → 2 * slot * (12 * n) ≤ 45900
-grid-size slot prefix n e h = omega (arith, row-inside (2 * slot) 15 (12 * n) 0 (omega (arith, slot-fits slot prefix e)) (omega arith))
+pub grid-size : (slot : ℕ) (c : Cell) (n : ℕ) → slot ≡ slotLength c → n < 256 → 2 * slot * (12 * n) ≤ 45900
+grid-size slot c n e h = omega (arith, row-inside (2 * slot) 15 (12 * n) 0 (omega (arith, slot-fits slot c e)) (omega arith))
 
 pub row-made :
-    (a : Area) (s slot n mask : ℕ) (out : Bool) → a .first ≤ s → s < a .last → slot ≡ slotOfCell (a .cell) → n ≡ a .cell .blocks
-    → Masks slot (a .cell .identity) (a .signals) s mask → out ≡ leavesRow a s
+    (a : Area) (s slot n mask : ℕ) (out : Bool) → a .first ≤ s → s < a .last → slot ≡ slotLength (a .cell) → n ≡ a .cell .blocks
+    → Masks (a .cell) (a .signals) s mask → out ≡ leavesRow a s
     → RowIn a s (record { base = s * (12 * n); places = 2 * slot * (12 * n); mask = mask; out = out })
 row-made a s slot n mask out f l e d m o =
     record {
@@ -218,14 +220,13 @@ row-made a s slot n mask out f l e d m o =
       last = l;
       base = ap (λ (x : ℕ). s * (12 * x)) d;
       places = ap₂ (λ (x y : ℕ). 2 * x * (12 * y)) e d;
-      mask = subst (λ (x : ℕ). Masks x (a .cell .identity) (a .signals) s mask) e m;
+      mask = m;
       out = o;
     }
 
 pub leaves-taken :
-    (a : Area) (s slot : ℕ) (t : Bool) → a .leaves ≡ true → slot ≡ slotOfCell (a .cell) → t ≡ takenRow slot (a .frame .subframe) s
-    → t ≡ leavesRow a s
-leaves-taken a s slot t l e d = d ∙ (rw (e, l) refl)
+    (a : Area) (s : ℕ) (t : Bool) → a .leaves ≡ true → t ≡ takenRow (a .cell) (a .frame) s → t ≡ leavesRow a s
+leaves-taken a s t l d = d ∙ rw l refl
 
 -- ---- the loops' ends
 pub six-start : {a : Area} {q unit : ℕ} {bits : List ℕ} {w : Walk} {g : List ℕ} (t : ℕ) → Goes a q unit bits t (t + 0) w g w g

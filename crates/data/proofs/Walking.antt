@@ -12,9 +12,9 @@ use Rattle.base.proofs.Tests.{by-test, clash}
 use Rattle.base.specs.declared.Element.{Element}
 use Rattle.gold.specs.declared.Registers.{Registers}
 use Rattle.precoding.specs.Places.{placed}
-use Rattle.places.specs.Counts.{cnt}
+use Rattle.base.specs.Counts.{cnt}
 use Rattle.places.specs.Places.{placesOf}
-use Rattle.places.proofs.Counts.{cnt-none, cnt-own, cnt-skip, cnt-most}
+use Rattle.base.proofs.Counts.{cnt-none, cnt-own, cnt-skip, cnt-most}
 use Rattle.codeword.specs.Streams.{Stands, symbolsOf}
 use Rattle.grid.specs.Writing.{Written, sends, sentAt}
 use Rattle.grid.proofs.Writing.{none, same, over, room-kept}

@@ -13,8 +13,9 @@ use Rattle.plan.specs.Valid.{CellIn, FrameIn}
 use Rattle.plan.specs.declared.Cell.{Cell}
 use Rattle.plan.specs.declared.Frame.{Frame}
 use Rattle.plan.specs.declared.User.{User}
-use Rattle.layout.specs.Owners.{slotOfCell, symbols, controlSymbols}
-use Rattle.places.specs.Counts.{cnt}
+use Rattle.layout.specs.Owners.{symbols, controlSymbols}
+use Rattle.layout.specs.Rules.{slotLength}
+use Rattle.base.specs.Counts.{cnt}
 use Rattle.places.specs.Places.{symbolAt, carrierAt, placesOf}
 use Rattle.places.specs.Halves.{without, taken}
 use Rattle.codeword.specs.Streams.{symbolsOf}
@@ -26,7 +27,7 @@ use Rattle.data.specs.declared.Area.{Area}
 unfoldable pub areaHas : Area → ℕ → ℕ → Bool
 areaHas a s k =
     leb (a .first) s && ltb s (a .last) && leb (6 * a .from) k && ltb k (6 * a .to)
-    && without (slotOfCell (a .cell)) (a .cell .identity) (a .signals) s (k % 6)
+    && without (a .cell) (a .signals) s (k % 6)
     && not (a .leaves && taken (a .cell) (a .frame) s (k / 6))
 
 unfoldable pub areaAt : Area → ℕ → Bool
@@ -53,8 +54,8 @@ pbchArea c f =
     record {
       cell = c;
       frame = f;
-      first = slotOfCell c;
-      last = slotOfCell c + 4;
+      first = slotLength c;
+      last = slotLength c + 4;
       from = c .blocks - 6;
       to = c .blocks + 6;
       signals = 4;

@@ -4,7 +4,8 @@ use mathlib.Core.Path.{_≡_}
 use mathlib.Core.Bool.{Bool, true, false, cond, _&&_}
 use mathlib.Core.List.{List}
 use lib.Dec.{leb, ltb, eqb}
-use Rattle.layout.specs.Owners.{slotOfCell, carriers}
+use Rattle.layout.specs.Owners.{carriers}
+use Rattle.plan.specs.declared.Cell.{Cell}
 use Rattle.counts.specs.Users.{taken as takenRow}
 use Rattle.places.specs.Places.{placesOf}
 use Rattle.places.specs.Halves.{without}
@@ -25,8 +26,8 @@ abbrev pub bitOf : ℕ → ℕ → Bool
 bitOf mask r = eqb (mask / 2 ^ r % 2) 1
 
 -- bit r of the mask says whether the r-th of six subcarriers of symbol s has no reference signal
-pub record Masks (L C P s mask : ℕ) : Type 0 where
-  pub bits : (r : ℕ) → r < 6 → bitOf mask r ≡ without L C P s r
+pub record Masks (c : Cell) (P s mask : ℕ) : Type 0 where
+  pub bits : (r : ℕ) → r < 6 → bitOf mask r ≡ without c P s r
 
 -- half block b is one of the centre's twelve, and those are left out
 unfoldable pub centreOut : ℕ → Bool → ℕ → Bool
@@ -34,7 +35,7 @@ centreOut N out b = out && (leb N (b + 6) && ltb b (N + 6))
 
 -- symbol s has synchronisation marks or PBCH in its centre, and the area leaves them out
 abbrev pub leavesRow : Area → ℕ → Bool
-leavesRow a s = a .leaves && takenRow (slotOfCell (a .cell)) (a .frame .subframe) s
+leavesRow a s = a .leaves && takenRow (a .cell) (a .frame) s
 
 -- what is computed once for a row
 pub record RowIn (a : Area) (s : ℕ) (row : Row) : Type 0 where
@@ -42,7 +43,7 @@ pub record RowIn (a : Area) (s : ℕ) (row : Row) : Type 0 where
   pub last : s < a .last
   pub base : row .base ≡ s * carriers (a .cell)
   pub places : row .places ≡ placesOf (a .cell)
-  pub mask : Masks (slotOfCell (a .cell)) (a .cell .identity) (a .signals) s (row .mask)
+  pub mask : Masks (a .cell) (a .signals) s (row .mask)
   pub out : row .out ≡ leavesRow a s
 
 -- what filling half block b of a row needs

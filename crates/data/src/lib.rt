@@ -51,7 +51,7 @@ pub fn pbch_area(cell: Cell, frame: Frame) -> Area
     requires { ⌜ 6 ≤ cell .blocks ⌝ }
     ensures { λ r. ⌜ r ≡ pbchArea cell frame ⌝ }
 {
-    let slot = layout::slot_length(cell.prefix);
+    let slot = layout::slot_length(cell);
     let blocks = base::wide(cell.blocks);
     Area {
         cell: cell,
@@ -75,7 +75,7 @@ pub fn user_area(cell: Cell, frame: Frame, u: User) -> Area
         cell: cell,
         frame: frame,
         first: layout::control_symbols(cell, frame),
-        last: 2 * layout::slot_length(cell.prefix),
+        last: 2 * layout::slot_length(cell),
         from: 2 * first,
         to: 2 * (first + count),
         signals: cell.ports,
@@ -101,11 +101,13 @@ fn mask_but(v: usize, a: bool, b: bool) -> u8
 
 // The subcarriers of six in symbol s that have no reference signal of the ports below `signals`: ports 0 and 1 use l = 0 and the
 // third symbol from the slot's end, ports 2 and 3 use l = 1.
-fn row_mask(slot: usize, identity: usize, signals: u8, s: usize) -> u8
-    requires { ⌜ (6 ≤ slot) × (slot ≤ 7) × (identity < 65536) × (s < 14) ⌝ }
-    ensures { λ r. ⌜ Masks slot identity signals s r ⌝ }
+fn row_mask(cell: Cell, signals: u8, s: usize) -> u8
+    requires { ⌜ s < 14 ⌝ }
+    ensures { λ r. ⌜ Masks cell signals s r ⌝ }
 {
-    let l = layout::in_slot(slot, s);
+    let slot = layout::slot_length(cell);
+    let identity = cell.identity as usize;
+    let l = layout::in_slot(cell, s);
     if l == 0 {
         return mask_but(identity % 6, 0 < signals, 1 < signals);
     }
@@ -248,7 +250,7 @@ fn leaves_row(a: Area, s: usize) -> bool
     ensures { λ r. ⌜ r ≡ leavesRow a s ⌝ }
 {
     if a.leaves {
-        return counts::taken(layout::slot_length(a.cell.prefix), a.frame.subframe, s);
+        return counts::taken(a.cell, a.frame, s);
     }
     false
 }
@@ -258,13 +260,12 @@ pub fn row_of(a: Area, s: usize) -> Row
     requires { ⌜ (a .first ≤ s) × (s < a .last) × (a .last ≤ symbols (a .cell)) ⌝ }
     ensures { λ r. ⌜ RowIn a s r ⌝ }
 {
-    let slot = layout::slot_length(a.cell.prefix);
+    let slot = layout::slot_length(a.cell);
     let carriers = 12 * base::wide(a.cell.blocks);
-    let identity = a.cell.identity as usize;
     Row {
         base: s * carriers,
         places: 2 * slot * carriers,
-        mask: row_mask(slot, identity, a.signals, s),
+        mask: row_mask(a.cell, a.signals, s),
         out: leaves_row(a, s),
     }
 }

@@ -4,7 +4,7 @@ use Prim.Native.Nat.{ℕ, _<_, _≤_}
 use mathlib.Core.Path.{_≡_}
 use mathlib.Core.Bool.{true}
 use Rattle.places.specs.Places.{placesOf}
-use Rattle.places.proofs.Counts.{cnt-lt, cnt-most, nth-of, nth-is}
+use Rattle.base.proofs.Counts.{cnt-lt, cnt-most, nth-of, nth-is}
 use Rattle.data.specs.declared.Area.{Area}
 use Rattle.data.specs.Areas.{areaAt, areaIndex}
 use Rattle.data_compare.specs.Symbols.{areaPlace, areaCount}

@@ -23,7 +23,7 @@ use Rattle.precoding.specs.Matrices.{unitOn}
 use Rattle.precoding.specs.Places.{ownPort, otherPort, partnerOf, beside, placed}
 use Rattle.precoding.proofs.Ports.{on-own, on-other}
 use Rattle.plan.proofs.Listed.{and-left, and-right}
-use Rattle.places.specs.Counts.{cnt}
+use Rattle.base.specs.Counts.{cnt}
 use Rattle.places.specs.Places.{placesOf}
 use Rattle.places.proofs.Numbers.{first-row}
 use Rattle.grid.specs.Elements.{elementIn}

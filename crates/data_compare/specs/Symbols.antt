@@ -10,7 +10,7 @@ use Rattle.base.specs.declared.Element.{Element}
 use Rattle.base.specs.Bytes.{pairOf}
 use Rattle.modulation.specs.Marks.{isSymbol}
 use Rattle.precoding.specs.Places.{ownPort, placed}
-use Rattle.places.specs.Counts.{cnt, nth}
+use Rattle.base.specs.Counts.{cnt, nth}
 use Rattle.places.specs.Places.{placesOf}
 use Rattle.grid.specs.Elements.{elementIn}
 use Rattle.compare.specs.declared.Seen.{Seen}

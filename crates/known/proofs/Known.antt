@@ -2,9 +2,8 @@
 use mathlib.Core.Path.{_≡_, refl}
 use Rattle.base.specs.Digits.{dig}
 use Rattle.base.specs.Tables.{table}
-use Rattle.layout.specs.Rules.{formatGroup, isFormat, unitNumber}
-use Rattle.places.specs.Counts.{cnt, nth}
-use Rattle.places.specs.Quads.{isLeft, unitGroup}
+use Rattle.layout.specs.Rules.{formatGroup, isFormat, isLeft, unitNumber, unitGroup}
+use Rattle.base.specs.Counts.{cnt, nth}
 use Rattle.modulation.specs.Symbols.{bitsOf, evens, odds, level, symbolOf}
 use Rattle.sync.specs.Pss.{pssRoot, pssT, pssPhase}
 use Rattle.sync.specs.Sss.{qPrime, qOf, eOf, m0Of, m1Of}

@@ -6,8 +6,8 @@ use mathlib.Core.List.{List, [], _∷_, map}
 use lib.IntN.{ℤ, pos, negsuc}
 use Rattle.base.specs.declared.Pair.{Pair}
 use Rattle.base.specs.Tables.{table}
-use Rattle.layout.specs.Rules.{formatGroup}
-use Rattle.places.specs.Quads.{unitGroup}
+use Rattle.plan.specs.declared.Cell.{Cell}
+use Rattle.layout.specs.Rules.{formatGroup, unitGroup}
 use Rattle.modulation.specs.Symbols.{symbolOf}
 use Rattle.sync.specs.Pss.{pssRoot, pssPhase}
 use Rattle.sync.specs.Sss.{m0Of, m1Of}
@@ -22,6 +22,10 @@ Agree (row a b ∷ rows) = (a ≡ b) × Agree rows
 abbrev pub pair : ℤ → ℤ → Pair
 pair i j = record { re = i; im = j }
 
+-- a cell of 15 blocks; of its other fields the groups ask only the identity
+abbrev pub cell15 : ℕ → Cell
+cell15 C = record { identity = C; blocks = 15; prefix = 0; ports = 1; sixths = 1 }
+
 abbrev pub rows : List Row
 rows =
     -- "D = 0, 29, 30, 167 give (m0, m1) = (0,1), (29,30), (0,2), (2,9)"
@@ -33,8 +37,8 @@ rows =
     -- "101111 gives (−7, 7)"
     ∷ row (symbolOf 6 0b101111) (pair (negsuc 6) (pos 7))
     -- "N = 15, C = 0: PCFICH groups 0, 7, 15, 22; PHICH unit 0 groups 1, 10, 20"
-    ∷ row (table 4 (formatGroup 0 15)) (0 ∷ 7 ∷ 15 ∷ 22 ∷ [])
-    ∷ row (table 3 (unitGroup 0 15 0)) (1 ∷ 10 ∷ 20 ∷ [])
+    ∷ row (table 4 (formatGroup (cell15 0))) (0 ∷ 7 ∷ 15 ∷ 22 ∷ [])
+    ∷ row (table 3 (unitGroup (cell15 0) 0)) (1 ∷ 10 ∷ 20 ∷ [])
     -- "N = 15, C = 503: PCFICH groups 23, 0, 8, 15"
-    ∷ row (table 4 (formatGroup 503 15)) (23 ∷ 0 ∷ 8 ∷ 15 ∷ [])
+    ∷ row (table 4 (formatGroup (cell15 503))) (23 ∷ 0 ∷ 8 ∷ 15 ∷ [])
     ∷ []

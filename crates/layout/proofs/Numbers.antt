@@ -17,7 +17,7 @@ use Rattle.plan.proofs.Listed.{and-left}
 use Rattle.plan.proofs.Valid.{valid}
 use Rattle.plan.proofs.Counts.{units-most, users-most}
 use Rattle.layout.specs.Rules.{crs, crsOf, phich}
-use Rattle.layout.specs.Owners.{ownerNumber, slotOfCell, userRule, owns}
+use Rattle.layout.specs.Owners.{ownerNumber, userRule, owns}
 use Rattle.layout.specs.declared.Mark.the-variants.{Primary, Secondary}
 use Rattle.layout.specs.declared.Owner.{Owner}
 use Rattle.layout.specs.declared.Owner.the-variants.{Crs, Sync, Pbch, Pcfich, Phich, User as UserOf, Held, Idle}
@@ -75,7 +75,7 @@ module _ (w : List ℕ) (p : Plan) (ok : checkOf w ≡ accepted p) where
   number-back : (o : Owner) (s k : ℕ) → owns w p o s k ≡ true → numbered (ownerNumber o) ≡ o
   unfolding owns crs phich userRule
   number-back (Crs q) s k e =
-      let l : q < p .cell .ports = ltb-true q (p .cell .ports) (and-left (ltb q (p .cell .ports)) (crsOf (slotOfCell (p .cell)) (p .cell .identity) q s k) e) in
+      let l : q < p .cell .ports = ltb-true q (p .cell .ports) (and-left (ltb q (p .cell .ports)) (crsOf (p .cell) q s k) e) in
       crs-back q (omega (arith, ports-most w p ok))
   number-back (Sync Primary) s k e = refl
   number-back (Sync Secondary) s k e = refl

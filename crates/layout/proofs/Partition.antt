@@ -21,7 +21,7 @@ use Rattle.plan.specs.declared.Plan.{Plan}
 use Rattle.plan.proofs.Listed.{and-left, and-right}
 use Rattle.base.specs.Choice.{if_then_else_}
 use Rattle.layout.specs.Rules.{slotOf, crs, crsOf, phich, inGroup, groupOf, unitHas}
-use Rattle.layout.specs.Owners.{slotOfCell, fixedRule, above, free, controlSymbols, blocksHave, userHas, userRule, rest, owns, owners, ownerOf}
+use Rattle.layout.specs.Owners.{fixedRule, above, free, controlSymbols, blocksHave, userHas, userRule, rest, owns, owners, ownerOf}
 use Rattle.layout.specs.Chain.{fixedAt, isIdle, userFrom, ownerAt}
 use Rattle.layout.specs.declared.Mark.the-variants.{Primary, Secondary}
 use Rattle.layout.specs.declared.Owner.{Owner}
@@ -33,14 +33,14 @@ use Rattle.layout.proofs.Fixed.{Fit, fixed-at, fixed-ok}
 module _ (c : Cell) (f : Frame) (s k : ℕ) (fit : Fit c k) where
   port-small : (q : ℕ) → fixedRule c f (Crs q) s k ≡ true → q < c .ports
   unfolding fixedRule crs
-  port-small q e = ltb-true _ _ (and-left (ltb q (c .ports)) (crsOf (slotOfCell c) (c .identity) q s k) e)
+  port-small q e = ltb-true _ _ (and-left (ltb q (c .ports)) (crsOf c q s k) e)
 
   unit-small : (m : ℕ) → fixedRule c f (Phich m) s k ≡ true → m < unitsOf c
   unfolding fixedRule phich
   unit-small m e =
       let a = ltb m (unitsOf c) in
-      let b = inGroup (c .identity) s k in
-      ltb-true _ _ (and-left a b (and-left (a && b) (unitHas (c .identity) (c .blocks) m s (groupOf s k)) e))
+      let b = inGroup c s k in
+      ltb-true _ _ (and-left a b (and-left (a && b) (unitHas c m s (groupOf c s k)) e))
 
   port-in : (q : ℕ) → q < 4 → In (Crs q) (above c)
   unfolding above
@@ -129,7 +129,7 @@ module _ (w : List ℕ) (p : Plan) (s k : ℕ) (fit : Fit (p .cell) k) (disjoint
   us = usersOf w p
 
   abbrev n : ℕ
-  n = slotOf (slotOfCell (p .cell)) s
+  n = slotOf (p .cell) s
 
   abbrev region : ℕ
   region = controlSymbols (p .cell) (p .frame)

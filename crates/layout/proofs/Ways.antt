@@ -1,7 +1,7 @@
 -- The code's ways to the owner of a place, by the tests that it makes in turn. Assumes nothing.
 use Prim.Native.Nat.{ℕ, zero, suc, _+_, _-_, _*_, _/_, _%_, _≤_, _<_}
 use mathlib.Core.Path.{_≡_, refl, sym, ap, _∙_}
-use mathlib.Core.Bool.{Bool, true, false, _&&_, _||_, or-true}
+use mathlib.Core.Bool.{Bool, true, false, _&&_, or-true}
 use mathlib.Core.List.{List, [], _∷_}
 use native.Mathlib.Omega.{arith}
 use native.Mathlib.Nat.{not-suc-le-zero}
@@ -11,7 +11,7 @@ use lib.ListN.{drop}
 use borrow.Author.Tests.{eq-eqb, ne-eqb, lt-ltb, le-ltb, le-leb, lt-leb, ltb-true, leb-true}
 use types.Run.{OneOf}
 use denote.Enum.Declared.{tagOf}
-use Rattle.base.proofs.Tests.{or-left, or-right}
+use Rattle.base.proofs.Some.{some-in}
 use Rattle.plan.specs.Lists.{oneOf}
 use Rattle.plan.specs.Commands.{userOf}
 use Rattle.plan.specs.Fields.{unitsOf}
@@ -24,140 +24,163 @@ use Rattle.plan.proofs.OneOf.{not-in}
 use Rattle.plan.proofs.Listed.{and-left, and-right}
 use Rattle.plan.proofs.RowLaws.{row-next}
 use Rattle.base.specs.Choice.{one}
-use Rattle.layout.specs.Rules.{slotLength, slotOf, centre, used, marked, pbchArea, formatGroup, isFormat, number}
-use Rattle.layout.specs.Owners.{slotOfCell, controlSymbols, blocksHave}
-use Rattle.layout.specs.Chain.{pilot, unitIn, groupAt, controlAt, syncArea, fixedAt, userFrom, isIdle, ownerAt}
+use Rattle.layout.specs.Rules.{slotLength, slotOf, inSlot, middle, centre, used, marked, inSyncArea, inPbchArea, formatGroup, isFormat}
+use Rattle.layout.specs.Owners.{controlSymbols, blocksHave}
+use Rattle.layout.specs.Chain.{pilot, number, unitIn, groupAt, controlAt, fixedAt, userFrom, isIdle, ownerAt}
 use Rattle.layout.specs.declared.Mark.the-variants.{Primary, Secondary}
 use Rattle.layout.specs.declared.Owner.{Owner}
 use Rattle.layout.specs.declared.Owner.the-variants.{Crs, Sync, Pbch, Pcfich, Phich, User as UserOf, Held, Idle}
 use Rattle.layout.proofs.Owner.{the-type}
 use Rattle.layout.proofs.Groups.{below, number-is}
 
-module _ (L N f s k : ℕ) (m : Bool) (em : m ≡ marked f) where
-  pub sync-last : m ≡ true → s + 1 ≡ L → (r : Bool) → r ≡ centre N k → r ≡ syncArea L N f s k
-  unfolding syncArea
-  sync-last t e r er = rw (← em, t, eq-eqb (s + 1) L e) er
+-- ---- a symbol in its slot of L symbols
+module _ (c : Cell) (s L : ℕ) (eL : L ≡ slotLength c) where
+  pub slot-first : s < L → s ≡ inSlot c s
+  unfolding inSlot
+  slot-first l = rw (← eL, lt-ltb s L l) refl
 
-  pub sync-earlier : m ≡ true → s + 2 ≡ L → (r : Bool) → r ≡ centre N k → r ≡ syncArea L N f s k
-  unfolding syncArea
-  sync-earlier t e r er = rw (← em, t, eq-eqb (s + 2) L e, or-true (eqb (s + 1) L)) er
+  pub slot-second : L ≤ s → s - L ≡ inSlot c s
+  unfolding inSlot
+  slot-second l = rw (← eL, le-ltb s L l) refl
 
-  pub sync-no : m ≡ true → ((s + 1 ≡ L) → ⊥) → ((s + 2 ≡ L) → ⊥) → false ≡ syncArea L N f s k
-  unfolding syncArea
-  sync-no t e d = rw (← em, t, ne-eqb (s + 1) L e, ne-eqb (s + 2) L d) refl
+-- ---- the centre, and the areas of the marks and of PBCH there
+module _ (c : Cell) (d k : ℕ) where
+  pub middle-high : 6 * c .blocks ≤ k + d → ltb k (6 * c .blocks + d) ≡ middle c d k
+  unfolding middle
+  middle-high l = rw (le-leb (6 * c .blocks) (k + d) l) refl
 
-  pub sync-unmarked : m ≡ false → false ≡ syncArea L N f s k
-  unfolding syncArea
-  sync-unmarked t = rw (← em, t) refl
+  pub middle-low : k + d < 6 * c .blocks → false ≡ middle c d k
+  unfolding middle
+  middle-low l = rw (lt-leb (6 * c .blocks) (k + d) l) refl
 
-module _ (L N f s k : ℕ) where
-  pub area-frame : ((f ≡ 0) → ⊥) → false ≡ pbchArea L N f s k
-  unfolding pbchArea
-  area-frame e = rw (ne-eqb f 0 e) refl
+module _ (c : Cell) (f : Frame) (s k L : ℕ) (eL : L ≡ slotLength c) where
+  module _ (m : Bool) (em : m ≡ marked f) where
+    pub sync-last : m ≡ true → s + 1 ≡ L → (r : Bool) → r ≡ centre c k → r ≡ inSyncArea c f s k
+    unfolding inSyncArea
+    sync-last t e r er = rw (← em, t, ← eL, eq-eqb (s + 1) L e) er
 
-  pub area-early : f ≡ 0 → s < L → false ≡ pbchArea L N f s k
-  unfolding pbchArea
-  area-early e l = rw (eq-eqb f 0 e, lt-leb L s l) refl
+    pub sync-earlier : m ≡ true → s + 2 ≡ L → (r : Bool) → r ≡ centre c k → r ≡ inSyncArea c f s k
+    unfolding inSyncArea
+    sync-earlier t e r er = rw (← em, t, ← eL, eq-eqb (s + 2) L e, or-true (eqb (s + 1) L)) er
 
-  pub area-in : f ≡ 0 → L ≤ s → s < L + 4 → (r : Bool) → r ≡ centre N k → r ≡ pbchArea L N f s k
-  unfolding pbchArea
-  area-in e l u r er = rw (eq-eqb f 0 e, le-leb L s l, lt-ltb s (L + 4) u) er
+    pub sync-no : m ≡ true → ((s + 1 ≡ L) → ⊥) → ((s + 2 ≡ L) → ⊥) → false ≡ inSyncArea c f s k
+    unfolding inSyncArea
+    sync-no t e d = rw (← em, t, ← eL, ne-eqb (s + 1) L e, ne-eqb (s + 2) L d) refl
 
-  pub area-late : f ≡ 0 → L ≤ s → L + 4 ≤ s → false ≡ pbchArea L N f s k
-  unfolding pbchArea
-  area-late e l u = rw (eq-eqb f 0 e, le-leb L s l, le-ltb s (L + 4) u) refl
+    pub sync-unmarked : m ≡ false → false ≡ inSyncArea c f s k
+    unfolding inSyncArea
+    sync-unmarked t = rw (← em, t) refl
 
-module _ (h M d : ℕ) where
-  pub unit-first : d < M → Phich d ≡ unitIn h M d
+  module _ (e : f .subframe ≡ 0) where
+    pub area-early : s < L → false ≡ inPbchArea c f s k
+    unfolding inPbchArea
+    area-early l = rw (eq-eqb (f .subframe) 0 e, ← eL, lt-leb L s l) refl
+
+    pub area-in : L ≤ s → s < L + 4 → (r : Bool) → r ≡ centre c k → r ≡ inPbchArea c f s k
+    unfolding inPbchArea
+    area-in l u r er = rw (eq-eqb (f .subframe) 0 e, ← eL, le-leb L s l, lt-ltb s (L + 4) u) er
+
+    pub area-late : L ≤ s → L + 4 ≤ s → false ≡ inPbchArea c f s k
+    unfolding inPbchArea
+    area-late l u = rw (eq-eqb (f .subframe) 0 e, ← eL, le-leb L s l, le-ltb s (L + 4) u) refl
+
+pub area-frame : (c : Cell) (f : Frame) (s k : ℕ) → ((f .subframe ≡ 0) → ⊥) → false ≡ inPbchArea c f s k
+unfolding inPbchArea
+area-frame c f s k e = rw (ne-eqb (f .subframe) 0 e) refl
+
+-- ---- groups and units: M the number of units, h that of the groups left
+module _ (c : Cell) (d M : ℕ) (eM : M ≡ unitsOf c) where
+  pub unit-first : d < M → Phich d ≡ unitIn c d
   unfolding unitIn
-  unit-first l = rw (lt-ltb d M l) refl
+  unit-first l = rw (← eM, lt-ltb d M l) refl
+
+  abbrev h : ℕ
+  h = 2 * c .blocks - 4
 
   abbrev In : ℕ → Bool
   In a = leb a d && ltb d (a + M)
 
   module _ (n : M ≤ d) where
-    pub unit-second : In (h / 3) ≡ true → Phich (d - h / 3) ≡ unitIn h M d
+    pub unit-second : In (h / 3) ≡ true → Phich (d - h / 3) ≡ unitIn c d
     unfolding unitIn
-    unit-second e = let z : 1 * h / 3 ≡ h / 3 = omega arith in rw (le-ltb d M n, z, e) refl
+    unit-second e = let z : 1 * h / 3 ≡ h / 3 = omega arith in rw (← eM, le-ltb d M n, z, e) refl
 
-    pub unit-third : In (h / 3) ≡ false → In (2 * h / 3) ≡ true → Phich (d - 2 * h / 3) ≡ unitIn h M d
+    pub unit-third : In (h / 3) ≡ false → In (2 * h / 3) ≡ true → Phich (d - 2 * h / 3) ≡ unitIn c d
     unfolding unitIn
-    unit-third e w = let z : 1 * h / 3 ≡ h / 3 = omega arith in rw (le-ltb d M n, z, e, w) refl
+    unit-third e w = let z : 1 * h / 3 ≡ h / 3 = omega arith in rw (← eM, le-ltb d M n, z, e, w) refl
 
-    pub unit-none : In (h / 3) ≡ false → In (2 * h / 3) ≡ false → Idle ≡ unitIn h M d
+    pub unit-none : In (h / 3) ≡ false → In (2 * h / 3) ≡ false → Idle ≡ unitIn c d
     unfolding unitIn
-    unit-none e w = let z : 1 * h / 3 ≡ h / 3 = omega arith in rw (le-ltb d M n, z, e, w) refl
+    unit-none e w = let z : 1 * h / 3 ≡ h / 3 = omega arith in rw (← eM, le-ltb d M n, z, e, w) refl
 
-module _ (C N M t : ℕ) where
-  is-format : (i : ℕ) → i < 4 → t ≡ formatGroup C N i → isFormat C N t ≡ true
+module _ (c : Cell) (t : ℕ) where
+  is-format : (i : ℕ) → i < 4 → t ≡ formatGroup c i → isFormat c t ≡ true
   unfolding isFormat
-  is-format zero l e = or-left _ _ (or-left _ _ (or-left _ _ (eq-eqb _ _ e)))
-  is-format (suc zero) l e = or-left _ _ (or-left _ _ (or-right (eqb t (formatGroup C N 0)) _ (eq-eqb _ _ e)))
-  is-format (suc (suc zero)) l e = or-left _ _ (or-right (eqb t (formatGroup C N 0) || eqb t (formatGroup C N 1)) _ (eq-eqb _ _ e))
-  is-format (suc (suc (suc zero))) l e = or-right (eqb t (formatGroup C N 0) || eqb t (formatGroup C N 1) || eqb t (formatGroup C N 2)) _ (eq-eqb _ _ e)
-  is-format (suc (suc (suc (suc i)))) l e = absurd (let z : ⊥ = omega arith in z)
+  is-format i l e = some-in (formatGroup c) 4 t i l e
 
-  pub group-format : (i : ℕ) → i < 4 → t ≡ formatGroup C N i → Pcfich ≡ groupAt C N M t
+  pub group-format : (i : ℕ) → i < 4 → t ≡ formatGroup c i → Pcfich ≡ groupAt c t
   unfolding groupAt
   group-format i l e = rw (is-format i l e) refl
 
-module _ (C N M t a b d e : ℕ) (ea : a ≡ formatGroup C N 0) (eb : b ≡ formatGroup C N 1) (ed : d ≡ formatGroup C N 2) (ee : e ≡ formatGroup C N 3) where
-  module _ (big : 6 ≤ N) (w x y z : ℕ) (ew : w ≡ one (ltb a t)) (ex : x ≡ one (ltb b t)) (ey : y ≡ one (ltb d t)) (ez : z ≡ one (ltb e t)) where
-    counted : w + x + y + z ≡ below C N t
+module _ (c : Cell) (t x y z w : ℕ) (ex : x ≡ formatGroup c 0) (ey : y ≡ formatGroup c 1) (ez : z ≡ formatGroup c 2) (ew : w ≡ formatGroup c 3) where
+  module _ (big : 6 ≤ c .blocks) (i j m n : ℕ) (ei : i ≡ one (ltb x t)) (ej : j ≡ one (ltb y t)) (em : m ≡ one (ltb z t)) (en : n ≡ one (ltb w t)) where
+    counted : i + j + m + n ≡ below c t
     unfolding below
-    counted = rw (← ea, ← eb, ← ed, ← ee, ← ew, ← ex, ← ey, ← ez) refl
+    counted = rw (← ex, ← ey, ← ez, ← ew, ← ei, ← ej, ← em, ← en) refl
 
-    pub counted-le : w + x + y + z ≤ t
-    counted-le = omega (arith, counted, number-is C N big t)
+    pub counted-le : i + j + m + n ≤ t
+    counted-le = omega (arith, counted, number-is c big t)
 
-    numbered : t - (w + x + y + z) ≡ number C N t
-    numbered = omega (arith, counted, number-is C N big t)
+    numbered : t - (i + j + m + n) ≡ number c t
+    numbered = omega (arith, counted, number-is c big t)
 
-    module _ (na : (t ≡ a) → ⊥) (nb : (t ≡ b) → ⊥) (nd : (t ≡ d) → ⊥) (ne : (t ≡ e) → ⊥) where
-      no-format : isFormat C N t ≡ false
+    module _ (nx : (t ≡ x) → ⊥) (ny : (t ≡ y) → ⊥) (nz : (t ≡ z) → ⊥) (nw : (t ≡ w) → ⊥) where
+      no-format : isFormat c t ≡ false
       unfolding isFormat
-      no-format = rw (← ea, ← eb, ← ed, ← ee, ne-eqb t a na, ne-eqb t b nb, ne-eqb t d nd, ne-eqb t e ne) refl
+      no-format = rw (← ex, ← ey, ← ez, ← ew, ne-eqb t x nx, ne-eqb t y ny, ne-eqb t z nz, ne-eqb t w nw) refl
 
-      pub group-unit : (r : Owner) → r ≡ unitIn (2 * N - 4) M ((t - (w + x + y + z) + (2 * N - 4 - C % (2 * N - 4))) % (2 * N - 4)) → r ≡ groupAt C N M t
+      pub group-unit : (r : Owner) → r ≡ unitIn c ((t - (i + j + m + n) + (2 * c .blocks - 4 - c .identity % (2 * c .blocks - 4))) % (2 * c .blocks - 4)) → r ≡ groupAt c t
       unfolding groupAt
       group-unit r er = er ∙ rw (numbered, no-format) refl
 
-module _ (c : Cell) (f : Frame) (s k L q : ℕ) (eL : L ≡ slotLength (c .prefix)) (eq : q ≡ pilot L (c .identity) s k) where
+-- ---- the owner above the users: q is the port that the place has a reference signal of
+module _ (c : Cell) (f : Frame) (s k q : ℕ) (eq : q ≡ pilot c s k) where
   pub fix-crs : q < c .ports → Crs q ≡ fixedAt c f s k
   unfolding fixedAt
-  fix-crs l = rw (← eL, ← eq, lt-ltb q (c .ports) l) refl
+  fix-crs l = rw (← eq, lt-ltb q (c .ports) l) refl
 
   module _ (nq : c .ports ≤ q) where
-    pub fix-control : s ≡ 0 → (M : ℕ) → M ≡ unitsOf c → (r : Owner) → r ≡ controlAt (c .identity) (c .blocks) M k → r ≡ fixedAt c f s k
+    pub fix-control : s ≡ 0 → (r : Owner) → r ≡ controlAt c k → r ≡ fixedAt c f s k
     unfolding fixedAt
-    fix-control e M eM r er = er ∙ rw (← eL, ← eq, le-ltb q (c .ports) nq, eq-eqb s 0 e, ← eM) refl
+    fix-control e r er = er ∙ rw (← eq, le-ltb q (c .ports) nq, eq-eqb s 0 e) refl
 
-    module _ (ns : (s ≡ 0) → ⊥) (y : Bool) (ey : y ≡ syncArea L (c .blocks) (f .subframe) s k) where
-      module _ (ty : y ≡ true) (u : Bool) (eu : u ≡ used (c .blocks) k) where
-        pub fix-primary : u ≡ true → s + 1 ≡ L → Sync Primary ≡ fixedAt c f s k
-        unfolding fixedAt
-        fix-primary t e = rw (← eL, ← eq, le-ltb q (c .ports) nq, ne-eqb s 0 ns, ← ey, ty, ← eu, t, eq-eqb (s + 1) L e) refl
+    module _ (ns : (s ≡ 0) → ⊥) (y : Bool) (ey : y ≡ inSyncArea c f s k) where
+      module _ (ty : y ≡ true) (u : Bool) (eu : u ≡ used c k) where
+        module _ (L : ℕ) (eL : L ≡ slotLength c) where
+          pub fix-primary : u ≡ true → s + 1 ≡ L → Sync Primary ≡ fixedAt c f s k
+          unfolding fixedAt
+          fix-primary t e = rw (← eL, ← eq, le-ltb q (c .ports) nq, ne-eqb s 0 ns, ← ey, ty, ← eu, t, eq-eqb (s + 1) L e) refl
 
-        pub fix-secondary : u ≡ true → ((s + 1 ≡ L) → ⊥) → Sync Secondary ≡ fixedAt c f s k
-        unfolding fixedAt
-        fix-secondary t e = rw (← eL, ← eq, le-ltb q (c .ports) nq, ne-eqb s 0 ns, ← ey, ty, ← eu, t, ne-eqb (s + 1) L e) refl
+          pub fix-secondary : u ≡ true → ((s + 1 ≡ L) → ⊥) → Sync Secondary ≡ fixedAt c f s k
+          unfolding fixedAt
+          fix-secondary t e = rw (← eL, ← eq, le-ltb q (c .ports) nq, ne-eqb s 0 ns, ← ey, ty, ← eu, t, ne-eqb (s + 1) L e) refl
 
         pub fix-held : u ≡ false → Held ≡ fixedAt c f s k
         unfolding fixedAt
-        fix-held t = rw (← eL, ← eq, le-ltb q (c .ports) nq, ne-eqb s 0 ns, ← ey, ty, ← eu, t) refl
+        fix-held t = rw (← eq, le-ltb q (c .ports) nq, ne-eqb s 0 ns, ← ey, ty, ← eu, t) refl
 
-      module _ (fy : y ≡ false) (b : Bool) (eb : b ≡ pbchArea L (c .blocks) (f .subframe) s k) where
+      module _ (fy : y ≡ false) (b : Bool) (eb : b ≡ inPbchArea c f s k) where
         pub fix-hole : b ≡ true → q < 4 → Held ≡ fixedAt c f s k
         unfolding fixedAt
-        fix-hole t l = rw (← eL, ← eq, le-ltb q (c .ports) nq, ne-eqb s 0 ns, ← ey, fy, ← eb, t, lt-ltb q 4 l) refl
+        fix-hole t l = rw (← eq, le-ltb q (c .ports) nq, ne-eqb s 0 ns, ← ey, fy, ← eb, t, lt-ltb q 4 l) refl
 
         pub fix-pbch : b ≡ true → 4 ≤ q → Pbch ≡ fixedAt c f s k
         unfolding fixedAt
-        fix-pbch t l = rw (← eL, ← eq, le-ltb q (c .ports) nq, ne-eqb s 0 ns, ← ey, fy, ← eb, t, le-ltb q 4 l) refl
+        fix-pbch t l = rw (← eq, le-ltb q (c .ports) nq, ne-eqb s 0 ns, ← ey, fy, ← eb, t, le-ltb q 4 l) refl
 
         pub fix-idle : b ≡ false → Idle ≡ fixedAt c f s k
         unfolding fixedAt
-        fix-idle t = rw (← eL, ← eq, le-ltb q (c .ports) nq, ne-eqb s 0 ns, ← ey, fy, ← eb, t) refl
+        fix-idle t = rw (← eq, le-ltb q (c .ports) nq, ne-eqb s 0 ns, ← ey, fy, ← eb, t) refl
 
 -- ---- a range's test, and numbers that fit
 pub in-both : (a b d : ℕ) (r : Bool) → r ≡ leb a d && ltb d b → r ≡ true → (a ≤ d) × (d < b)
@@ -212,4 +235,4 @@ module _ (w : List ℕ) (p : Plan) (s k : ℕ) (o : Owner) (eo : o ≡ fixedAt (
 
     pub end-user : region ≤ s → (r : Owner) → ((n : ℕ) → r ≡ userFrom 0 (usersFrom (drop (p .users .at) w) (p .users .count)) n k) → r ≡ ownerAt w p s k
     unfolding ownerAt isIdle usersOf
-    end-user l r h = h (slotOf (slotOfCell (p .cell)) s) ∙ rw (← eo, e, ← er, le-ltb s region l) refl
+    end-user l r h = h (slotOf (p .cell) s) ∙ rw (← eo, e, ← er, le-ltb s region l) refl

@@ -15,8 +15,9 @@ use Rattle.plan.specs.declared.Refusal.the-variants.{Unreadable}
 use Rattle.plan.specs.declared.Checked.{Checked}
 use Rattle.plan.specs.declared.Checked.the-variants.{Plan as accepted, Refused as refused}
 use Rattle.base.specs.Choice.{if_then_else_}
-use Rattle.layout.specs.Rules.{slotOf, inSlot, standsAt, marked, centre, used, pbchArea, isFormat, number, left}
-use Rattle.layout.specs.Owners.{slotOfCell, controlSymbols, blocksHave}
+use Rattle.base.specs.Counts.{cnt}
+use Rattle.layout.specs.Rules.{slotLength, slotOf, inSlot, standsAt, used, inSyncArea, inPbchArea, isFormat, left, isLeft, unitNumber}
+use Rattle.layout.specs.Owners.{controlSymbols, blocksHave}
 use Rattle.layout.specs.declared.Mark.the-variants.{Primary, Secondary}
 use Rattle.layout.specs.declared.Owner.{Owner}
 use Rattle.layout.specs.declared.Owner.the-variants.{Crs, Sync, Pbch, Pcfich, Phich, User as UserOf, Held, Idle}
@@ -25,47 +26,53 @@ use Rattle.layout.specs.declared.Owner.the-variants.{Crs, Sync, Pbch, Pc
 abbrev pub pickPort : Bool → Bool → ℕ → ℕ → ℕ
 pickPort a b p q = if a then p else if b then q else 4
 
-unfoldable pub pilotIn : ℕ → ℕ → ℕ → Bool → Bool → ℕ
-pilotIn L l n a b =
+unfoldable pub pilot : Cell → ℕ → ℕ → ℕ
+pilot c s k =
+    let l = inSlot c s in
+    let a = standsAt c 0 k in
+    let b = standsAt c 3 k in
     if eqb l 0 then pickPort a b 0 1
-    else if eqb (l + 3) L then pickPort b a 0 1
-    else if eqb l 1 then (if eqb n 0 then pickPort a b 2 3 else pickPort b a 2 3)
+    else if eqb (l + 3) (slotLength c) then pickPort b a 0 1
+    else if eqb l 1 then (if eqb (slotOf c s) 0 then pickPort a b 2 3 else pickPort b a 2 3)
     else 4
 
-unfoldable pub pilot : ℕ → ℕ → ℕ → ℕ → ℕ
-pilot L C s k = pilotIn L (inSlot L s) (slotOf L s) (standsAt C k 0) (standsAt C k 3)
+-- a group left's number: how many groups left stand below it; and whether unit m takes number n
+abbrev pub number : Cell → ℕ → ℕ
+number c t = cnt (isLeft c) t
 
--- how far number n lies past C's around the h groups left: the first M from 0, h/3 and 2h/3 on are the units'
+unfoldable pub takes : Cell → ℕ → ℕ → Bool
+takes c m n = eqb n (unitNumber c m 0) || eqb n (unitNumber c m 1) || eqb n (unitNumber c m 2)
+
+-- how far n lies past C around a ring of h numbers
 abbrev pub past : ℕ → ℕ → ℕ → ℕ
 past C h n = (n + (h - C % h)) % h
 
-unfoldable pub unitIn : ℕ → ℕ → ℕ → Owner
-unitIn h M d =
+-- the unit that takes the number d past the identity's: the first M from 0, h/3 and 2h/3 on are the units'
+unfoldable pub unitIn : Cell → ℕ → Owner
+unitIn c d =
+    let h = left c in
+    let M = unitsOf c in
     if ltb d M then Phich d
     else if leb (1 * h / 3) d && ltb d (1 * h / 3 + M) then Phich (d - 1 * h / 3)
     else if leb (2 * h / 3) d && ltb d (2 * h / 3 + M) then Phich (d - 2 * h / 3)
     else Idle
 
 -- group t of symbol 0, and subcarrier k there
-unfoldable pub groupAt : ℕ → ℕ → ℕ → ℕ → Owner
-groupAt C N M t = if isFormat C N t then Pcfich else unitIn (left N) M (past C (left N) (number C N t))
+unfoldable pub groupAt : Cell → ℕ → Owner
+groupAt c t = if isFormat c t then Pcfich else unitIn c (past (c .identity) (left c) (number c t))
 
-unfoldable pub controlAt : ℕ → ℕ → ℕ → ℕ → Owner
-controlAt C N M k = if eqb (k % 3) (C % 3) then Idle else groupAt C N M (k / 6)
-
-unfoldable pub syncArea : ℕ → ℕ → ℕ → ℕ → ℕ → Bool
-syncArea L N f s k = marked f && (eqb (s + 1) L || eqb (s + 2) L) && centre N k
+unfoldable pub controlAt : Cell → ℕ → Owner
+controlAt c k = if eqb (k % 3) (c .identity % 3) then Idle else groupAt c (k / 6)
 
 -- the owner above the users, or idle
 unfoldable pub fixedAt : Cell → Frame → ℕ → ℕ → Owner
 fixedAt c f s k =
-    let L = slotOfCell c in
-    let q = pilot L (c .identity) s k in
+    let q = pilot c s k in
     if ltb q (c .ports) then Crs q
-    else if eqb s 0 then controlAt (c .identity) (c .blocks) (unitsOf c) k
-    else if syncArea L (c .blocks) (f .subframe) s k
-    then (if used (c .blocks) k then Sync (if eqb (s + 1) L then Primary else Secondary) else Held)
-    else if pbchArea L (c .blocks) (f .subframe) s k
+    else if eqb s 0 then controlAt c k
+    else if inSyncArea c f s k
+    then (if used c k then Sync (if eqb (s + 1) (slotLength c) then Primary else Secondary) else Held)
+    else if inPbchArea c f s k
     then (if ltb q 4 then Held else Pbch)
     else Idle
 
@@ -88,7 +95,7 @@ unfoldable pub ownerAt : List ℕ → Plan → ℕ → ℕ → Owner
 ownerAt w p s k =
     let o = fixedAt (p .cell) (p .frame) s k in
     if isIdle o
-    then (if ltb s (controlSymbols (p .cell) (p .frame)) then Idle else userFrom 0 (usersOf w p) (slotOf (slotOfCell (p .cell)) s) k)
+    then (if ltb s (controlSymbols (p .cell) (p .frame)) then Idle else userFrom 0 (usersOf w p) (slotOf (p .cell) s) k)
     else o
 
 -- a check's refusal; a plan has none, and nobody asks for it

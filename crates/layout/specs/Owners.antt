@@ -33,11 +33,8 @@ ownerNumber Held = 512
 ownerNumber Idle = 513
 
 -- S and 12N, and document 01's place: "A place is a pair (s, k) of the grid"
-abbrev pub slotOfCell : Cell → ℕ
-slotOfCell c = slotLength (c .prefix)
-
 abbrev pub symbols : Cell → ℕ
-symbols c = 2 * slotOfCell c
+symbols c = 2 * slotLength c
 
 abbrev pub carriers : Cell → ℕ
 carriers c = 12 * c .blocks
@@ -48,13 +45,13 @@ gridPlace c s k = (s < symbols c) × (k < carriers c)
 -- THE RULES, each owner's by its own sentence: "Each owner's places are those that its own rule gives, idle's the rest". `user i` is the
 -- rule of user i and `others` the rest, both below
 abbrev pub rule : Cell → Frame → (ℕ → ℕ → ℕ → Bool) → (ℕ → ℕ → Bool) → Owner → ℕ → ℕ → Bool
-rule c f user others (Crs q) s k = crs (slotOfCell c) (c .identity) (c .ports) q s k
-rule c f user others (Sync Primary) s k = pss (slotOfCell c) (c .blocks) (f .subframe) s k
-rule c f user others (Sync Secondary) s k = sss (slotOfCell c) (c .blocks) (f .subframe) s k
-rule c f user others Pbch s k = pbch (slotOfCell c) (c .identity) (c .blocks) (f .subframe) s k
-rule c f user others Pcfich s k = pcfich (c .identity) (c .blocks) s k
-rule c f user others (Phich m) s k = phich (c .identity) (c .blocks) (unitsOf c) m s k
-rule c f user others Held s k = held (slotOfCell c) (c .identity) (c .blocks) (c .ports) (f .subframe) s k
+rule c f user others (Crs q) s k = crs c q s k
+rule c f user others (Sync Primary) s k = pss c f s k
+rule c f user others (Sync Secondary) s k = sss c f s k
+rule c f user others Pbch s k = pbch c f s k
+rule c f user others Pcfich s k = pcfich c s k
+rule c f user others (Phich m) s k = phich c m s k
+rule c f user others Held s k = held c f s k
 rule c f user others (UserOf i) s k = user i s k
 rule c f user others Idle s k = others s k
 
@@ -85,7 +82,7 @@ userHas (u ∷ us) (suc i) n k = userHas us i n k
 -- "USER: its blocks, symbols s ≥ CFI, not owned above"
 unfoldable pub userRule : List ℕ → Plan → ℕ → ℕ → ℕ → Bool
 userRule w p i s k =
-    userHas (usersOf w p) i (slotOf (slotOfCell (p .cell)) s) k && leb (controlSymbols (p .cell) (p .frame)) s && free (p .cell) (p .frame) s k
+    userHas (usersOf w p) i (slotOf (p .cell) s) k && leb (controlSymbols (p .cell) (p .frame)) s && free (p .cell) (p .frame) s k
 
 -- document 01's idle, "the rest": no owner above the users has the place, and no user
 unfoldable pub rest : List ℕ → Plan → ℕ → ℕ → Bool

@@ -1,125 +1,134 @@
 -- What the promises cite: the places of each owner above the users, by its own sentence of document 01, Owners.
--- In its letters: C identity, N blocks, P ports, f subframe, l a symbol's number in its slot, (s, k) a place; L is the number of
--- symbols of a slot, M that of the PHICH units, n the slot: 0 the first one (2f), 1 the second (2f + 1).
+-- A rule takes the cell c, where it speaks of the subframe the frame f, and a place (s, k). In the paper's letters: C identity,
+-- N blocks, P ports, l a symbol's number in its slot; n is the slot, 0 the first one (2f) and 1 the second (2f + 1).
 use Prim.Native.Nat.{ℕ, zero, suc, _+_, _-_, _*_, _/_, _%_}
 use mathlib.Core.Bool.{Bool, not, _&&_, _||_}
 use lib.Dec.{leb, ltb, eqb}
 use Rattle.base.specs.Choice.{if_then_else_}
+use Rattle.base.specs.Counts.{nth}
+use Rattle.plan.specs.Fields.{unitsOf}
+use Rattle.plan.specs.declared.Cell.{Cell}
+use Rattle.plan.specs.declared.Frame.{Frame}
 
--- Grid: "S = 14 symbols (extended 12), two slots of 7 (6) .. l counts in a slot, s in the subframe"
-unfoldable pub slotLength : ℕ → ℕ
-slotLength prefix = if eqb prefix 1 then 6 else 7
+-- Grid: "S = 14 symbols (extended 12), two slots of 7 (6) .. l counts in a slot, s in the subframe". The slot n and the number l of
+-- symbol s
+unfoldable pub slotLength : Cell → ℕ
+slotLength c = if eqb (c .prefix) 1 then 6 else 7
 
-unfoldable pub slotOf : ℕ → ℕ → ℕ
-slotOf L s = if ltb s L then 0 else 1
+unfoldable pub slotOf : Cell → ℕ → ℕ
+slotOf c s = if ltb s (slotLength c) then 0 else 1
 
-unfoldable pub inSlot : ℕ → ℕ → ℕ
-inSlot L s = if ltb s L then s else s - L
+unfoldable pub inSlot : Cell → ℕ → ℕ
+inSlot c s = if ltb s (slotLength c) then s else s - slotLength c
 
--- ---- CRS: "Of the ports below P, 0 and 1 use l = 0 and 3rd from last; 2 and 3 use l = 1"
-unfoldable pub crsSymbol : ℕ → ℕ → ℕ → Bool
-crsSymbol L p l = if ltb p 2 then eqb l 0 || eqb (l + 3) L else eqb l 1
+-- ---- CRS, of port p: "Of the ports below P, 0 and 1 use l = 0 and 3rd from last; 2 and 3 use l = 1"
+unfoldable pub crsSymbol : Cell → ℕ → ℕ → Bool
+crsSymbol c p s = let l = inSlot c s in if ltb p 2 then eqb l 0 || eqb (l + 3) (slotLength c) else eqb l 1
 
 -- "v: port 0: 0 at l = 0, else 3; port 1 the other way; port 2: 3(n mod 2); port 3: 3+3(n mod 2)"
-unfoldable pub shift : ℕ → ℕ → ℕ → ℕ
-shift zero l n = if eqb l 0 then 0 else 3
-shift (suc zero) l n = if eqb l 0 then 3 else 0
-shift (suc (suc zero)) l n = 3 * n
-shift (suc (suc (suc p))) l n = 3 + 3 * n
+unfoldable pub crsShift : Cell → ℕ → ℕ → ℕ
+crsShift c zero s = if eqb (inSlot c s) 0 then 0 else 3
+crsShift c (suc zero) s = if eqb (inSlot c s) 0 then 3 else 0
+crsShift c (suc (suc zero)) s = 3 * slotOf c s
+crsShift c (suc (suc (suc p))) s = 3 + 3 * slotOf c s
 
 -- "k = 6m+((v+C) mod 6)" for some m
-unfoldable pub standsAt : ℕ → ℕ → ℕ → Bool
-standsAt C k v = eqb (k % 6) ((v + C) % 6)
+unfoldable pub standsAt : Cell → ℕ → ℕ → Bool
+standsAt c v k = eqb (k % 6) ((v + c .identity) % 6)
 
 -- where port p's reference signal stands in a cell that has the port
-unfoldable pub crsOf : ℕ → ℕ → ℕ → ℕ → ℕ → Bool
-crsOf L C p s k = crsSymbol L p (inSlot L s) && standsAt C k (shift p (inSlot L s) (slotOf L s))
+unfoldable pub crsOf : Cell → ℕ → ℕ → ℕ → Bool
+crsOf c p s k = crsSymbol c p s && standsAt c (crsShift c p s) k
 
-unfoldable pub crs : ℕ → ℕ → ℕ → ℕ → ℕ → ℕ → Bool
-crs L C P p s k = ltb p P && crsOf L C p s k
+unfoldable pub crs : Cell → ℕ → ℕ → ℕ → Bool
+crs c p s k = ltb p (c .ports) && crsOf c p s k
 
--- "CRS positions for four ports", and those of the cell's own ports
-unfoldable pub crsOfFour : ℕ → ℕ → ℕ → ℕ → Bool
-crsOfFour L C s k = crsOf L C 0 s k || crsOf L C 1 s k || crsOf L C 2 s k || crsOf L C 3 s k
+-- the positions of the ports below n: "CRS positions for four ports", and those of the cell's own ports
+unfoldable pub crsBelow : Cell → ℕ → ℕ → ℕ → Bool
+crsBelow c n s k = ltb 0 n && crsOf c 0 s k || ltb 1 n && crsOf c 1 s k || ltb 2 n && crsOf c 2 s k || ltb 3 n && crsOf c 3 s k
 
-unfoldable pub crsAny : ℕ → ℕ → ℕ → ℕ → ℕ → Bool
-crsAny L C P s k = crs L C P 0 s k || crs L C P 1 s k || crs L C P 2 s k || crs L C P 3 s k
+abbrev pub crsOfFour : Cell → ℕ → ℕ → Bool
+crsOfFour c s k = crsBelow c 4 s k
+
+abbrev pub crsAny : Cell → ℕ → ℕ → Bool
+crsAny c s k = crsBelow c (c .ports) s k
 
 -- ---- synchronisation: "f = 0, 5, slot 2f, centre 72 subcarriers (from 6N−36): the first and last five held, 62 used"
-unfoldable pub marked : ℕ → Bool
-marked f = eqb f 0 || eqb f 5
+unfoldable pub marked : Frame → Bool
+marked f = eqb (f .subframe) 0 || eqb (f .subframe) 5
 
 -- the subcarriers from 6N − d to 6N + d − 1
-unfoldable pub middle : ℕ → ℕ → ℕ → Bool
-middle N d k = leb (6 * N) (k + d) && ltb k (6 * N + d)
+unfoldable pub middle : Cell → ℕ → ℕ → Bool
+middle c d k = leb (6 * c .blocks) (k + d) && ltb k (6 * c .blocks + d)
 
-abbrev pub centre : ℕ → ℕ → Bool
-centre N k = middle N 36 k
+abbrev pub centre : Cell → ℕ → Bool
+centre c k = middle c 36 k
 
-abbrev pub used : ℕ → ℕ → Bool
-used N k = middle N 31 k
+abbrev pub used : Cell → ℕ → Bool
+used c k = middle c 31 k
 
 -- "PSS in the last symbol", "SSS one symbol earlier"
-unfoldable pub pss : ℕ → ℕ → ℕ → ℕ → ℕ → Bool
-pss L N f s k = marked f && eqb (s + 1) L && used N k
+unfoldable pub pss : Cell → Frame → ℕ → ℕ → Bool
+pss c f s k = marked f && eqb (s + 1) (slotLength c) && used c k
 
-unfoldable pub sss : ℕ → ℕ → ℕ → ℕ → ℕ → Bool
-sss L N f s k = marked f && eqb (s + 2) L && used N k
+unfoldable pub sss : Cell → Frame → ℕ → ℕ → Bool
+sss c f s k = marked f && eqb (s + 2) (slotLength c) && used c k
 
--- document 01's held, first: "the first and last five held" in both symbols
-unfoldable pub heldBySync : ℕ → ℕ → ℕ → ℕ → ℕ → Bool
-heldBySync L N f s k = marked f && (eqb (s + 1) L || eqb (s + 2) L) && centre N k && not (used N k)
+-- document 01's held, first: "the first and last five held" of the centre 72 in both symbols
+unfoldable pub inSyncArea : Cell → Frame → ℕ → ℕ → Bool
+inSyncArea c f s k = marked f && (eqb (s + 1) (slotLength c) || eqb (s + 2) (slotLength c)) && centre c k
+
+unfoldable pub heldBySync : Cell → Frame → ℕ → ℕ → Bool
+heldBySync c f s k = inSyncArea c f s k && not (used c k)
 
 -- ---- PBCH: "f = 0, slot 1, l = 0..3, centre 72, skipping CRS positions for four ports"
-unfoldable pub pbchArea : ℕ → ℕ → ℕ → ℕ → ℕ → Bool
-pbchArea L N f s k = eqb f 0 && leb L s && ltb s (L + 4) && centre N k
+unfoldable pub inPbchArea : Cell → Frame → ℕ → ℕ → Bool
+inPbchArea c f s k = eqb (f .subframe) 0 && leb (slotLength c) s && ltb s (slotLength c + 4) && centre c k
 
-unfoldable pub pbch : ℕ → ℕ → ℕ → ℕ → ℕ → ℕ → Bool
-pbch L C N f s k = pbchArea L N f s k && not (crsOfFour L C s k)
+unfoldable pub pbch : Cell → Frame → ℕ → ℕ → Bool
+pbch c f s k = inPbchArea c f s k && not (crsOfFour c s k)
 
 -- document 01's held, second: "positions skipped but unused by CRS are held"
-unfoldable pub heldByPbch : ℕ → ℕ → ℕ → ℕ → ℕ → ℕ → ℕ → Bool
-heldByPbch L C N P f s k = pbchArea L N f s k && crsOfFour L C s k && not (crsAny L C P s k)
+unfoldable pub heldByPbch : Cell → Frame → ℕ → ℕ → Bool
+heldByPbch c f s k = inPbchArea c f s k && crsOfFour c s k && not (crsAny c s k)
 
-unfoldable pub held : ℕ → ℕ → ℕ → ℕ → ℕ → ℕ → ℕ → Bool
-held L C N P f s k = heldBySync L N f s k || heldByPbch L C N P f s k
+unfoldable pub held : Cell → Frame → ℕ → ℕ → Bool
+held c f s k = heldBySync c f s k || heldByPbch c f s k
 
 -- ---- control groups: "Symbol 0 has 2N groups of six subcarriers; a group's four places skip k with k mod 3 = C mod 3, also for
 -- one port". The group of subcarrier k in symbol s, and whether (s, k) is one of a group's four places
-unfoldable pub groupOf : ℕ → ℕ → ℕ
-groupOf s k = k / 6
+unfoldable pub groupOf : Cell → ℕ → ℕ → ℕ
+groupOf c s k = k / 6
 
-unfoldable pub inGroup : ℕ → ℕ → ℕ → Bool
-inGroup C s k = eqb s 0 && not (eqb (k % 3) (C % 3))
+unfoldable pub inGroup : Cell → ℕ → ℕ → Bool
+inGroup c s k = eqb s 0 && not (eqb (k % 3) (c .identity % 3))
 
 -- document 01's quad: what fills a group's four places. "PCFICH quad i: group (C+floor(iN/2)) mod 2N", i = 0..3
-unfoldable pub formatGroup : ℕ → ℕ → ℕ → ℕ
-formatGroup C N i = (C + i * N / 2) % (2 * N)
+unfoldable pub formatGroup : Cell → ℕ → ℕ
+formatGroup c i = (c .identity + i * c .blocks / 2) % (2 * c .blocks)
 
-unfoldable pub isFormat : ℕ → ℕ → ℕ → Bool
-isFormat C N t = eqb t (formatGroup C N 0) || eqb t (formatGroup C N 1) || eqb t (formatGroup C N 2) || eqb t (formatGroup C N 3)
+unfoldable pub isFormat : Cell → ℕ → Bool
+isFormat c t = eqb t (formatGroup c 0) || eqb t (formatGroup c 1) || eqb t (formatGroup c 2) || eqb t (formatGroup c 3)
 
-unfoldable pub pcfich : ℕ → ℕ → ℕ → ℕ → Bool
-pcfich C N s k = inGroup C s k && isFormat C N (groupOf s k)
+unfoldable pub pcfich : Cell → ℕ → ℕ → Bool
+pcfich c s k = inGroup c s k && isFormat c (groupOf c s k)
 
--- ---- PHICH: "With h = 2N−4 groups left in ascending order": how many groups left stand below group t is its number
-abbrev pub left : ℕ → ℕ
-left N = 2 * N - 4
+-- ---- PHICH, of unit m: "With h = 2N−4 groups left in ascending order, quad i of unit m takes number (C+m+floor(ih/3)) mod h", i = 0..2
+abbrev pub left : Cell → ℕ
+left c = 2 * c .blocks - 4
 
-unfoldable pub number : ℕ → ℕ → ℕ → ℕ
-number C N zero = 0
-number C N (suc t) = if isFormat C N t then number C N t else number C N t + 1
+unfoldable pub isLeft : Cell → ℕ → Bool
+isLeft c t = not (isFormat c t)
 
--- document 01's unit: "quad i of unit m takes number (C+m+floor(ih/3)) mod h", i = 0..2
-unfoldable pub unitNumber : ℕ → ℕ → ℕ → ℕ → ℕ
-unitNumber C h m i = (C + m + i * h / 3) % h
+unfoldable pub unitNumber : Cell → ℕ → ℕ → ℕ
+unitNumber c m i = (c .identity + m + i * left c / 3) % left c
 
-unfoldable pub takes : ℕ → ℕ → ℕ → ℕ → Bool
-takes C h m n = eqb n (unitNumber C h m 0) || eqb n (unitNumber C h m 1) || eqb n (unitNumber C h m 2)
+unfoldable pub unitGroup : Cell → ℕ → ℕ → ℕ
+unitGroup c m i = nth (isLeft c) (2 * c .blocks) (unitNumber c m i)
 
 -- unit m has group t of symbol s
-unfoldable pub unitHas : ℕ → ℕ → ℕ → ℕ → ℕ → Bool
-unitHas C N m s t = not (isFormat C N t) && takes C (left N) m (number C N t)
+unfoldable pub unitHas : Cell → ℕ → ℕ → ℕ → Bool
+unitHas c m s t = eqb t (unitGroup c m 0) || eqb t (unitGroup c m 1) || eqb t (unitGroup c m 2)
 
-unfoldable pub phich : ℕ → ℕ → ℕ → ℕ → ℕ → ℕ → Bool
-phich C N M m s k = ltb m M && inGroup C s k && unitHas C N m s (groupOf s k)
+unfoldable pub phich : Cell → ℕ → ℕ → ℕ → Bool
+phich c m s k = ltb m (unitsOf c) && inGroup c s k && unitHas c m s (groupOf c s k)

@@ -7,10 +7,9 @@ ghost use lib.Dec.{leb, ltb};
 ghost use Rattle.plan.specs.Check.{checkOf};
 ghost use Rattle.plan.specs.Rows.{usersFrom};
 ghost use Rattle.plan.specs.declared.Checked.the-variants.{Plan as accepted};
-ghost use Rattle.base.specs.Choice.{one};
-ghost use Rattle.layout.specs.Rules.{slotLength, inSlot, middle, marked, pbchArea, standsAt, formatGroup, left};
+ghost use Rattle.layout.specs.Rules.{slotLength, inSlot, middle, marked, inSyncArea, inPbchArea, standsAt, formatGroup, left};
 ghost use Rattle.layout.specs.Owners.{ownerNumber, gridPlace, controlSymbols, blocksHave, ownerOf};
-ghost use Rattle.layout.specs.Chain.{pickPort, pilot, unitIn, groupAt, controlAt, syncArea, fixedAt, userFrom, ownerAt, refusalOf};
+ghost use Rattle.layout.specs.Chain.{pickPort, pilot, unitIn, groupAt, controlAt, fixedAt, userFrom, ownerAt, refusalOf};
 ghost use Rattle.layout.specs.Query.{inGrid, ownerQueryOf};
 use plan::Cell;
 use plan::Checked;
@@ -63,24 +62,25 @@ pub fn owner_number(o: Owner) -> u16
 }
 
 // Symbols of a slot.
-pub fn slot_length(prefix: u8) -> usize
-    ensures { λ r. ⌜ r ≡ slotLength prefix ⌝ }
+pub fn slot_length(cell: Cell) -> usize
+    ensures { λ r. ⌜ r ≡ slotLength cell ⌝ }
 {
-    if prefix == 1 { 6 } else { 7 }
+    if cell.prefix == 1 { 6 } else { 7 }
 }
 
 // A symbol's number in its slot.
-pub fn in_slot(slot: usize, s: usize) -> usize
-    ensures { λ r. ⌜ r ≡ inSlot slot s ⌝ }
+pub fn in_slot(cell: Cell, s: usize) -> usize
+    ensures { λ r. ⌜ r ≡ inSlot cell s ⌝ }
 {
+    let slot = slot_length(cell);
     if s < slot { s } else { s - slot }
 }
 
-fn stands_at(identity: usize, k: usize, v: usize) -> bool
-    requires { ⌜ (identity < 65536) × (v ≤ 3) ⌝ }
-    ensures { λ r. ⌜ r ≡ standsAt identity k v ⌝ }
+fn stands_at(cell: Cell, v: usize, k: usize) -> bool
+    requires { ⌜ v ≤ 3 ⌝ }
+    ensures { λ r. ⌜ r ≡ standsAt cell v k ⌝ }
 {
-    k % 6 == (v + identity) % 6
+    k % 6 == (v + (cell.identity as usize)) % 6
 }
 
 fn pick_port(a: bool, b: bool, p: usize, q: usize) -> usize
@@ -93,13 +93,14 @@ fn pick_port(a: bool, b: bool, p: usize, q: usize) -> usize
 }
 
 // The port below 4 whose reference signal a four-port cell has at the place, 4 for none.
-fn pilot_at(slot: usize, identity: usize, s: usize, k: usize) -> usize
-    requires { ⌜ (identity < 65536) × (slot ≤ 7) × (s < 14) ⌝ }
-    ensures { λ r. ⌜ r ≡ pilot slot identity s k ⌝ }
+fn pilot_at(cell: Cell, s: usize, k: usize) -> usize
+    requires { ⌜ s < 14 ⌝ }
+    ensures { λ r. ⌜ r ≡ pilot cell s k ⌝ }
 {
-    let l = in_slot(slot, s);
-    let a = stands_at(identity, k, 0);
-    let b = stands_at(identity, k, 3);
+    let slot = slot_length(cell);
+    let l = in_slot(cell, s);
+    let a = stands_at(cell, 0, k);
+    let b = stands_at(cell, 3, k);
     if l == 0 {
         return pick_port(a, b, 0, 1);
     }
@@ -122,38 +123,36 @@ fn within(a: usize, b: usize, d: usize) -> bool
 }
 
 // Whether k is one of the d subcarriers on either side of 6N, which is no block's edge where N is odd.
-fn in_middle(blocks: usize, d: usize, k: usize) -> bool
-    requires { ⌜ (blocks < 256) × (d ≤ 36) × (k < 12 * blocks) ⌝ }
-    ensures { λ r. ⌜ r ≡ middle blocks d k ⌝ }
+fn in_middle(cell: Cell, d: usize, k: usize) -> bool
+    requires { ⌜ (d ≤ 36) × (k < 12 * cell .blocks) ⌝ }
+    ensures { λ r. ⌜ r ≡ middle cell d k ⌝ }
 {
-    if 6 * blocks <= k + d {
-        k < 6 * blocks + d
-    } else {
-        false
-    }
+    let half = 6 * (cell.blocks as usize);
+    if half <= k + d { k < half + d } else { false }
 }
 
 // Whether the subframe has the synchronisation marks.
-pub fn is_marked(subframe: u8) -> bool
-    ensures { λ r. ⌜ r ≡ marked subframe ⌝ }
+pub fn is_marked(frame: Frame) -> bool
+    ensures { λ r. ⌜ r ≡ marked frame ⌝ }
 {
-    if subframe == 0 {
+    if frame.subframe == 0 {
         return true;
     }
-    subframe == 5
+    frame.subframe == 5
 }
 
 // Whether the place lies in the centre of a symbol with a synchronisation mark.
-fn in_sync(slot: usize, blocks: usize, subframe: u8, s: usize, k: usize) -> bool
-    requires { ⌜ (blocks < 256) × (k < 12 * blocks) × (s < 14) ⌝ }
-    ensures { λ r. ⌜ r ≡ syncArea slot blocks subframe s k ⌝ }
+fn in_sync(cell: Cell, frame: Frame, s: usize, k: usize) -> bool
+    requires { ⌜ (s < 14) × (k < 12 * cell .blocks) ⌝ }
+    ensures { λ r. ⌜ r ≡ inSyncArea cell frame s k ⌝ }
 {
-    if is_marked(subframe) {
+    let slot = slot_length(cell);
+    if is_marked(frame) {
         if s + 1 == slot {
-            return in_middle(blocks, 36, k);
+            return in_middle(cell, 36, k);
         }
         if s + 2 == slot {
-            in_middle(blocks, 36, k)
+            in_middle(cell, 36, k)
         } else {
             false
         }
@@ -163,50 +162,48 @@ fn in_sync(slot: usize, blocks: usize, subframe: u8, s: usize, k: usize) -> bool
 }
 
 // Whether the place lies in PBCH's area, skipped positions included.
-fn in_broadcast(slot: usize, blocks: usize, subframe: u8, s: usize, k: usize) -> bool
-    requires { ⌜ (blocks < 256) × (k < 12 * blocks) × (s < 14) × (slot ≤ 7) ⌝ }
-    ensures { λ r. ⌜ r ≡ pbchArea slot blocks subframe s k ⌝ }
+fn in_broadcast(cell: Cell, frame: Frame, s: usize, k: usize) -> bool
+    requires { ⌜ (s < 14) × (k < 12 * cell .blocks) ⌝ }
+    ensures { λ r. ⌜ r ≡ inPbchArea cell frame s k ⌝ }
 {
-    if subframe != 0 {
+    if frame.subframe != 0 {
         return false;
     }
+    let slot = slot_length(cell);
     if s < slot {
         return false;
     }
     if s < slot + 4 {
-        in_middle(blocks, 36, k)
+        in_middle(cell, 36, k)
     } else {
         false
     }
 }
 
-// The group of PCFICH's quad i.
-fn format_group(identity: usize, blocks: usize, i: usize) -> usize
-    requires { ⌜ (identity < 65536) × (0 < blocks) × (blocks < 256) × (i < 4) ⌝ }
-    ensures { λ r. ⌜ r ≡ formatGroup identity blocks i ⌝ }
+// The group of PCFICH's quad i. Every accepted plan has 15 blocks or more.
+pub fn format_group(cell: Cell, i: usize) -> usize
+    requires { ⌜ (6 ≤ cell .blocks) × (i < 4) ⌝ }
+    ensures { λ r. ⌜ r ≡ formatGroup cell i ⌝ }
 {
-    (identity + i * blocks / 2) % (2 * blocks)
-}
-
-fn one_below(a: usize, b: usize) -> usize
-    ensures { λ r. ⌜ (r ≡ one (ltb a b)) × (r ≤ 1) ⌝ }
-{
-    if a < b { 1 } else { 0 }
+    let blocks = cell.blocks as usize;
+    ((cell.identity as usize) + i * blocks / 2) % (2 * blocks)
 }
 
 // The unit that takes the number d past the identity's, or idle.
-fn unit_in(left: usize, units: usize, d: usize) -> Owner
-    requires { ⌜ (left < 512) × (units ≤ left / 3) ⌝ }
-    ensures { λ r. ⌜ r ≡ unitIn left units d ⌝ }
+fn unit_in(cell: Cell, d: usize) -> Owner
+    requires { ⌜ (6 ≤ cell .blocks) × (cell .sixths ≤ 12) ⌝ }
+    ensures { λ r. ⌜ r ≡ unitIn cell d ⌝ }
 {
+    let units = plan::units(cell);
     if d < units {
         return Owner::Phich(d as u8);
     }
-    let a = left / 3;
+    let h = 2 * (cell.blocks as usize) - 4;
+    let a = h / 3;
     if within(a, a + units, d) {
         return Owner::Phich((d - a) as u8);
     }
-    let b = 2 * left / 3;
+    let b = 2 * h / 3;
     if within(b, b + units, d) {
         return Owner::Phich((d - b) as u8);
     }
@@ -214,14 +211,14 @@ fn unit_in(left: usize, units: usize, d: usize) -> Owner
 }
 
 // The owner of group t's four places in symbol 0.
-fn group_at(identity: usize, blocks: usize, units: usize, t: usize) -> Owner
-    requires { ⌜ (identity < 65536) × (6 ≤ blocks) × (blocks < 256) × (units ≤ left blocks / 3) × (t < 2 * blocks) ⌝ }
-    ensures { λ r. ⌜ r ≡ groupAt identity blocks units t ⌝ }
+fn group_at(cell: Cell, t: usize) -> Owner
+    requires { ⌜ (6 ≤ cell .blocks) × (cell .sixths ≤ 12) × (t < 2 * cell .blocks) ⌝ }
+    ensures { λ r. ⌜ r ≡ groupAt cell t ⌝ }
 {
-    let a = format_group(identity, blocks, 0);
-    let b = format_group(identity, blocks, 1);
-    let c = format_group(identity, blocks, 2);
-    let d = format_group(identity, blocks, 3);
+    let a = format_group(cell, 0);
+    let b = format_group(cell, 1);
+    let c = format_group(cell, 2);
+    let d = format_group(cell, 3);
     if t == a {
         return Owner::Pcfich;
     }
@@ -234,21 +231,25 @@ fn group_at(identity: usize, blocks: usize, units: usize, t: usize) -> Owner
     if t == d {
         return Owner::Pcfich;
     }
-    let n = t - (one_below(a, t) + one_below(b, t) + one_below(c, t) + one_below(d, t));
-    let h = 2 * blocks - 4;
-    let far = (n + (h - identity % h)) % h;
-    unit_in(h, units, far)
+    let n = t
+        - (base::one_below(a, t)
+            + base::one_below(b, t)
+            + base::one_below(c, t)
+            + base::one_below(d, t));
+    let h = 2 * (cell.blocks as usize) - 4;
+    let far = (n + (h - (cell.identity as usize) % h)) % h;
+    unit_in(cell, far)
 }
 
 // The owner of subcarrier k in symbol 0 beside the cell's reference signals. A group skips two places, also with one port.
-fn control_at(identity: usize, blocks: usize, units: usize, k: usize) -> Owner
-    requires { ⌜ (identity < 65536) × (6 ≤ blocks) × (blocks < 256) × (units ≤ left blocks / 3) × (k < 12 * blocks) ⌝ }
-    ensures { λ r. ⌜ r ≡ controlAt identity blocks units k ⌝ }
+fn control_at(cell: Cell, k: usize) -> Owner
+    requires { ⌜ (6 ≤ cell .blocks) × (cell .sixths ≤ 12) × (k < 12 * cell .blocks) ⌝ }
+    ensures { λ r. ⌜ r ≡ controlAt cell k ⌝ }
 {
-    if k % 3 == identity % 3 {
+    if k % 3 == (cell.identity as usize) % 3 {
         return Owner::Idle;
     }
-    group_at(identity, blocks, units, k / 6)
+    group_at(cell, k / 6)
 }
 
 // The owner above the users, or idle.
@@ -256,26 +257,23 @@ fn fixed_at(cell: Cell, frame: Frame, s: usize, k: usize) -> Owner
     requires { ⌜ (6 ≤ cell .blocks) × (cell .ports ≤ 4) × (cell .sixths ≤ 12) × (s < 14) × (k < 12 * cell .blocks) ⌝ }
     ensures { λ r. ⌜ r ≡ fixedAt cell frame s k ⌝ }
 {
-    let identity = cell.identity as usize;
-    let blocks = cell.blocks as usize;
-    let slot = slot_length(cell.prefix);
-    let q = pilot_at(slot, identity, s, k);
+    let q = pilot_at(cell, s, k);
     if q < (cell.ports as usize) {
         return Owner::Crs(q as u8);
     }
     if s == 0 {
-        return control_at(identity, blocks, plan::units(cell), k);
+        return control_at(cell, k);
     }
-    if in_sync(slot, blocks, frame.subframe, s, k) {
-        if in_middle(blocks, 31, k) {
-            if s + 1 == slot {
+    if in_sync(cell, frame, s, k) {
+        if in_middle(cell, 31, k) {
+            if s + 1 == slot_length(cell) {
                 return Owner::Sync(Mark::Primary);
             }
             return Owner::Sync(Mark::Secondary);
         }
         return Owner::Held;
     }
-    if in_broadcast(slot, blocks, frame.subframe, s, k) {
+    if in_broadcast(cell, frame, s, k) {
         if q < 4 {
             return Owner::Held;
         }
@@ -340,7 +338,7 @@ pub fn owner_at(plan: &[u8], p: Plan, s: usize, k: usize) -> Owner
 fn in_grid(cell: Cell, s: usize, k: usize, port: usize) -> bool
     ensures { λ r. ⌜ r ≡ inGrid cell s k port ⌝ }
 {
-    if s < 2 * slot_length(cell.prefix) {
+    if s < 2 * slot_length(cell) {
         if k < 12 * (cell.blocks as usize) {
             port < (cell.ports as usize)
         } else {

@@ -19,7 +19,7 @@ pub const NUMBERS: u16 = 514;
 pub fn slot_symbols(cell: Cell) -> usize
     ensures { λ r. ⌜ r ≤ 7 ⌝ }
 {
-    layout::slot_length(cell.prefix)
+    layout::slot_length(cell)
 }
 
 // The number shown at a place. The caller has the plan from the plan check.
@@ -28,7 +28,7 @@ fn number_at(plan: &[u8], p: Plan, s: usize, k: usize) -> u16
     ensures { λ r. ⌜ r ≡ shownAt (now (plan .entry)) s k ⌝ }
 {
     let cell = p.cell;
-    if s < 2 * layout::slot_length(cell.prefix) {
+    if s < 2 * layout::slot_length(cell) {
         if k < 12 * (cell.blocks as usize) {
             return layout::owner_number(layout::owner_at(plan, p, s, k));
         }

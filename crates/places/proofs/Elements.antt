@@ -11,9 +11,9 @@ use Rattle.layout.specs.Owners.{symbols, carriers, owns}
 use Rattle.layout.specs.declared.Owner.{Owner}
 use Rattle.counts.specs.Sums.{sumTo}
 use Rattle.counts.specs.Counts.{countOf}
-use Rattle.places.specs.Counts.{cnt}
+use Rattle.base.specs.Counts.{cnt}
 use Rattle.places.specs.Places.{placeNumber, placesOf, ownsAt}
-use Rattle.places.proofs.Counts.{cnt-add}
+use Rattle.base.proofs.Counts.{cnt-add}
 use Rattle.places.proofs.Numbers.{owns-at}
 
 as-one : (b : Bool) → cond b 1 0 ≡ one b

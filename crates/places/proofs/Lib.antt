@@ -1,7 +1,5 @@
--- Laws that the proofs cite. For the crates above: Counts and Some know nothing of grids; Numbers, Quads and Listing (places and
--- indices of every owner, PCFICH and PHICH by quads), Elements (their number), Halves (rows, half block by half block).
-pub mod Counts
-pub mod Some
+-- Laws that the proofs cite. For the crates above: Numbers, Quads and Listing (places and indices of every owner, PCFICH and PHICH by
+-- quads), Elements (their number), Halves (an owner's places in a half block).
 pub mod Quads
 pub mod Channels
 pub mod Numbers
@@ -9,5 +7,4 @@ pub mod Listing
 pub mod Elements
 mod Inserted
 mod Ways
-mod Free
 pub mod Halves

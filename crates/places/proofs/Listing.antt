@@ -16,16 +16,16 @@ use Rattle.plan.specs.declared.Cell.{Cell}
 use Rattle.plan.specs.declared.Plan.{Plan}
 use Rattle.plan.specs.declared.Checked.the-variants.{Plan as accepted}
 use Rattle.plan.proofs.Listed.{and-left, and-right}
-use Rattle.layout.specs.Rules.{groupOf, inGroup, formatGroup, isFormat, pcfich, unitHas, phich}
+use Rattle.layout.specs.Rules.{groupOf, inGroup, formatGroup, isFormat, pcfich, unitGroup, unitHas, phich}
 use Rattle.layout.specs.Owners.{carriers, fixedRule, owns}
 use Rattle.layout.specs.declared.Owner.{Owner}
 use Rattle.layout.specs.declared.Owner.the-variants.{Crs, Sync, Pbch, Pcfich, Phich, User as UserOf, Held, Idle}
 use Rattle.layout.proofs.Few.{blocks-least, blocks-most, sixths-most}
 use Rattle.layout.proofs.Units.{units-fit}
-use Rattle.places.specs.Counts.{cnt, Listed}
-use Rattle.places.specs.Quads.{keeps, quadPlace, unitGroup, quadsPlace, quadsIndex, InQuads}
-use Rattle.places.specs.Places.{placeNumber, symbolAt, carrierAt, placesOf, ownsAt, FillingOrder, ascending, orderOf, placeBy, indexBy, placeOf, indexOf, PlacesListed}
-use Rattle.places.proofs.Counts.{listed-nth, listed-none, listed-count}
+use Rattle.base.specs.Counts.{Listed}
+use Rattle.places.specs.Quads.{quadPlace, quadsPlace, quadsIndex, InQuads}
+use Rattle.places.specs.Places.{placeNumber, symbolAt, carrierAt, placesOf, ownsAt, orderOf, placeBy, indexBy, placeOf, indexOf, PlacesListed}
+use Rattle.base.proofs.Counts.{listed-nth, listed-none, listed-count}
 use Rattle.places.proofs.Quads.{Groups, quads-listed, quads-exactly, quads-at}
 use Rattle.places.proofs.Channels.{format-groups, unit-groups}
 use Rattle.places.proofs.Numbers.{first-row}
@@ -62,58 +62,62 @@ module _ (own rule : ℕ → Bool) (W T m : ℕ) (at index : ℕ → ℕ) (some 
       }
 
 -- ---- the rules of PCFICH and of a PHICH unit, at a place
-module _ (C N : ℕ) where
-  pub pcfich-is : (s k : ℕ) → pcfich C N s k ≡ eqb s 0 && (keeps (C % 3) k && isFormat C N (k / 6))
-  unfolding pcfich inGroup groupOf keeps
-  pcfich-is s k = and-assoc (eqb s 0) (not (eqb (k % 3) (C % 3))) (isFormat C N (k / 6))
+module _ (c : Cell) where
+  pub pcfich-is : (s k : ℕ) → pcfich c s k ≡ inGroup c s k && isFormat c (groupOf c s k)
+  unfolding pcfich
+  pcfich-is s k = refl
 
-  pub phich-is : (M m s k : ℕ) → m < M → phich C N M m s k ≡ eqb s 0 && (keeps (C % 3) k && unitHas C N m 0 (k / 6))
-  unfolding phich inGroup groupOf keeps unitHas
-  phich-is M m s k h = rw (lt-ltb m M h) (and-assoc (eqb s 0) (not (eqb (k % 3) (C % 3))) (unitHas C N m 0 (k / 6)))
+  pub phich-is : (m s k : ℕ) → m < unitsOf c → phich c m s k ≡ inGroup c s k && unitHas c m 0 (groupOf c s k)
+  unfolding phich unitHas
+  phich-is m s k h = rw (lt-ltb m (unitsOf c) h) refl
 
-  pub phich-none : (M m s k : ℕ) → M ≤ m → phich C N M m s k ≡ false
+  phich-none : (m s k : ℕ) → unitsOf c ≤ m → phich c m s k ≡ false
   unfolding phich
-  phich-none M m s k h = rw (le-ltb m M h) refl
+  phich-none m s k h = rw (le-ltb m (unitsOf c) h) refl
+
+  -- groups are symbol 0's
+  in-first : (has : ℕ → Bool) (s k : ℕ) → inGroup c s k && has (groupOf c s k) ≡ eqb s 0 && (inGroup c 0 k && has (groupOf c 0 k))
+  unfolding inGroup groupOf
+  in-first has s k = and-assoc (eqb s 0) (not (eqb (k % 3) (c .identity % 3))) (has (k / 6))
 
 -- index 4i + j of PCFICH and of a unit
 module _ (w : List ℕ) (p : Plan) where
-  pub pcfich-place :
-      (i j : ℕ) → j < 4
-      → placeOf w p Pcfich (4 * i + j) ≡ placeNumber (p .cell) 0 (quadPlace (p .cell .identity) (formatGroup (p .cell .identity) (p .cell .blocks) i) j)
+  pub pcfich-place : (i j : ℕ) → j < 4 → placeOf w p Pcfich (4 * i + j) ≡ placeNumber (p .cell) 0 (quadPlace (p .cell) 0 (formatGroup (p .cell) i) j)
   unfolding placeOf placeBy orderOf
-  pcfich-place i j h = ap (placeNumber (p .cell) 0) (quads-at (p .cell .identity) (formatGroup (p .cell .identity) (p .cell .blocks)) i j h)
+  pcfich-place i j h = ap (placeNumber (p .cell) 0) (quads-at (p .cell) (formatGroup (p .cell)) i j h)
 
-  pub phich-place :
-      (m i j : ℕ) → j < 4
-      → placeOf w p (Phich m) (4 * i + j) ≡ placeNumber (p .cell) 0 (quadPlace (p .cell .identity) (unitGroup (p .cell .identity) (p .cell .blocks) m i) j)
+  pub phich-place : (m i j : ℕ) → j < 4 → placeOf w p (Phich m) (4 * i + j) ≡ placeNumber (p .cell) 0 (quadPlace (p .cell) 0 (unitGroup (p .cell) m i) j)
   unfolding placeOf placeBy orderOf
-  phich-place m i j h = ap (placeNumber (p .cell) 0) (quads-at (p .cell .identity) (unitGroup (p .cell .identity) (p .cell .blocks) m) i j h)
+  phich-place m i j h = ap (placeNumber (p .cell) 0) (quads-at (p .cell) (unitGroup (p .cell) m) i j h)
 
 -- ---- a channel of quads with the rule of its groups
 module _ (c : Cell) (n : ℕ) (group : ℕ → ℕ) (has : ℕ → Bool) (some : 0 < carriers c) (gs : Groups n (2 * c .blocks) group has) where
   pub by-quads :
-      (own : ℕ → Bool) → ((t : ℕ) → own t ≡ eqb (symbolAt c t) 0 && (keeps (c .identity % 3) (carrierAt c t) && has (carrierAt c t / 6)))
-      → Listed own (placesOf c) (4 * n) (λ (j : ℕ). placeNumber c 0 (quadsPlace (c .identity) group j)) (λ (t : ℕ). quadsIndex (c .identity) n group (carrierAt c t))
+      (own : ℕ → Bool) → ((t : ℕ) → own t ≡ inGroup c (symbolAt c t) (carrierAt c t) && has (groupOf c (symbolAt c t) (carrierAt c t)))
+      → Listed own (placesOf c) (4 * n) (λ (j : ℕ). placeNumber c 0 (quadsPlace c group j)) (λ (t : ℕ). quadsIndex c n group (carrierAt c t))
   by-quads own same =
-      let e : 6 * (2 * c .blocks) ≡ carriers c = omega arith in
-      row-listed own (λ (k : ℕ). keeps (c .identity % 3) k && has (k / 6)) (carriers c) (placesOf c) (4 * n) (quadsPlace (c .identity) group) (quadsIndex (c .identity) n group) some (first-row c) same
-      (rw e at (quads-listed (c .identity) n (2 * c .blocks) group has gs))
+      row-listed own (λ (k : ℕ). inGroup c 0 k && has (groupOf c 0 k)) (carriers c) (placesOf c) (4 * n) (quadsPlace c group) (quadsIndex c n group) some (first-row c)
+      (λ t. same t ∙ in-first c has (symbolAt c t) (carrierAt c t)) (quads-listed c n group has gs)
 
   at-quads :
-      (s k : ℕ) → k < carriers c → (r : Bool) → r ≡ eqb s 0 && (keeps (c .identity % 3) k && has (k / 6))
-      → (r ≡ true) ↔ ((s ≡ 0) × InQuads (c .identity) n group k)
+      (s k : ℕ) → k < carriers c → (r : Bool) → r ≡ inGroup c s k && has (groupOf c s k)
+      → (r ≡ true) ↔ ((s ≡ 0) × InQuads c n group k)
   at-quads s k in-k r e = (to, from)
     where
-      exactly : (keeps (c .identity % 3) k && has (k / 6) ≡ true) ↔ InQuads (c .identity) n group k
-      exactly = quads-exactly (c .identity) n (2 * c .blocks) group has gs k (omega arith)
+      exactly : (inGroup c 0 k && has (groupOf c 0 k) ≡ true) ↔ InQuads c n group k
+      exactly = quads-exactly c n group has gs k in-k
 
-      to : r ≡ true → (s ≡ 0) × InQuads (c .identity) n group k
+      first : r ≡ eqb s 0 && (inGroup c 0 k && has (groupOf c 0 k))
+      first = e ∙ in-first c has s k
+
+      to : r ≡ true → (s ≡ 0) × InQuads c n group k
       to h =
-          let both : eqb s 0 && (keeps (c .identity % 3) k && has (k / 6)) ≡ true = sym e ∙ h in
-          (eqb-true s 0 (and-left (eqb s 0) (keeps (c .identity % 3) k && has (k / 6)) both), exactly .0 (and-right (eqb s 0) (keeps (c .identity % 3) k && has (k / 6)) both))
+          let a = inGroup c 0 k && has (groupOf c 0 k) in
+          let both : eqb s 0 && a ≡ true = sym first ∙ h in
+          (eqb-true s 0 (and-left (eqb s 0) a both), exactly .0 (and-right (eqb s 0) a both))
 
-      from : (s ≡ 0) × InQuads (c .identity) n group k → r ≡ true
-      from h = e ∙ rw (eq-eqb s 0 (h .0)) (exactly .1 (h .1))
+      from : (s ≡ 0) × InQuads c n group k → r ≡ true
+      from h = first ∙ rw (eq-eqb s 0 (h .0)) (exactly .1 (h .1))
 
 -- places that are listed are as many as the owner's count says
 counted : (w : List ℕ) (p : Plan) (o : Owner) (m : ℕ) → Listed (ownsAt w p o) (placesOf (p .cell)) m (placeOf w p o) (indexOf w p o) → PlacesListed w p o
@@ -127,41 +131,38 @@ module _ (w : List ℕ) (p : Plan) (ok : checkOf w ≡ accepted p) where
   pub ranges : (6 ≤ p .cell .blocks) × (2 * p .cell .blocks < 512) × (unitsOf (p .cell) < 256)
   ranges = (omega (arith, blocks-least w p ok), omega (arith, blocks-most w p ok), omega (arith, blocks-most w p ok, units-fit (p .cell) (sixths-most w p ok) (omega (arith, blocks-least w p ok))))
 
-  pub pcfich-groups : Groups 4 (2 * p .cell .blocks) (formatGroup (p .cell .identity) (p .cell .blocks)) (isFormat (p .cell .identity) (p .cell .blocks))
-  pcfich-groups = format-groups (p .cell .identity) (p .cell .blocks) (omega (arith, blocks-least w p ok))
+  pub pcfich-groups : Groups 4 (2 * p .cell .blocks) (formatGroup (p .cell)) (isFormat (p .cell))
+  pcfich-groups = format-groups (p .cell) (omega (arith, blocks-least w p ok))
 
-  pub phich-groups :
-      (m : ℕ) → m < unitsOf (p .cell)
-      → Groups 3 (2 * p .cell .blocks) (unitGroup (p .cell .identity) (p .cell .blocks) m) (unitHas (p .cell .identity) (p .cell .blocks) m 0)
+  pub phich-groups : (m : ℕ) → m < unitsOf (p .cell) → Groups 3 (2 * p .cell .blocks) (unitGroup (p .cell) m) (unitHas (p .cell) m 0)
   phich-groups m h =
-      unit-groups (p .cell .identity) (p .cell .blocks) (omega (arith, blocks-least w p ok)) m
+      unit-groups (p .cell) (omega (arith, blocks-least w p ok)) m
       (omega (arith, units-fit (p .cell) (sixths-most w p ok) (omega (arith, blocks-least w p ok))))
 
-  pcfich-at :
-      (t : ℕ)
-      → ownsAt w p Pcfich t ≡ eqb (symbolAt (p .cell) t) 0 && (keeps (p .cell .identity % 3) (carrierAt (p .cell) t) && isFormat (p .cell .identity) (p .cell .blocks) (carrierAt (p .cell) t / 6))
+  pcfich-at : (t : ℕ) → ownsAt w p Pcfich t ≡ pcfich (p .cell) (symbolAt (p .cell) t) (carrierAt (p .cell) t)
   unfolding ownsAt owns fixedRule
-  pcfich-at t = pcfich-is (p .cell .identity) (p .cell .blocks) (symbolAt (p .cell) t) (carrierAt (p .cell) t)
+  pcfich-at t = refl
 
-  phich-at :
-      (m : ℕ) → m < unitsOf (p .cell) → (t : ℕ)
-      → ownsAt w p (Phich m) t ≡ eqb (symbolAt (p .cell) t) 0 && (keeps (p .cell .identity % 3) (carrierAt (p .cell) t) && unitHas (p .cell .identity) (p .cell .blocks) m 0 (carrierAt (p .cell) t / 6))
+  phich-at : (m t : ℕ) → ownsAt w p (Phich m) t ≡ phich (p .cell) m (symbolAt (p .cell) t) (carrierAt (p .cell) t)
   unfolding ownsAt owns fixedRule
-  phich-at m h t = phich-is (p .cell .identity) (p .cell .blocks) (unitsOf (p .cell)) m (symbolAt (p .cell) t) (carrierAt (p .cell) t) h
-
-  no-unit : (m : ℕ) → unitsOf (p .cell) ≤ m → (t : ℕ) → ownsAt w p (Phich m) t ≡ false
-  unfolding ownsAt owns fixedRule
-  no-unit m h t = phich-none (p .cell .identity) (p .cell .blocks) (unitsOf (p .cell)) m (symbolAt (p .cell) t) (carrierAt (p .cell) t) h
+  phich-at m t = refl
 
   pcfich-listed : Listed (ownsAt w p Pcfich) (placesOf (p .cell)) 16 (placeOf w p Pcfich) (indexOf w p Pcfich)
   unfolding placeOf indexOf placeBy indexBy orderOf
-  pcfich-listed = by-quads (p .cell) 4 (formatGroup (p .cell .identity) (p .cell .blocks)) (isFormat (p .cell .identity) (p .cell .blocks)) some-carriers pcfich-groups (ownsAt w p Pcfich) pcfich-at
+  pcfich-listed =
+      by-quads (p .cell) 4 (formatGroup (p .cell)) (isFormat (p .cell)) some-carriers pcfich-groups (ownsAt w p Pcfich)
+      (λ t. pcfich-at t ∙ pcfich-is (p .cell) (symbolAt (p .cell) t) (carrierAt (p .cell) t))
 
   phich-listed :
       (m : ℕ) → m < unitsOf (p .cell)
       → Listed (ownsAt w p (Phich m)) (placesOf (p .cell)) 12 (placeOf w p (Phich m)) (indexOf w p (Phich m))
   unfolding placeOf indexOf placeBy indexBy orderOf
-  phich-listed m h = by-quads (p .cell) 3 (unitGroup (p .cell .identity) (p .cell .blocks) m) (unitHas (p .cell .identity) (p .cell .blocks) m 0) some-carriers (phich-groups m h) (ownsAt w p (Phich m)) (phich-at m h)
+  phich-listed m h =
+      by-quads (p .cell) 3 (unitGroup (p .cell) m) (unitHas (p .cell) m 0) some-carriers (phich-groups m h) (ownsAt w p (Phich m))
+      (λ t. phich-at m t ∙ phich-is (p .cell) m (symbolAt (p .cell) t) (carrierAt (p .cell) t) h)
+
+  no-unit : (m : ℕ) → unitsOf (p .cell) ≤ m → (t : ℕ) → ownsAt w p (Phich m) t ≡ false
+  no-unit m h t = phich-at m t ∙ phich-none (p .cell) m (symbolAt (p .cell) t) (carrierAt (p .cell) t) h
 
   ascending-listed : (o : Owner) → orderOf (p .cell) o ≡ ascending → PlacesListed w p o
   unfolding placeOf indexOf placeBy indexBy
@@ -190,18 +191,14 @@ module _ (w : List ℕ) (p : Plan) (ok : checkOf w ≡ accepted p) where
   listed Idle = ascending-listed Idle refl
 
   -- THE LAW OF QUADS: PCFICH's rule holds just at the places of its four quads, a unit's at those of its three
-  pub pcfich-exactly :
-      (s k : ℕ) → k < carriers (p .cell)
-      → (owns w p Pcfich s k ≡ true) ↔ ((s ≡ 0) × InQuads (p .cell .identity) 4 (formatGroup (p .cell .identity) (p .cell .blocks)) k)
+  pub pcfich-exactly : (s k : ℕ) → k < carriers (p .cell) → (owns w p Pcfich s k ≡ true) ↔ ((s ≡ 0) × InQuads (p .cell) 4 (formatGroup (p .cell)) k)
   unfolding owns fixedRule
   pcfich-exactly s k in-k =
-      at-quads (p .cell) 4 (formatGroup (p .cell .identity) (p .cell .blocks)) (isFormat (p .cell .identity) (p .cell .blocks)) some-carriers pcfich-groups s k in-k
-      (pcfich (p .cell .identity) (p .cell .blocks) s k) (pcfich-is (p .cell .identity) (p .cell .blocks) s k)
+      at-quads (p .cell) 4 (formatGroup (p .cell)) (isFormat (p .cell)) some-carriers pcfich-groups s k in-k (pcfich (p .cell) s k) (pcfich-is (p .cell) s k)
 
   pub phich-exactly :
       (m : ℕ) → m < unitsOf (p .cell) → (s k : ℕ) → k < carriers (p .cell)
-      → (owns w p (Phich m) s k ≡ true) ↔ ((s ≡ 0) × InQuads (p .cell .identity) 3 (unitGroup (p .cell .identity) (p .cell .blocks) m) k)
+      → (owns w p (Phich m) s k ≡ true) ↔ ((s ≡ 0) × InQuads (p .cell) 3 (unitGroup (p .cell) m) k)
   unfolding owns fixedRule
   phich-exactly m h s k in-k =
-      at-quads (p .cell) 3 (unitGroup (p .cell .identity) (p .cell .blocks) m) (unitHas (p .cell .identity) (p .cell .blocks) m 0) some-carriers (phich-groups m h) s k in-k
-      (phich (p .cell .identity) (p .cell .blocks) (unitsOf (p .cell)) m s k) (phich-is (p .cell .identity) (p .cell .blocks) (unitsOf (p .cell)) m s k h)
+      at-quads (p .cell) 3 (unitGroup (p .cell) m) (unitHas (p .cell) m 0) some-carriers (phich-groups m h) s k in-k (phich (p .cell) m s k) (phich-is (p .cell) m s k h)

@@ -4,27 +4,21 @@ use mathlib.Core.Path.{_≡_, ap₂}
 use mathlib.Core.List.{List}
 use native.Mathlib.Nat.{div-add-mod', mod-lt, div-lt-iff-lt-mul, mul-le-mul-right}
 use native.Mathlib.Omega.{arith}
-use lib.Dec.{eqb}
-use Rattle.base.proofs.Tests.{by-test}
 use Rattle.base.proofs.Rows.{at-div, at-mod, row-inside}
 use Rattle.plan.specs.declared.Cell.{Cell}
 use Rattle.plan.specs.declared.Plan.{Plan}
-use Rattle.layout.specs.Rules.{slotLength}
 use Rattle.layout.specs.Owners.{symbols, carriers, owns}
 use Rattle.layout.specs.declared.Owner.{Owner}
+use Rattle.layout.proofs.Pilot.{slot-length}
 use Rattle.places.specs.Places.{placeNumber, symbolAt, carrierAt, placesOf, ownsAt}
-
-pub slot-length : (e : ℕ) → (6 ≤ slotLength e) × (slotLength e ≤ 7)
-unfolding slotLength
-slot-length e = by-test (eqb e 1) (λ d. rw d (omega arith)) (λ d. rw d (omega arith))
 
 module _ (c : Cell) where
   -- "S = 14 symbols (extended 12)"
   pub symbols-most : symbols c ≤ 14
-  symbols-most = omega (arith, slot-length (c .prefix))
+  symbols-most = omega (arith, slot-length c)
 
   pub symbols-least : 12 ≤ symbols c
-  symbols-least = omega (arith, slot-length (c .prefix))
+  symbols-least = omega (arith, slot-length c)
 
   pub place-symbol : (s k : ℕ) → k < carriers c → symbolAt c (placeNumber c s k) ≡ s
   place-symbol s k h = at-div s (carriers c) k h

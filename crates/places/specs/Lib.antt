@@ -1,4 +1,3 @@
-pub mod Counts
 pub mod Quads
 pub mod Places
 pub mod Steps

@@ -5,13 +5,13 @@ use mathlib.Core.Bool.{Bool}
 use mathlib.Core.List.{List}
 use Rattle.plan.specs.declared.Cell.{Cell}
 use Rattle.plan.specs.declared.Plan.{Plan}
-use Rattle.layout.specs.Rules.{formatGroup}
+use Rattle.layout.specs.Rules.{formatGroup, unitGroup}
 use Rattle.layout.specs.Owners.{symbols, carriers, owns}
 use Rattle.layout.specs.declared.Owner.{Owner}
 use Rattle.layout.specs.declared.Owner.the-variants.{Crs, Sync, Pbch, Pcfich, Phich, User as UserOf, Held, Idle}
 use Rattle.counts.specs.Counts.{countOf}
-use Rattle.places.specs.Counts.{cnt, nth, Listed}
-use Rattle.places.specs.Quads.{unitGroup, quadsPlace, quadsIndex}
+use Rattle.base.specs.Counts.{cnt, nth, Listed}
+use Rattle.places.specs.Quads.{quadsPlace, quadsIndex}
 
 -- document 01's place (s, k) as a number: an element on port p is at ((p×S+s)×12N+k)×3. In ascending numbers k goes first, then s
 abbrev pub placeNumber : Cell → ℕ → ℕ → ℕ
@@ -39,19 +39,19 @@ unfoldable pub orderOf : Cell → Owner → FillingOrder
 orderOf c (Crs q) = ascending
 orderOf c (Sync m) = ascending
 orderOf c Pbch = ascending
-orderOf c Pcfich = quads 4 (formatGroup (c .identity) (c .blocks))
-orderOf c (Phich m) = quads 3 (unitGroup (c .identity) (c .blocks) m)
+orderOf c Pcfich = quads 4 (formatGroup c)
+orderOf c (Phich m) = quads 3 (unitGroup c m)
 orderOf c (UserOf i) = ascending
 orderOf c Held = ascending
 orderOf c Idle = ascending
 
 unfoldable pub placeBy : Cell → (ℕ → Bool) → FillingOrder → ℕ → ℕ
 placeBy c own ascending j = nth own (placesOf c) j
-placeBy c own (quads n group) j = placeNumber c 0 (quadsPlace (c .identity) group j)
+placeBy c own (quads n group) j = placeNumber c 0 (quadsPlace c group j)
 
 unfoldable pub indexBy : Cell → (ℕ → Bool) → FillingOrder → ℕ → ℕ
 indexBy c own ascending t = cnt own t
-indexBy c own (quads n group) t = quadsIndex (c .identity) n group (carrierAt c t)
+indexBy c own (quads n group) t = quadsIndex c n group (carrierAt c t)
 
 -- THE PLACE of the owner's index j, and the index of its place t
 unfoldable pub placeOf : List ℕ → Plan → Owner → ℕ → ℕ

@@ -1,38 +1,33 @@
--- What the promises cite: the groups of PCFICH and of the PHICH units, and the four places of a group. Document 01, Owners; in its
--- letters: C identity, N blocks, k a subcarrier, m a unit; t is a group of symbol 0.
+-- What the promises cite: the four places of a control group, and the order in which quads fill their groups. Document 01, Owners: "a
+-- group's four places"; t is a group of symbol s, k a subcarrier.
 use Prim.Native.Nat.{ℕ, _+_, _*_, _/_, _%_, _<_}
 use mathlib.Core.Path.{_≡_}
-use mathlib.Core.Bool.{Bool, not}
+use mathlib.Core.Bool.{Bool, _&&_}
 use lib.Dec.{eqb}
-use Rattle.layout.specs.Rules.{isFormat, left, unitNumber}
-use Rattle.places.specs.Counts.{cnt, nth, which}
+use Rattle.base.specs.Counts.{cnt, nth, which}
+use Rattle.plan.specs.declared.Cell.{Cell}
+use Rattle.layout.specs.Rules.{groupOf, inGroup}
+use Rattle.layout.specs.Owners.{carriers}
 
--- "a group's four places skip k with k mod 3 = C mod 3": v is C mod 3
-unfoldable pub keeps : ℕ → ℕ → Bool
-keeps v k = not (eqb (k % 3) v)
+-- k is one of the four places of group t
+unfoldable pub groupHas : Cell → ℕ → ℕ → ℕ → Bool
+groupHas c s t k = inGroup c s k && eqb (groupOf c s k) t
 
--- the subcarrier of the j-th place of group t, in ascending k (36.211 6.2.4), and which of its group's places k is
-unfoldable pub quadPlace : ℕ → ℕ → ℕ → ℕ
-quadPlace C t j = 6 * t + nth (keeps (C % 3)) 6 j
+-- the subcarrier of its j-th place, in ascending k (36.211 6.2.4), and which of its group's places k is
+unfoldable pub quadPlace : Cell → ℕ → ℕ → ℕ → ℕ
+quadPlace c s t j = nth (groupHas c s t) (carriers c) j
 
-unfoldable pub quadIndex : ℕ → ℕ → ℕ
-quadIndex C k = cnt (keeps (C % 3)) (k % 6)
+unfoldable pub quadIndex : Cell → ℕ → ℕ → ℕ
+quadIndex c s k = cnt (groupHas c s (groupOf c s k)) k
 
--- "With h = 2N−4 groups left in ascending order, quad i of unit m takes number (C+m+floor(ih/3)) mod h"
-unfoldable pub isLeft : ℕ → ℕ → ℕ → Bool
-isLeft C N t = not (isFormat C N t)
+-- a channel of n quads, quad i in group `group i` of symbol 0: the subcarrier of its index j, which is 4 × quad + position in the
+-- group, and the index of subcarrier k
+unfoldable pub quadsPlace : Cell → (ℕ → ℕ) → ℕ → ℕ
+quadsPlace c group j = quadPlace c 0 (group (j / 4)) (j % 4)
 
-unfoldable pub unitGroup : ℕ → ℕ → ℕ → ℕ → ℕ
-unitGroup C N m i = nth (isLeft C N) (2 * N) (unitNumber C (left N) m i)
-
--- a channel of n quads, quad i in group `group i`: the subcarrier of its index j, which is 4 × quad + position in the group, and
--- the index of subcarrier k
-unfoldable pub quadsPlace : ℕ → (ℕ → ℕ) → ℕ → ℕ
-quadsPlace C group j = quadPlace C (group (j / 4)) (j % 4)
-
-unfoldable pub quadsIndex : ℕ → ℕ → (ℕ → ℕ) → ℕ → ℕ
-quadsIndex C n group k = 4 * which group n (k / 6) + quadIndex C k
+unfoldable pub quadsIndex : Cell → ℕ → (ℕ → ℕ) → ℕ → ℕ
+quadsIndex c n group k = 4 * which group n (groupOf c 0 k) + quadIndex c 0 k
 
 -- k is a place of one of its quads
-abbrev pub InQuads : ℕ → ℕ → (ℕ → ℕ) → ℕ → Type 0
-InQuads C n group k = (i : ℕ) × (j : ℕ) × (i < n) × (j < 4) × (k ≡ quadPlace C (group i) j)
+abbrev pub InQuads : Cell → ℕ → (ℕ → ℕ) → ℕ → Type 0
+InQuads c n group k = (i : ℕ) × (j : ℕ) × (i < n) × (j < 4) × (k ≡ quadPlace c 0 (group i) j)

@@ -1,33 +1,16 @@
 // The places of each channel in the order in which its values fill them (document 01, Owners). The specs say it for every owner; the
 // functions here are for the channels whose order is not that of the grid: PCFICH and the PHICH units, which go quad by quad.
 ghost use mathlib.Core.Path.{_≡_};
-ghost use Prim.Native.Nat.{ℕ, _+_, _≤_, _<_};
-ghost use lib.Dec.{ltb};
-ghost use Rattle.base.specs.Choice.{one};
-ghost use Rattle.layout.specs.Rules.{formatGroup, left, unitNumber};
-ghost use Rattle.places.specs.Quads.{unitGroup, quadPlace};
+ghost use Prim.Native.Nat.{ℕ, _+_, _*_, _≤_, _<_};
+ghost use Rattle.layout.specs.Rules.{unitNumber, unitGroup};
+ghost use Rattle.places.specs.Quads.{quadPlace};
 ghost use Rattle.places.specs.Steps.{stepOf};
 use plan::Cell;
-
-fn one_below(a: usize, b: usize) -> usize
-    ensures { λ r. ⌜ (r ≡ one (ltb a b)) × (r ≤ 1) ⌝ }
-{
-    if a < b { 1 } else { 0 }
-}
-
-// The group of PCFICH's quad i. Every accepted plan has 15 blocks or more.
-pub fn format_group(cell: Cell, i: usize) -> usize
-    requires { ⌜ (6 ≤ cell .blocks) × (i < 4) ⌝ }
-    ensures { λ r. ⌜ r ≡ formatGroup (cell .identity) (cell .blocks) i ⌝ }
-{
-    let blocks = cell.blocks as usize;
-    ((cell.identity as usize) + i * blocks / 2) % (2 * blocks)
-}
 
 // The number that quad i of PHICH unit m takes, of the groups left.
 fn unit_number(cell: Cell, m: usize, i: usize) -> usize
     requires { ⌜ (6 ≤ cell .blocks) × (m < 256) × (i < 3) ⌝ }
-    ensures { λ r. ⌜ (r ≡ unitNumber (cell .identity) (left (cell .blocks)) m i) × (r < 512) ⌝ }
+    ensures { λ r. ⌜ (r ≡ unitNumber cell m i) × (r < 512) ⌝ }
 {
     let h = 2 * (cell.blocks as usize) - 4;
     ((cell.identity as usize) + m + i * h / 3) % h
@@ -38,21 +21,26 @@ fn step(a: usize, b: usize, c: usize, d: usize, n: usize, t: usize) -> usize
     requires { ⌜ n < 512 ⌝ }
     ensures { λ r. ⌜ (r ≡ stepOf a b c d n t) × (r ≤ 1) ⌝ }
 {
-    one_below(
+    base::one_below(
         t,
-        n + 1 + (one_below(a, t) + one_below(b, t) + one_below(c, t) + one_below(d, t)),
+        n
+            + 1
+            + (base::one_below(a, t)
+                + base::one_below(b, t)
+                + base::one_below(c, t)
+                + base::one_below(d, t)),
     )
 }
 
 // The group of quad i of PHICH unit m. Every accepted plan has 15 blocks or more, and 25 units at most.
 pub fn unit_group(cell: Cell, m: usize, i: usize) -> usize
     requires { ⌜ (6 ≤ cell .blocks) × (m < 256) × (i < 3) ⌝ }
-    ensures { λ r. ⌜ r ≡ unitGroup (cell .identity) (cell .blocks) m i ⌝ }
+    ensures { λ r. ⌜ r ≡ unitGroup cell m i ⌝ }
 {
-    let a = format_group(cell, 0);
-    let b = format_group(cell, 1);
-    let c = format_group(cell, 2);
-    let d = format_group(cell, 3);
+    let a = layout::format_group(cell, 0);
+    let b = layout::format_group(cell, 1);
+    let c = layout::format_group(cell, 2);
+    let d = layout::format_group(cell, 3);
     let n = unit_number(cell, m, i);
     n
         + (step(a, b, c, d, n, a)
@@ -62,11 +50,10 @@ pub fn unit_group(cell: Cell, m: usize, i: usize) -> usize
 }
 
 // The subcarrier of the j-th place of group g in symbol 0: of each three subcarriers all but that of the identity's remainder.
-// A group of an accepted plan is below 200.
 pub fn quad_place(cell: Cell, g: usize, j: usize) -> usize
-    requires { ⌜ (g < 512) × (j < 4) ⌝ }
-    ensures { λ r. ⌜ r ≡ quadPlace (cell .identity) g j ⌝ }
+    requires { ⌜ (g < 2 * cell .blocks) × (j < 4) ⌝ }
+    ensures { λ r. ⌜ r ≡ quadPlace cell 0 g j ⌝ }
 {
     let rest = (cell.identity as usize) % 3;
-    6 * g + (3 * (j / 2) + j % 2 + one_below(rest, j % 2 + 1))
+    6 * g + (3 * (j / 2) + j % 2 + base::one_below(rest, j % 2 + 1))
 }

@@ -23,11 +23,11 @@ use Rattle.plan.specs.Valid.{CellIn}
 use Rattle.plan.specs.declared.Cell.{Cell}
 use Rattle.plan.specs.declared.Frame.{Frame}
 use Rattle.plan.proofs.Listed.{and-left, and-right}
-use Rattle.layout.specs.Rules.{slotOf, inSlot, standsAt, shift, middle}
-use Rattle.layout.specs.Owners.{slotOfCell, symbols, carriers}
+use Rattle.layout.specs.Rules.{slotLength, slotOf, inSlot, standsAt, crsShift, middle}
+use Rattle.layout.specs.Owners.{symbols, carriers}
+use Rattle.layout.proofs.Pilot.{slot-length}
 use Rattle.counts.proofs.Ranges.{big}
 use Rattle.places.specs.Places.{symbolAt, carrierAt, placesOf}
-use Rattle.places.proofs.Numbers.{slot-length}
 use Rattle.grid.specs.Writing.{Written}
 use Rattle.grid.proofs.Writing.{same}
 use Rattle.subframe.specs.Elements.{markNumber, pssElement, sssElement}
@@ -42,7 +42,7 @@ rows-most q L s a b d = let h : q * (2 * L) ≤ 255 * 14 = mul-le-mul {n₁ = q}
 pub row-most : (x y : ℕ) → x ≤ 3583 → y ≤ 3060 → x * y ≤ 10963980
 row-most x y a b = mul-le-mul {n₁ = x} {m₁ = y} {n₂ = 3583} {m₂ = 3060} a b
 
-pub row-is : (c : Cell) (s q : ℕ) {x L N : ℕ} → x ≡ q → L ≡ slotOfCell c → N ≡ c .blocks → (x * (2 * L) + s) * (12 * N) ≡ q * placesOf c + s * carriers c
+pub row-is : (c : Cell) (s q : ℕ) {x L N : ℕ} → x ≡ q → L ≡ slotLength c → N ≡ c .blocks → (x * (2 * L) + s) * (12 * N) ≡ q * placesOf c + s * carriers c
 row-is c s q {x} {L} {N} ex eL eN =
     (λ i. (ex i * (2 * eL i) + s) * (12 * eN i))
     ∙ add-mul (q * symbols c) s (carriers c)
@@ -50,14 +50,14 @@ row-is c s q {x} {L} {N} ex eL eN =
 
 pub row-at-most : (c : Cell) (s q : ℕ) → c .blocks < 256 → q < 256 → s < 14 → q * placesOf c + s * carriers c ≤ 10963980
 row-at-most c s q n l m =
-    let h = rows-most q (slotOfCell c) s l (omega (arith, slot-length (c .prefix))) m in
+    let h = rows-most q (slotLength c) s l (omega (arith, slot-length c)) m in
     omega (arith, row-is c s q refl refl refl, row-most (q * symbols c + s) (carriers c) h (omega arith))
 
 -- the first element of a mark
-pub mark-first : (c : Cell) (y : ℕ) {L r N : ℕ} → L ≡ slotOfCell c → r ≡ 0 * placesOf c + (L - y) * carriers c → N ≡ c .blocks
-    → r + (6 * N - 31) ≡ (slotOfCell c - y) * carriers c + (6 * c .blocks - 31)
+pub mark-first : (c : Cell) (y : ℕ) {L r N : ℕ} → L ≡ slotLength c → r ≡ 0 * placesOf c + (L - y) * carriers c → N ≡ c .blocks
+    → r + (6 * N - 31) ≡ (slotLength c - y) * carriers c + (6 * c .blocks - 31)
 mark-first c y {L} {r} {N} eL er eN =
-    let e : (L - y) * carriers c ≡ (slotOfCell c - y) * carriers c = ap (λ (x : ℕ). (x - y) * carriers c) eL in
+    let e : (L - y) * carriers c ≡ (slotLength c - y) * carriers c = ap (λ (x : ℕ). (x - y) * carriers c) eL in
     omega arith
 
 -- the place of element number q T + (s W + k)
@@ -83,7 +83,7 @@ number-of W T e = sym (div-add-mod' e T) ∙ ap (λ (x : ℕ). e / T * T + x) (s
 
 -- ---- reference signals
 module _ (c : Cell) (s q a first : ℕ) (ok : CellIn c) (in-s : s < symbols c)
-    (ea : a ≡ (shift q (inSlot (slotOfCell c) s) (slotOf (slotOfCell c) s) + c .identity) % 6) (ef : first ≡ q * placesOf c + s * carriers c + a) where
+    (ea : a ≡ (crsShift c q s + c .identity) % 6) (ef : first ≡ q * placesOf c + s * carriers c + a) where
   small : a < 6
   small = let h : a < 6 = omega arith in h
 
@@ -123,7 +123,7 @@ module _ (c : Cell) (s q a first : ℕ) (ok : CellIn c) (in-s : s < symbols c)
       let k = carrierAt c t in
       let u = eqb (e / T) q in
       let v = eqb (symbolAt c t) s in
-      let z = eqb (k % 6) ((shift q (inSlot (slotOfCell c) s) (slotOf (slotOfCell c) s) + c .identity) % 6) in
+      let z = eqb (k % 6) ((crsShift c q s + c .identity) % 6) in
       let uv : u && v ≡ true = and-left (u && v) z h in
       let m : k % 6 ≡ a = eqb-true _ _ (and-right (u && v) z h) ∙ sym ea in
       let at : e ≡ q * T + (s * carriers c + k) = number-of (carriers c) T e ∙ (λ i. eqb-true (e / T) q (and-left u v uv) i * T + (eqb-true (symbolAt c t) s (and-right u v uv) i * carriers c + k)) in
@@ -148,7 +148,7 @@ module _ (c : Cell) (s q a first : ℕ) (ok : CellIn c) (in-s : s < symbols c)
 
 -- as the code comes to them: the symbol's first element, the first subcarrier, and the blocks
 module _ (c : Cell) (s q : ℕ) {row a N : ℕ} (er : row ≡ q * placesOf c + s * carriers c)
-    (ea : a ≡ (shift q (inSlot (slotOfCell c) s) (slotOf (slotOfCell c) s) + c .identity) % 6) (eN : N ≡ c .blocks) {g : List ℕ} (ready : SignalIn c s q g) where
+    (ea : a ≡ (crsShift c q s + c .identity) % 6) (eN : N ≡ c .blocks) {g : List ℕ} (ready : SignalIn c s q g) where
   -- the last one lies in the grid
   pub crs-inside : 3 * (row + a + 6 * (2 * N)) + 2 < length g + 18
   crs-inside =
@@ -168,19 +168,19 @@ module _ (c : Cell) (s q : ℕ) {row a N : ℕ} (er : row ≡ q * placesOf c + s
       )
 
 -- ---- synchronisation signals
-module _ (c : Cell) (ok : CellIn c) (y first : ℕ) (in-y : (1 ≤ y) × (y ≤ 2)) (ef : first ≡ (slotOfCell c - y) * carriers c + (6 * c .blocks - 31)) where
+module _ (c : Cell) (ok : CellIn c) (y first : ℕ) (in-y : (1 ≤ y) × (y ≤ 2)) (ef : first ≡ (slotLength c - y) * carriers c + (6 * c .blocks - 31)) where
   mark-wide : 15 ≤ c .blocks
   mark-wide = big (c .blocks) (ok .blocks) .0
 
   mark-there : (e : ℕ) → inRow first 62 e ≡ true
-      → (e / placesOf c ≡ 0) × (symbolAt c (e % placesOf c) ≡ slotOfCell c - y) × (carrierAt c (e % placesOf c) ≡ 6 * c .blocks - 31 + (e - first))
+      → (e / placesOf c ≡ 0) × (symbolAt c (e % placesOf c) ≡ slotLength c - y) × (carrierAt c (e % placesOf c) ≡ 6 * c .blocks - 31 + (e - first))
   mark-there e h =
       let d = row-of first 62 e h in
       let x = e - first in
       let k = 6 * c .blocks - 31 + x in
-      let s = slotOfCell c - y in
+      let s = slotLength c - y in
       let l : k < carriers c = omega (arith, mark-wide) in
-      let in-s : s < symbols c = omega (arith, slot-length (c .prefix)) in
+      let in-s : s < symbols c = omega (arith, slot-length c) in
       let at : e ≡ 0 * placesOf c + (s * carriers c + k) = omega arith in (
         number-port (carriers c) (symbols c) 0 s k e l in-s at,
         number-symbol (carriers c) (symbols c) 0 s k e l in-s at,
@@ -193,7 +193,7 @@ module _ (c : Cell) (ok : CellIn c) (y first : ℕ) (in-y : (1 ≤ y) × (y ≤ 
       let d = mark-there e h in
       let r = row-of first 62 e h in
       let k = carrierAt c (e % placesOf c) in
-      let s : symbolAt c (e % placesOf c) + y ≡ slotOfCell c = omega (arith, slot-length (c .prefix), d .1) in
+      let s : symbolAt c (e % placesOf c) + y ≡ slotLength c = omega (arith, slot-length c, d .1) in
       let low : 6 * c .blocks ≤ k + 31 = omega (arith, mark-wide, d .2) in
       let high : k < 6 * c .blocks + 31 = omega (arith, mark-wide, d .2) in
       both (both (eq-eqb _ _ (d .0)) (eq-eqb _ _ s)) (both (le-leb _ _ low) (lt-ltb _ _ high))
@@ -206,16 +206,16 @@ module _ (c : Cell) (ok : CellIn c) (y first : ℕ) (in-y : (1 ≤ y) × (y ≤ 
       let k = carrierAt c t in
       let N = c .blocks in
       let u = eqb (e / T) 0 in
-      let v = eqb (symbolAt c t + y) (slotOfCell c) in
+      let v = eqb (symbolAt c t + y) (slotLength c) in
       let a = leb (6 * N) (k + 31) in
       let b = ltb k (6 * N + 31) in
       let uv : u && v ≡ true = and-left (u && v) (a && b) h in
       let ab : a && b ≡ true = and-right (u && v) (a && b) h in
       let low : 6 * N ≤ k + 31 = leb-true _ _ (and-left a b ab) in
       let high : k < 6 * N + 31 = ltb-true _ _ (and-right a b ab) in
-      let s : symbolAt c t + y ≡ slotOfCell c = eqb-true _ _ (and-right u v uv) in
-      let s′ : symbolAt c t ≡ slotOfCell c - y = omega arith in
-      let at : e ≡ 0 * T + ((slotOfCell c - y) * carriers c + k) = number-of (carriers c) T e ∙ (λ i. eqb-true (e / T) 0 (and-left u v uv) i * T + (s′ i * carriers c + k)) in
+      let s : symbolAt c t + y ≡ slotLength c = eqb-true _ _ (and-right u v uv) in
+      let s′ : symbolAt c t ≡ slotLength c - y = omega arith in
+      let at : e ≡ 0 * T + ((slotLength c - y) * carriers c + k) = number-of (carriers c) T e ∙ (λ i. eqb-true (e / T) 0 (and-left u v uv) i * T + (s′ i * carriers c + k)) in
       in-row first 62 e (omega arith) (omega (arith, mark-wide))
 
   pub mark-elements : (e : ℕ) → inRow first 62 e ≡ markSends c y e
@@ -245,7 +245,7 @@ module _ (c : Cell) (ok : CellIn c) (y first : ℕ) (in-y : (1 ≤ y) × (y ≤ 
   -- they lie in the grid
   pub mark-inside : {g : List ℕ} → MarkIn c g → 3 * (first + 62) ≤ length g
   mark-inside h =
-      let in-s : slotOfCell c - y < symbols c = omega (arith, slot-length (c .prefix)) in
-      let row : (slotOfCell c - y) * carriers c + carriers c ≤ placesOf c = row-inside (slotOfCell c - y) (symbols c) (carriers c) (carriers c) in-s (omega arith) in
+      let in-s : slotLength c - y < symbols c = omega (arith, slot-length c) in
+      let row : (slotLength c - y) * carriers c + carriers c ≤ placesOf c = row-inside (slotLength c - y) (symbols c) (carriers c) (carriers c) in-s (omega arith) in
       let port : 0 * placesOf c + placesOf c ≤ c .ports * placesOf c = row-inside 0 (c .ports) (placesOf c) (placesOf c) (h .room .some) (omega arith) in
       omega (arith, mark-wide, h .room .size)

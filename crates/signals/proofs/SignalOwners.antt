@@ -23,8 +23,8 @@ use Rattle.plan.specs.declared.Plan.{Plan}
 use Rattle.plan.specs.declared.Checked.the-variants.{Plan as accepted}
 use Rattle.plan.proofs.Valid.{valid}
 use Rattle.plan.proofs.Listed.{and-left, and-right}
-use Rattle.layout.specs.Rules.{slotOf, inSlot, crsSymbol, shift, standsAt, crsOf, crs, marked, used, pss, sss}
-use Rattle.layout.specs.Owners.{slotOfCell, fixedRule, owns}
+use Rattle.layout.specs.Rules.{slotLength, slotOf, inSlot, crsSymbol, crsShift, standsAt, crsOf, crs, marked, used, pss, sss}
+use Rattle.layout.specs.Owners.{fixedRule, owns}
 use Rattle.layout.specs.declared.Mark.the-variants.{Primary, Secondary}
 use Rattle.layout.specs.declared.Owner.the-variants.{Crs, Sync}
 use Rattle.counts.proofs.Ranges.{big}
@@ -54,17 +54,17 @@ module _ (w : List ℕ) (p : Plan) where
   module _ (q s e : ℕ) where
     crs-parts : crsSends (p .cell) s q e ≡ true
         → (e / placesOf (p .cell) ≡ q) × (symbolAt (p .cell) (e % placesOf (p .cell)) ≡ s)
-        × (standsAt (p .cell .identity) (carrierAt (p .cell) (e % placesOf (p .cell))) (shift q (inSlot (slotOfCell (p .cell)) s) (slotOf (slotOfCell (p .cell)) s)) ≡ true)
+        × (standsAt (p .cell) (crsShift (p .cell) q s) (carrierAt (p .cell) (e % placesOf (p .cell))) ≡ true)
     unfolding crsSends
     crs-parts h =
         let t = e % placesOf (p .cell) in
         let a = eqb (e / placesOf (p .cell)) q in
         let b = eqb (symbolAt (p .cell) t) s in
-        let d = standsAt (p .cell .identity) (carrierAt (p .cell) t) (shift q (inSlot (slotOfCell (p .cell)) s) (slotOf (slotOfCell (p .cell)) s)) in
+        let d = standsAt (p .cell) (crsShift (p .cell) q s) (carrierAt (p .cell) t) in
         let ab : a && b ≡ true = and-left (a && b) d h in
         (eqb-true _ _ (and-left a b ab), eqb-true _ _ (and-right a b ab), and-right (a && b) d h)
 
-    pub crs-sends : q < p .cell .ports → crsSymbol (slotOfCell (p .cell)) q (inSlot (slotOfCell (p .cell)) s) ≡ true → crsSends (p .cell) s q e ≡ true
+    pub crs-sends : q < p .cell .ports → crsSymbol (p .cell) q s ≡ true → crsSends (p .cell) s q e ≡ true
         → (owns w p (Crs q) s (carrierAt (p .cell) (e % placesOf (p .cell))) ≡ true) × (e / placesOf (p .cell) ≡ q) × (symbolAt (p .cell) (e % placesOf (p .cell)) ≡ s)
     unfolding owns fixedRule crs crsOf
     crs-sends l y h =
@@ -74,13 +74,13 @@ module _ (w : List ℕ) (p : Plan) where
     -- what is sent there, from the pair at the symbol's first value
     pub crs-value : checkOf w ≡ accepted p → crsSends (p .cell) s q e ≡ true
         → crsSent (p .cell)
-        (pairAt (crsInit (p .cell .prefix) (p .cell .identity) (2 * p .frame .subframe + slotOf (slotOfCell (p .cell)) s) (inSlot (slotOfCell (p .cell)) s)) (2 * (110 - p .cell .blocks))) e
+        (pairAt (crsInit (p .cell .prefix) (p .cell .identity) (2 * p .frame .subframe + slotOf (p .cell) s) (inSlot (p .cell) s)) (2 * (110 - p .cell .blocks))) e
         ≡ crsElement (p .cell) (p .frame) q (e / placesOf (p .cell)) s (carrierAt (p .cell) (e % placesOf (p .cell)))
     unfolding crsSent crsElement
     crs-value ok h =
         rw (eq-eqb (e / placesOf (p .cell)) q (crs-parts h .0))
         (ap (elementOf 2)
-        (value-from (p .cell .prefix) (p .cell .identity) (p .cell .blocks) (2 * p .frame .subframe + slotOf (slotOfCell (p .cell)) s) (inSlot (slotOfCell (p .cell)) s)
+        (value-from (p .cell .prefix) (p .cell .identity) (p .cell .blocks) (2 * p .frame .subframe + slotOf (p .cell) s) (inSlot (p .cell) s)
         (carrierAt (p .cell) (e % placesOf (p .cell)) / 6) (omega (arith, big (p .cell .blocks) (valid w p ok .cell .blocks)))))
 
   -- and every place of the signal is sent on its port
@@ -88,43 +88,42 @@ module _ (w : List ℕ) (p : Plan) where
       → crsSends (p .cell) (symbolAt (p .cell) (e % placesOf (p .cell))) q e ≡ true
   unfolding owns fixedRule crs crsOf crsSends
   crs-covers q e o d =
-      let L = slotOfCell (p .cell) in
       let s = symbolAt (p .cell) (e % placesOf (p .cell)) in
       let k = carrierAt (p .cell) (e % placesOf (p .cell)) in
-      let y = crsSymbol L q (inSlot L s) in
-      let v = standsAt (p .cell .identity) k (shift q (inSlot L s) (slotOf L s)) in
+      let y = crsSymbol (p .cell) q s in
+      let v = standsAt (p .cell) (crsShift (p .cell) q s) k in
       both (both (eq-eqb _ _ d) (eq-eqb s s refl)) (and-right y v (and-right (ltb q (p .cell .ports)) (y && v) o))
 
   -- ---- synchronisation signals
   module _ (e : ℕ) where
     mark-parts : (y : ℕ) → markSends (p .cell) y e ≡ true
-        → (e / placesOf (p .cell) ≡ 0) × (eqb (symbolAt (p .cell) (e % placesOf (p .cell)) + y) (slotOfCell (p .cell)) ≡ true)
-        × (used (p .cell .blocks) (carrierAt (p .cell) (e % placesOf (p .cell))) ≡ true)
+        → (e / placesOf (p .cell) ≡ 0) × (eqb (symbolAt (p .cell) (e % placesOf (p .cell)) + y) (slotLength (p .cell)) ≡ true)
+        × (used (p .cell) (carrierAt (p .cell) (e % placesOf (p .cell))) ≡ true)
     unfolding markSends
     mark-parts y h =
         let t = e % placesOf (p .cell) in
         let a = eqb (e / placesOf (p .cell)) 0 in
-        let b = eqb (symbolAt (p .cell) t + y) (slotOfCell (p .cell)) in
-        let d = used (p .cell .blocks) (carrierAt (p .cell) t) in
+        let b = eqb (symbolAt (p .cell) t + y) (slotLength (p .cell)) in
+        let d = used (p .cell) (carrierAt (p .cell) t) in
         let ab : a && b ≡ true = and-left (a && b) d h in
         (eqb-true _ _ (and-left a b ab), and-right a b ab, and-right (a && b) d h)
 
-    mark-whole : (y : ℕ) → marked (p .frame .subframe) && eqb (symbolAt (p .cell) (e % placesOf (p .cell)) + y) (slotOfCell (p .cell)) && used (p .cell .blocks) (carrierAt (p .cell) (e % placesOf (p .cell))) ≡ true
+    mark-whole : (y : ℕ) → marked (p .frame) && eqb (symbolAt (p .cell) (e % placesOf (p .cell)) + y) (slotLength (p .cell)) && used (p .cell) (carrierAt (p .cell) (e % placesOf (p .cell))) ≡ true
         → e / placesOf (p .cell) ≡ 0 → markSends (p .cell) y e ≡ true
     unfolding markSends
     mark-whole y o d =
         let t = e % placesOf (p .cell) in
-        let m = marked (p .frame .subframe) in
-        let b = eqb (symbolAt (p .cell) t + y) (slotOfCell (p .cell)) in
-        let u = used (p .cell .blocks) (carrierAt (p .cell) t) in
+        let m = marked (p .frame) in
+        let b = eqb (symbolAt (p .cell) t + y) (slotLength (p .cell)) in
+        let u = used (p .cell) (carrierAt (p .cell) t) in
         both (both (eq-eqb _ _ d) (and-right m b (and-left (m && b) u o))) (and-right (m && b) u o)
 
-    pub pss-sends : marked (p .frame .subframe) ≡ true
+    pub pss-sends : marked (p .frame) ≡ true
         → (markSends (p .cell) 1 e ≡ true) ↔ ((owns w p (Sync Primary) (symbolAt (p .cell) (e % placesOf (p .cell))) (carrierAt (p .cell) (e % placesOf (p .cell))) ≡ true) × (e / placesOf (p .cell) ≡ 0))
     unfolding owns fixedRule pss
     pss-sends m = (λ h. let d = mark-parts 1 h in (both (both m (d .1)) (d .2), d .0), λ h. mark-whole 1 (h .0) (h .1))
 
-    pub sss-sends : marked (p .frame .subframe) ≡ true
+    pub sss-sends : marked (p .frame) ≡ true
         → (markSends (p .cell) 2 e ≡ true) ↔ ((owns w p (Sync Secondary) (symbolAt (p .cell) (e % placesOf (p .cell))) (carrierAt (p .cell) (e % placesOf (p .cell))) ≡ true) × (e / placesOf (p .cell) ≡ 0))
     unfolding owns fixedRule sss
     sss-sends m = (λ h. let d = mark-parts 2 h in (both (both m (d .1)) (d .2), d .0), λ h. mark-whole 2 (h .0) (h .1))

@@ -12,8 +12,7 @@ use Rattle.gold.specs.declared.Registers.{Registers}
 use Rattle.codeword.specs.Streams.{outputs}
 use Rattle.plan.specs.declared.Cell.{Cell}
 use Rattle.plan.specs.declared.Frame.{Frame}
-use Rattle.layout.specs.Rules.{slotOf, inSlot, standsAt, shift, used}
-use Rattle.layout.specs.Owners.{slotOfCell}
+use Rattle.layout.specs.Rules.{slotLength, slotOf, inSlot, standsAt, crsShift, used}
 use Rattle.places.specs.Places.{symbolAt, carrierAt, placesOf}
 use Rattle.subframe.specs.Elements.{pssElement, sssElement}
 
@@ -21,7 +20,7 @@ use Rattle.subframe.specs.Elements.{pssElement, sssElement}
 unfoldable pub crsSends : Cell → ℕ → ℕ → ℕ → Bool
 crsSends c s q e =
     let t = e % placesOf c in
-    eqb (e / placesOf c) q && eqb (symbolAt c t) s && standsAt (c .identity) (carrierAt c t) (shift q (inSlot (slotOfCell c) s) (slotOf (slotOfCell c) s))
+    eqb (e / placesOf c) q && eqb (symbolAt c t) s && standsAt c (crsShift c q s) (carrierAt c t)
 
 -- value m of a symbol, two bits of what the pair gives
 unfoldable pub crsFrom : Registers → ℕ → Pair
@@ -35,7 +34,7 @@ crsSent c r e = elementOf 2 (crsFrom r (carrierAt c (e % placesOf c) / 6))
 unfoldable pub markSends : Cell → ℕ → ℕ → Bool
 markSends c y e =
     let t = e % placesOf c in
-    eqb (e / placesOf c) 0 && eqb (symbolAt c t + y) (slotOfCell c) && used (c .blocks) (carrierAt c t)
+    eqb (e / placesOf c) 0 && eqb (symbolAt c t + y) (slotLength c) && used c (carrierAt c t)
 
 unfoldable pub pssSent : Cell → ℕ → Element
 pssSent c e = pssElement c 0 (carrierAt c (e % placesOf c))

@@ -7,12 +7,11 @@ use plan::Frame;
 use sync::Sss;
 ghost use mathlib.Core.Path.{_≡_};
 ghost use Prim.Native.Nat.{ℕ, _+_, _-_, _*_, _%_, _≤_, _<_};
-ghost use lib.Dec.{eqb};
 ghost use lib.ListN.{length};
 ghost use Rattle.gold.specs.Steps.{after};
 ghost use Rattle.plan.specs.Valid.{CellIn};
-ghost use Rattle.layout.specs.Rules.{slotOf, inSlot, shift as shiftOf};
-ghost use Rattle.layout.specs.Owners.{slotOfCell, carriers};
+ghost use Rattle.layout.specs.Rules.{slotLength, slotOf, crsShift};
+ghost use Rattle.layout.specs.Owners.{carriers};
 ghost use Rattle.places.specs.Places.{placesOf};
 ghost use Rattle.grid.specs.Writing.{Written};
 ghost use Rattle.signals.specs.Signals.{crsSends, crsSent, markSends, pssSent, sssSent};
@@ -23,44 +22,37 @@ pub fn row_at(cell: Cell, s: usize, port: u8) -> usize
     requires { ⌜ s < 14 ⌝ }
     ensures { λ r. ⌜ r ≡ port * placesOf cell + s * carriers cell ⌝ }
 {
-    let rows = base::wide(port) * (2 * layout::slot_length(cell.prefix)) + s;
+    let rows = base::wide(port) * (2 * layout::slot_length(cell)) + s;
     rows * (12 * base::wide(cell.blocks))
 }
 
-// Whether symbol s is the first of its slot.
-fn opens(slot: usize, s: usize) -> bool
-    ensures { λ r. ⌜ r ≡ eqb (inSlot slot s) 0 ⌝ }
-{
-    if s < slot { s == 0 } else { s == slot }
-}
-
 // 0 for the first slot, 1 for the second.
-fn slot_number(slot: usize, s: usize) -> usize
-    ensures { λ r. ⌜ (r ≡ slotOf slot s) × (r ≤ 1) ⌝ }
+fn slot_number(cell: Cell, s: usize) -> usize
+    ensures { λ r. ⌜ (r ≡ slotOf cell s) × (r ≤ 1) ⌝ }
 {
-    if s < slot { 0 } else { 1 }
+    if s < layout::slot_length(cell) { 0 } else { 1 }
 }
 
 // The shift v of a port's reference signal in symbol s. No cell has more than four ports.
-fn shift(port: usize, slot: usize, s: usize) -> usize
+fn shift(cell: Cell, port: usize, s: usize) -> usize
     requires { ⌜ port < 4 ⌝ }
-    ensures { λ r. ⌜ (r ≡ shiftOf port (inSlot slot s) (slotOf slot s)) × (r ≤ 6) ⌝ }
+    ensures { λ r. ⌜ (r ≡ crsShift cell port s) × (r ≤ 6) ⌝ }
 {
     if port < 2 {
-        if opens(slot, s) {
+        if layout::in_slot(cell, s) == 0 {
             return 3 * port;
         }
         return 3 * (1 - port);
     }
-    3 * (port - 2 + slot_number(slot, s))
+    3 * (port - 2 + slot_number(cell, s))
 }
 
 // The first subcarrier of a port's reference signal in symbol s.
 pub fn first_carrier(cell: Cell, s: usize, port: u8) -> usize
     requires { ⌜ port < 4 ⌝ }
-    ensures { λ r. ⌜ r ≡ (shiftOf port (inSlot (slotOfCell cell) s) (slotOf (slotOfCell cell) s) + cell .identity) % 6 ⌝ }
+    ensures { λ r. ⌜ r ≡ (crsShift cell port s + cell .identity) % 6 ⌝ }
 {
-    let v = shift(base::wide(port), layout::slot_length(cell.prefix), s);
+    let v = shift(cell, base::wide(port), s);
     (v + (cell.identity as usize)) % 6
 }
 
@@ -116,9 +108,9 @@ pub fn fill_crs(r: Registers, cell: Cell, s: usize, port: u8, grid: &mut [u8]) -
 // The number of the first of 62 elements in the middle of the symbol that stands y from the first slot's end, on port 0.
 pub fn mark_at(cell: Cell, y: usize) -> usize
     requires { ⌜ CellIn cell × (y ≤ 2) ⌝ }
-    ensures { λ r. ⌜ r ≡ (slotOfCell cell - y) * carriers cell + (6 * cell .blocks - 31) ⌝ }
+    ensures { λ r. ⌜ r ≡ (slotLength cell - y) * carriers cell + (6 * cell .blocks - 31) ⌝ }
 {
-    let s = layout::slot_length(cell.prefix) - y;
+    let s = layout::slot_length(cell) - y;
     row_at(cell, s, 0) + (6 * base::wide(cell.blocks) - 31)
 }
 

@@ -11,8 +11,8 @@ use Rattle.sync.specs.Inner.{sssOf}
 use Rattle.plan.specs.Valid.{CellIn}
 use Rattle.plan.specs.declared.Cell.{Cell}
 use Rattle.plan.specs.declared.Frame.{Frame}
-use Rattle.layout.specs.Rules.{slotOf, inSlot, shift}
-use Rattle.layout.specs.Owners.{slotOfCell, carriers}
+use Rattle.layout.specs.Rules.{slotLength, slotOf, inSlot, crsShift}
+use Rattle.layout.specs.Owners.{carriers}
 use Rattle.places.specs.Places.{placesOf}
 use Rattle.grid.specs.Writing.{Room}
 use Rattle.compare.specs.declared.Seen.{Seen}
@@ -27,14 +27,14 @@ widest {P} {T} r = omega (arith, r .size, mul-le-mul {n₁ = P} {m₁ = T} {n₂
 
 pub crs-compared :
     (c : Cell) (s q : ℕ) {row a N : ℕ} → row ≡ q * placesOf c + s * carriers c
-    → a ≡ (shift q (inSlot (slotOfCell c) s) (slotOf (slotOfCell c) s) + c .identity) % 6 → N ≡ c .blocks → (r : Registers) {g : List ℕ} {seen : Seen} → SignalIn c s q g
+    → a ≡ (crsShift c q s + c .identity) % 6 → N ≡ c .blocks → (r : Registers) {g : List ℕ} {seen : Seen} → SignalIn c s q g
     → Compared (everySixth (row + a) (2 * N)) (pairSent r (row + a)) g seen → Compared (crsSends c s q) (crsSent c r) g seen
 crs-compared c s q {row} {a} er ea eN r {g} {seen} ready d =
     let first : row + a ≡ q * placesOf c + s * carriers c + a = ap (λ (x : ℕ). x + a) er in
     same (crs-elements c s q a (row + a) (ready .cell) (ready .symbol) ea first) (crs-values c s q a (row + a) (ready .cell) (ready .symbol) ea first r)
     (subst (λ (n : ℕ). Compared (everySixth (row + a) (2 * n)) (pairSent r (row + a)) g seen) eN d)
 
-module _ (c : Cell) (ok : CellIn c) (y first : ℕ) (in-y : (1 ≤ y) × (y ≤ 2)) (ef : first ≡ (slotOfCell c - y) * carriers c + (6 * c .blocks - 31)) {g : List ℕ} {seen : Seen} where
+module _ (c : Cell) (ok : CellIn c) (y first : ℕ) (in-y : (1 ≤ y) × (y ≤ 2)) (ef : first ≡ (slotLength c - y) * carriers c + (6 * c .blocks - 31)) {g : List ℕ} {seen : Seen} where
   pub pss-compared : Compared (inRow first 62) (phaseSent (c .identity) first) g seen → Compared (markSends c y) (pssSent c) g seen
   pss-compared k = same (mark-elements c ok y first in-y ef) (phases c ok y first in-y ef) k
 

@@ -16,7 +16,7 @@ use Rattle.plan.specs.declared.Plan.{Plan}
 use Rattle.plan.specs.declared.Checked.the-variants.{Plan as accepted}
 use Rattle.plan.proofs.Listed.{and-left}
 use Rattle.layout.specs.Rules.{slotOf, phich}
-use Rattle.layout.specs.Owners.{slotOfCell, gridPlace, symbols, carriers, fixedRule, userRule, owns, ownerOf}
+use Rattle.layout.specs.Owners.{gridPlace, symbols, carriers, fixedRule, userRule, owns, ownerOf}
 use Rattle.layout.specs.declared.Owner.{Owner}
 use Rattle.layout.specs.declared.Owner.the-variants.{Phich, User as UserOf}
 use Rattle.layout.proofs.OneOwner.{owner-is, owner-of}
@@ -44,7 +44,7 @@ module _ (w : List ℕ) (p : Plan) where
 
   pub user-owner : (i s k : ℕ) → owns w p (UserOf i) s k ≡ true → i < length (usersOf w p)
   unfolding owns userRule
-  user-owner i s k h = has-index (slotOf (slotOfCell (p .cell)) s) k (usersOf w p) i (and-left _ _ (and-left _ _ h))
+  user-owner i s k h = has-index (slotOf (p .cell) s) k (usersOf w p) i (and-left _ _ (and-left _ _ h))
 
 module _ (w : List ℕ) (p : Plan) (ok : checkOf w ≡ accepted p) (o : Owner) where
   -- at an owner's place stand the owner's element and its bytes

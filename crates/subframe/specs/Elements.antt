@@ -28,7 +28,7 @@ use Rattle.plan.specs.declared.User.{User}
 use Rattle.plan.specs.declared.Plan.{Plan}
 use Rattle.base.specs.Choice.{if_then_else_}
 use Rattle.layout.specs.Rules.{slotOf, inSlot}
-use Rattle.layout.specs.Owners.{slotOfCell, ownerOf}
+use Rattle.layout.specs.Owners.{ownerOf}
 use Rattle.layout.specs.declared.Mark.the-variants.{Primary, Secondary}
 use Rattle.layout.specs.declared.Owner.{Owner}
 use Rattle.layout.specs.declared.Owner.the-variants.{Crs, Sync, Pbch, Pcfich, Phich, User as UserOf, Held, Idle}
@@ -36,13 +36,12 @@ use Rattle.counts.specs.Counts.{countOf}
 use Rattle.places.specs.Places.{placeNumber, indexOf}
 use Rattle.payload.specs.Bits.{hiBits, ownerBits}
 
--- ---- CRS (6.10.1): "slots are n = 2f and 2f+1", of L symbols each; "k = 6m+((v+C) mod 6)", so m is k / 6; unit 2 on the signal's own
+-- ---- CRS (6.10.1): "slots are n = 2f and 2f+1"; "k = 6m+((v+C) mod 6)", so m is k / 6; unit 2 on the signal's own
 -- port q; "Other ports are silent there"
 unfoldable pub crsElement : Cell → Frame → ℕ → ℕ → ℕ → ℕ → Element
 crsElement cell frame q port s k =
-    let L = slotOfCell cell in
     if eqb port q
-    then elementOf 2 (crsValue (cell .prefix) (cell .identity) (cell .blocks) (2 * frame .subframe + slotOf L s) (inSlot L s) (k / 6))
+    then elementOf 2 (crsValue (cell .prefix) (cell .identity) (cell .blocks) (2 * frame .subframe + slotOf cell s) (inSlot cell s) (k / 6))
     else silent
 
 -- ---- synchronisation (6.11), "62 used, port 0": the first of them is subcarrier 6N − 31

@@ -14,8 +14,8 @@ use Rattle.plan.specs.Fields.{unitsOf}
 use Rattle.plan.specs.Rows.{usersOf}
 use Rattle.plan.specs.declared.Plan.{Plan}
 use Rattle.plan.specs.declared.Checked.the-variants.{Plan as accepted}
-use Rattle.layout.specs.Rules.{inSlot, crsSymbol, marked}
-use Rattle.layout.specs.Owners.{slotOfCell, symbols, owns}
+use Rattle.layout.specs.Rules.{slotLength, inSlot, crsSymbol, marked}
+use Rattle.layout.specs.Owners.{symbols, owns}
 use Rattle.layout.specs.declared.Mark.the-variants.{Primary, Secondary}
 use Rattle.layout.specs.declared.Owner.{Owner}
 use Rattle.layout.specs.declared.Owner.the-variants.{Crs, Sync, Pbch, Pcfich, Phich, User as UserOf, Held, Idle}
@@ -141,7 +141,7 @@ module _ (w : List ℕ) (p : Plan) (ok : checkOf w ≡ accepted p) {g : List ℕ
   crs-at : (s q e : ℕ) → q < P → crsIn p s q e ≡ true → CrsAt s q e
   unfolding crsIn ownsAt
   crs-at s q e l h =
-      let y = and-true (crsSymbol (slotOfCell (p .cell)) q (inSlot (slotOfCell (p .cell)) s)) (crsSends (p .cell) s q e) h in
+      let y = and-true (crsSymbol (p .cell) q s) (crsSends (p .cell) s q e) h in
       let d = crs-sends w p q s e l (y .0) (y .1) in
       record {
         port = d .1;
@@ -167,7 +167,7 @@ module _ (w : List ℕ) (p : Plan) (ok : checkOf w ≡ accepted p) {g : List ℕ
       let q = row-at (s .0) e (s .2) in
       in-of w p e (Crs (q .0)) (q .1 .of)
 
-  module _ (m : marked (p .frame .subframe) ≡ true) (e : ℕ) where
+  module _ (m : marked (p .frame) ≡ true) (e : ℕ) where
     pss-of : markSends (p .cell) 1 e ≡ true → Of w p (Sync Primary) e
     unfolding ownsAt
     pss-of h = let d = pss-sends w p e m .0 h in record { owned = d .0; port = omega (arith, d .1, room .some) }
@@ -182,7 +182,7 @@ module _ (w : List ℕ) (p : Plan) (ok : checkOf w ≡ accepted p) {g : List ℕ
   pub marks-in : (e : ℕ) → marksSend p e ≡ true → In w p 1 e
   unfolding marksSend
   marks-in e h =
-      let a = and-true (marked (p .frame .subframe)) (markSends (p .cell) 2 e || markSends (p .cell) 1 e) h in
+      let a = and-true (marked (p .frame)) (markSends (p .cell) 2 e || markSends (p .cell) 1 e) h in
       or-cases (markSends (p .cell) 2 e) (markSends (p .cell) 1 e) (a .1)
       (λ k. in-of w p e (Sync Secondary) (sss-of (a .0) e k))
       (λ k. in-of w p e (Sync Primary) (pss-of (a .0) e k))

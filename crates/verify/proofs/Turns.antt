@@ -21,8 +21,8 @@ use Rattle.plan.specs.declared.User.{User}
 use Rattle.plan.specs.declared.Plan.{Plan}
 use Rattle.plan.specs.declared.Checked.the-variants.{Plan as accepted}
 use Rattle.plan.proofs.Valid.{valid}
-use Rattle.layout.specs.Rules.{inSlot, crsSymbol, marked}
-use Rattle.layout.specs.Owners.{slotOfCell, symbols}
+use Rattle.layout.specs.Rules.{slotLength, inSlot, crsSymbol, marked}
+use Rattle.layout.specs.Owners.{symbols}
 use Rattle.layout.specs.declared.Owner.the-variants.{Pcfich, Phich, User as UserOf}
 use Rattle.compare.specs.declared.Seen.{Seen}
 use Rattle.compare.specs.declared.Seen.the-variants.{Weight}
@@ -121,13 +121,13 @@ module _ (w : List ℕ) (p : Plan) {g : List ℕ} (given : Given w p g) where
     crs-none = turn-none (crsIn p s)
 
     module _ (q : ℕ) {r : Seen} (so-far : Compared (crsPorts p s q) (due w p g) g r) where
-      pub crs-pass : crsSymbol (slotOfCell (p .cell)) q (inSlot (slotOfCell (p .cell)) s) ≡ false → Compared (crsPorts p s (q + 1)) (due w p g) g r
+      pub crs-pass : crsSymbol (p .cell) q s ≡ false → Compared (crsPorts p s (q + 1)) (due w p g) g r
       unfolding crsPorts crsIn
       crs-pass h = turn-pass (crsIn p s) q so-far (λ e. rw h refl)
 
       pub crs-more :
           {x t : Seen} (y : ℕ) (r₀ : Registers) → y ≡ s → r₀ ≡ pairAt (initOf p (Crs s q)) (firstBit p (Crs s q)) → t ≡ bothOf r x
-          → crsSymbol (slotOfCell (p .cell)) q (inSlot (slotOfCell (p .cell)) s) ≡ true → q < p .cell .ports
+          → crsSymbol (p .cell) q s ≡ true → q < p .cell .ports
           → Compared (crsSends (p .cell) y q) (crsSent (p .cell) r₀) g x → Compared (crsPorts p s (q + 1)) (due w p g) g t
       unfolding crsPorts crsIn initOf firstBit
       crs-more {x = x} y r₀ ey er et h l c =
@@ -166,12 +166,12 @@ module _ (w : List ℕ) (p : Plan) {g : List ℕ} (given : Given w p g) where
   pub marks-ready : MarkIn (p .cell) g
   marks-ready = record { cell = valid w p ok .cell; room = given .room }
 
-  pub marks-none : marked (p .frame .subframe) ≡ false → Compared (marksSend p) (due w p g) g (Weight 0)
+  pub marks-none : marked (p .frame) ≡ false → Compared (marksSend p) (due w p g) g (Weight 0)
   unfolding marksSend
   marks-none h = same (λ e. rw h refl) (λ e k. refl) (none (due w p g) g)
 
   pub marks-both :
-      {r x t : Seen} → t ≡ bothOf r x → marked (p .frame .subframe) ≡ true → Compared (markSends (p .cell) 1) (pssSent (p .cell)) g r
+      {r x t : Seen} → t ≡ bothOf r x → marked (p .frame) ≡ true → Compared (markSends (p .cell) 1) (pssSent (p .cell)) g r
       → Compared (markSends (p .cell) 2) (sssSent (p .cell) (p .frame)) g x → Compared (marksSend p) (due w p g) g t
   unfolding marksSend
   marks-both et m r s =

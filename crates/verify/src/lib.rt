@@ -40,7 +40,7 @@ fn see_crs(plan: &[u8], p: Plan, grid: &[u8]) -> Seen
     requires { ⌜ Given (now plan) p (now grid) ⌝ }
     ensures { λ r. ⌜ Compared (crsRows p (symbols (p .cell))) (due (now (plan .entry)) p (now (grid .entry))) (now (grid .entry)) r ⌝ }
 {
-    let rows = 2 * layout::slot_length(p.cell.prefix);
+    let rows = 2 * layout::slot_length(p.cell);
     let mut seen = Seen::Weight(0);
     let mut s: usize = 0;
     while s < rows {
@@ -55,7 +55,7 @@ fn see_marks(plan: &[u8], p: Plan, grid: &[u8]) -> Seen
     requires { ⌜ Given (now plan) p (now grid) ⌝ }
     ensures { λ r. ⌜ Compared (marksSend p) (due (now (plan .entry)) p (now (grid .entry))) (now (grid .entry)) r ⌝ }
 {
-    if layout::is_marked(p.frame.subframe) {
+    if layout::is_marked(p.frame) {
         let primary = signals_compare::compare_pss(p.cell, grid);
         return both(primary, signals_compare::compare_sss(p.cell, p.frame, grid));
     }

@@ -4,8 +4,8 @@ use Prim.Native.Nat.{ℕ}
 use mathlib.Core.Path.{ap₂, _∙_}
 use native.Mathlib.Omega.{arith}
 use Rattle.layout.specs.Rules.{inSlot}
+use Rattle.layout.proofs.Pilot.{slot-length}
 use Rattle.build.proofs.Pilots.{uses-first, uses-third, uses-second}
-use Rattle.places.proofs.Numbers.{slot-length}
 use Rattle.build.proofs.uses.Statement.{statement}
 use Rattle.build.proofs.uses.Tie as tie
 

@@ -1,7 +1,7 @@
 -- `control::put_pair` meets its contract: one place, then the other. Assumes nothing.
 use native.Mathlib.Omega.{arith}
 use mathlib.Core.Path.{_∙_}
-use Rattle.control.proofs.PairPlaces.{group-few, first-ok, second-ok, both}
+use Rattle.control.proofs.PairPlaces.{first-ok, second-ok, both}
 use borrow.Author.Needs.{needs}
 use Rattle.control.proofs.put_pair.Statement.{statement}
 use Rattle.control.proofs.put_pair.Tie as tie
@@ -13,7 +13,7 @@ mul-quad-place : tie.Need-mul-quad-place
 mul-quad-place c = omega (arith, c .before .before .pre .half)
 
 quad-place-requires : tie.Need-quad-place-requires
-quad-place-requires c κs = (group-few (c .before .before .pre), omega (arith, c .before .before .pre .half))
+quad-place-requires c κs = (c .before .before .pre .group, omega (arith, c .before .before .pre .half))
 
 put-place-requires : tie.Need-put-place-requires
 put-place-requires c κs = first-ok (c .before .before .before .before .pre) (c .before .before .places-of .ensures) (c .before .quad-place .ensures)
@@ -25,7 +25,7 @@ add-quad-place : tie.Need-add-quad-place
 add-quad-place c = omega (arith, c .before .before .before .before .before .before .before .pre .half)
 
 quad-place-requires-2 : tie.Need-quad-place-requires-2
-quad-place-requires-2 c κs = (group-few (c .before .before .before .before .before .before .before .pre), omega (arith, c .before .before .before .before .before .before .before .pre .half))
+quad-place-requires-2 c κs = (c .before .before .before .before .before .before .before .pre .group, omega (arith, c .before .before .before .before .before .before .before .pre .half))
 
 put-place-requires-2 : tie.Need-put-place-requires-2
 put-place-requires-2 c κs =

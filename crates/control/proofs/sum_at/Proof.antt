@@ -5,7 +5,7 @@ use mir.Facts.{toZ-ofZ}
 use native.Mathlib.Omega.{arith}
 use borrow.Author.Needs.{needs}
 use Rattle.control.proofs.Listings.{six, unit-few}
-use Rattle.control.proofs.Reading.{group-few, element-fits, sum-is}
+use Rattle.control.proofs.Reading.{group-in, element-fits, sum-is}
 use Rattle.control.proofs.sum_at.Statement.{statement}
 use Rattle.control.proofs.sum_at.Tie as tie
 
@@ -15,7 +15,7 @@ unit-group-requires c κs = (six (c .before .args .cell) (c .before .pre .0 .cel
 quad-place-requires : tie.Need-quad-place-requires
 quad-place-requires c κs =
     let s = c .before .before in
-    (group-few (s .pre .0) (s .pre .1) (c .unit-group .ensures), omega arith)
+    (group-in (s .pre .0) (s .pre .1) (c .unit-group .ensures), omega arith)
 
 add-own-port : tie.Need-add-own-port
 add-own-port c =

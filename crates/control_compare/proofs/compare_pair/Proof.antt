@@ -1,6 +1,6 @@
 -- `control_compare::compare_pair` meets its contract: the two places are not one. Assumes nothing.
 use native.Mathlib.Omega.{arith}
-use Rattle.control.proofs.PairPlaces.{group-few, first-ok}
+use Rattle.control.proofs.PairPlaces.{first-ok}
 use Rattle.control_compare.proofs.Turns.{second-ok, both-few, pair-seen}
 use borrow.Author.Needs.{needs}
 use Rattle.control_compare.proofs.compare_pair.Statement.{statement}
@@ -13,7 +13,7 @@ mul-quad-place : tie.Need-mul-quad-place
 mul-quad-place c = omega (arith, c .before .before .pre .half)
 
 quad-place-requires : tie.Need-quad-place-requires
-quad-place-requires c κs = (group-few (c .before .before .pre), omega (arith, c .before .before .pre .half))
+quad-place-requires c κs = (c .before .before .pre .group, omega (arith, c .before .before .pre .half))
 
 look-place-requires : tie.Need-look-place-requires
 look-place-requires c κs = first-ok (c .before .before .before .pre) (c .before .places-of .ensures) (c .quad-place .ensures)
@@ -25,7 +25,7 @@ add-quad-place : tie.Need-add-quad-place
 add-quad-place c = omega (arith, c .before .before .before .before .pre .half)
 
 quad-place-requires-2 : tie.Need-quad-place-requires-2
-quad-place-requires-2 c κs = (group-few (c .before .before .before .before .pre), omega (arith, c .before .before .before .before .pre .half))
+quad-place-requires-2 c κs = (c .before .before .before .before .pre .group, omega (arith, c .before .before .before .before .pre .half))
 
 look-place-requires-2 : tie.Need-look-place-requires-2
 look-place-requires-2 c κs = second-ok (c .before .before .before .before .before .pre) (c .before .before .before .places-of .ensures) (c .quad-place2 .ensures)

@@ -5,6 +5,9 @@ use borrow.Author.Needs.{needs}
 use Rattle.counts.proofs.centre_halves.Statement.{statement}
 use Rattle.counts.proofs.centre_halves.Tie as tie
 
+cast-n : tie.Need-cast-n
+cast-n c = search needs
+
 mul-start : tie.Need-mul-start
 mul-start c = search needs
 
@@ -30,15 +33,16 @@ sub-result : tie.Need-sub-result
 sub-result c = search needs
 
 returns : tie.Need-returns
-returns c = shared (c .before .before .before .args .blocks) (c .before .before .before .args .first) (c .before .before .before .args .count) _ _ (c .before .before .larger .ensures) (c .before .smaller .ensures) (omega arith)
+returns c = shared (c .before .before .before .before .args .cell .blocks) (c .before .before .before .before .args .first) (c .before .before .before .before .args .count) _ _ (c .before .before .larger .ensures) (c .before .smaller .ensures) (omega arith)
 
 returns-2 : tie.Need-returns-2
-returns-2 c = not-shared (c .before .before .before .args .blocks) (c .before .before .before .args .first) (c .before .before .before .args .count) _ _ (c .before .before .larger .ensures) (c .before .smaller .ensures) (omega arith)
+returns-2 c = not-shared (c .before .before .before .before .args .cell .blocks) (c .before .before .before .before .args .first) (c .before .before .before .before .args .count) _ _ (c .before .before .larger .ensures) (c .before .smaller .ensures) (omega arith)
 
 pub centre-halves-spec : {M : Type 1} → statement M
 centre-halves-spec =
     tie.close
     (tie.spec
+    cast-n
     mul-start
     add-start
     larger-requires

@@ -1,6 +1,6 @@
 -- The places of the grid. Assumes nothing.
 use native.Mathlib.Omega.{arith}
-use Rattle.counts.proofs.Signals.{slot-length}
+use Rattle.layout.proofs.Pilot.{slot-length}
 use Rattle.counts.proofs.KindWays.{slot-places, all-places}
 use borrow.Author.Needs.{needs}
 use Rattle.counts.proofs.places.Statement.{statement}
@@ -16,7 +16,7 @@ slot-length-requires : tie.Need-slot-length-requires
 slot-length-requires c κs = search needs
 
 mul-result-2 : tie.Need-mul-result-2
-mul-result-2 c = let z = slot-length (c .before .before .args .cell .prefix) in omega (arith, c .slot-length .ensures)
+mul-result-2 c = let z = slot-length (c .before .before .args .cell) in omega (arith, c .slot-length .ensures)
 
 mul-result-3 : tie.Need-mul-result-3
 mul-result-3 c = omega (arith, slot-places (c .before .before .args .cell) _ (c .slot-length .ensures) (omega arith))

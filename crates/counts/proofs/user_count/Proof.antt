@@ -5,7 +5,7 @@ use mathlib.Core.Path.{_≡_, refl}
 use borrow.Author.Needs.{needs}
 use Rattle.counts.specs.Sums.{sumTo}
 use Rattle.counts.specs.Users.{rowElements}
-use Rattle.counts.proofs.Signals.{slot-length}
+use Rattle.layout.proofs.Pilot.{slot-length}
 use Rattle.counts.proofs.UserSizes.{row-most}
 use Rattle.counts.proofs.Ways.{no-rows, more-rows, all-rows}
 use Rattle.counts.proofs.user_count.Statement.{statement}
@@ -21,19 +21,19 @@ slot-length-requires : tie.Need-slot-length-requires Inv-loop μ-loop
 slot-length-requires c κs = search needs
 
 mul-symbols : tie.Need-mul-symbols Inv-loop μ-loop
-mul-symbols c = let z = slot-length (c .before .args .cell .prefix) in omega (arith, c .slot-length .ensures)
+mul-symbols c = let z = slot-length (c .before .args .cell) in omega (arith, c .slot-length .ensures)
 
 loop-holds : tie.Need-loop-holds Inv-loop μ-loop
 loop-holds c = (omega arith, no-rows (c .before .args .cell) (c .before .args .frame) (c .before .args .first) (c .before .args .count), omega arith)
 
 row-count-requires : tie.Need-row-count-requires Inv-loop μ-loop
-row-count-requires c κs = let z = slot-length (c .before .before .before .args .cell .prefix) in omega (arith, c .before .before .slot-length .ensures)
+row-count-requires c κs = let z = slot-length (c .before .before .before .args .cell) in omega (arith, c .before .before .slot-length .ensures)
 
 add-n : tie.Need-add-n Inv-loop μ-loop
-add-n c = let z = slot-length (c .before .before .before .before .args .cell .prefix) in omega (arith, c .before .before .before .slot-length .ensures, c .row-count .ensures, row-most (c .before .before .before .before .args .cell) (c .before .before .before .before .args .frame) (c .before .before .before .before .args .first) (c .before .before .before .before .args .count) (c .before .before .loop .s))
+add-n c = let z = slot-length (c .before .before .before .before .args .cell) in omega (arith, c .before .before .before .slot-length .ensures, c .row-count .ensures, row-most (c .before .before .before .before .args .cell) (c .before .before .before .before .args .frame) (c .before .before .before .before .args .first) (c .before .before .before .before .args .count) (c .before .before .loop .s))
 
 add-s : tie.Need-add-s Inv-loop μ-loop
-add-s c = let z = slot-length (c .before .before .before .before .args .cell .prefix) in omega (arith, c .before .before .before .slot-length .ensures)
+add-s c = let z = slot-length (c .before .before .before .before .args .cell) in omega (arith, c .before .before .before .slot-length .ensures)
 
 loop-less : tie.Need-loop-less Inv-loop μ-loop
 loop-less c = omega arith

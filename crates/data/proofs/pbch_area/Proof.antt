@@ -1,9 +1,9 @@
 -- PBCH's area is the one that the specs name.
 use native.Mathlib.Omega.{arith}
-use Rattle.places.proofs.Numbers.{slot-length}
 use Rattle.data.proofs.Made.{pbch-made}
 use borrow.Author.Needs.{needs}
 use Rattle.data.proofs.pbch_area.Statement.{statement}
+use Rattle.layout.proofs.Pilot.{slot-length}
 use Rattle.data.proofs.pbch_area.Tie as tie
 
 slot-length-requires : tie.Need-slot-length-requires
@@ -13,7 +13,7 @@ wide-requires : tie.Need-wide-requires
 wide-requires c κs = search needs
 
 add-t5 : tie.Need-add-t5
-add-t5 c = omega (arith, c .before .slot-length .ensures, slot-length (c .before .before .args .cell .prefix))
+add-t5 c = omega (arith, c .before .slot-length .ensures, slot-length (c .before .before .args .cell))
 
 sub-t6 : tie.Need-sub-t6
 sub-t6 c = search needs

@@ -1,11 +1,18 @@
 -- The free subcarriers of six in a symbol: one law for each return.
+use mathlib.Core.Path.{sym, _∙_, subst}
 use native.Mathlib.Omega.{arith}
-use mathlib.Core.Path.{sym, subst, _∙_}
+use Rattle.layout.proofs.Pilot.{in-slot-le}
 use Rattle.data.specs.Rows.{Masks}
-use Rattle.data.proofs.Masks.{slot-in, mask-first, mask-third, mask-second, mask-other, mask-none}
+use Rattle.data.proofs.Masks.{mask-first, mask-third, mask-second, mask-other, mask-none}
 use borrow.Author.Needs.{needs}
 use Rattle.data.proofs.row_mask.Statement.{statement}
 use Rattle.data.proofs.row_mask.Tie as tie
+
+slot-length-requires : tie.Need-slot-length-requires
+slot-length-requires c κs = search needs
+
+cast-identity : tie.Need-cast-identity
+cast-identity c = search needs
 
 in-slot-requires : tie.Need-in-slot-requires
 in-slot-requires c κs = search needs
@@ -14,10 +21,10 @@ mask-but-requires : tie.Need-mask-but-requires
 mask-but-requires c κs = search needs
 
 returns : tie.Need-returns
-returns c = subst (Masks (c .before .before .before .args .slot) (c .before .before .before .args .identity) (c .before .before .before .args .signals) (c .before .before .before .args .s)) (sym (c .mask-but .ensures)) (mask-first (c .before .before .before .args .slot) (c .before .before .before .args .identity) (c .before .before .before .args .signals) (c .before .before .before .args .s) (c .before .before .before .pre .0) (sym (c .before .before .in-slot .ensures) ∙ c .before .if1 .taken))
+returns c = subst (Masks (c .before .before .before .before .before .args .cell) (c .before .before .before .before .before .args .signals) (c .before .before .before .before .before .args .s)) (sym (c .mask-but .ensures)) (mask-first (c .before .before .before .before .before .args .cell) (c .before .before .before .before .before .args .signals) (c .before .before .before .before .before .args .s) (sym (c .before .before .in-slot .ensures) ∙ c .before .if1 .taken))
 
 add-if2 : tie.Need-add-if2
-add-if2 c = omega (arith, c .before .in-slot .ensures, slot-in (c .before .before .args .slot) (c .before .before .args .s))
+add-if2 c = omega (arith, c .before .in-slot .ensures, in-slot-le (c .before .before .before .before .args .cell) (c .before .before .before .before .args .s))
 
 add-mask-but : tie.Need-add-mask-but
 add-mask-but c = search needs
@@ -26,13 +33,13 @@ mask-but-requires-2 : tie.Need-mask-but-requires-2
 mask-but-requires-2 c κs = search needs
 
 returns-2 : tie.Need-returns-2
-returns-2 c = subst (Masks (c .before .before .before .before .args .slot) (c .before .before .before .before .args .identity) (c .before .before .before .before .args .signals) (c .before .before .before .before .args .s)) (sym (c .mask-but2 .ensures)) (mask-third (c .before .before .before .before .args .slot) (c .before .before .before .before .args .identity) (c .before .before .before .before .args .signals) (c .before .before .before .before .args .s) (c .before .before .before .before .pre .0) (λ e. c .before .before .if1 .left (c .before .before .before .in-slot .ensures ∙ e)) (omega (arith, c .before .before .before .in-slot .ensures, c .before .if2 .taken)))
+returns-2 c = subst (Masks (c .before .before .before .before .before .before .args .cell) (c .before .before .before .before .before .before .args .signals) (c .before .before .before .before .before .before .args .s)) (sym (c .mask-but2 .ensures)) (mask-third (c .before .before .before .before .before .before .args .cell) (c .before .before .before .before .before .before .args .signals) (c .before .before .before .before .before .before .args .s) (λ e. c .before .before .if1 .left (c .before .before .before .in-slot .ensures ∙ e)) (omega (arith, c .before .before .before .in-slot .ensures, c .before .before .before .before .before .slot-length .ensures, c .before .if2 .taken)))
 
 mask-but-requires-3 : tie.Need-mask-but-requires-3
 mask-but-requires-3 c κs = search needs
 
 returns-3 : tie.Need-returns-3
-returns-3 c = subst (Masks (c .before .before .before .before .before .before .args .slot) (c .before .before .before .before .before .before .args .identity) (c .before .before .before .before .before .before .args .signals) (c .before .before .before .before .before .before .args .s)) (sym (c .mask-but3 .ensures)) (mask-second (c .before .before .before .before .before .before .args .slot) (c .before .before .before .before .before .before .args .identity) (c .before .before .before .before .before .before .args .signals) (c .before .before .before .before .before .before .args .s) (c .before .before .before .before .before .before .pre .0) (λ e. c .before .before .before .before .if1 .left (c .before .before .before .before .before .in-slot .ensures ∙ e)) (λ e. c .before .before .before .if2 .left (omega (arith, c .before .before .before .before .before .in-slot .ensures))) (sym (c .before .before .before .before .before .in-slot .ensures) ∙ c .before .before .if3 .taken) (c .before .if4 .taken))
+returns-3 c = subst (Masks (c .before .before .before .before .before .before .before .before .args .cell) (c .before .before .before .before .before .before .before .before .args .signals) (c .before .before .before .before .before .before .before .before .args .s)) (sym (c .mask-but3 .ensures)) (mask-second (c .before .before .before .before .before .before .before .before .args .cell) (c .before .before .before .before .before .before .before .before .args .signals) (c .before .before .before .before .before .before .before .before .args .s) (λ e. c .before .before .before .before .if1 .left (c .before .before .before .before .before .in-slot .ensures ∙ e)) (λ e. c .before .before .before .if2 .left (omega (arith, c .before .before .before .before .before .in-slot .ensures, c .before .before .before .before .before .before .before .slot-length .ensures))) (sym (c .before .before .before .before .before .in-slot .ensures) ∙ c .before .before .if3 .taken) (omega (arith, c .before .before .before .before .before .before .before .slot-length .ensures, c .before .if4 .taken)))
 
 add-mask-but-2 : tie.Need-add-mask-but-2
 add-mask-but-2 c = search needs
@@ -41,15 +48,17 @@ mask-but-requires-4 : tie.Need-mask-but-requires-4
 mask-but-requires-4 c κs = search needs
 
 returns-4 : tie.Need-returns-4
-returns-4 c = subst (Masks (c .before .before .before .before .before .before .args .slot) (c .before .before .before .before .before .before .args .identity) (c .before .before .before .before .before .before .args .signals) (c .before .before .before .before .before .before .args .s)) (sym (c .mask-but4 .ensures)) (mask-other (c .before .before .before .before .before .before .args .slot) (c .before .before .before .before .before .before .args .identity) (c .before .before .before .before .before .before .args .signals) (c .before .before .before .before .before .before .args .s) (c .before .before .before .before .before .before .pre .0) (λ e. c .before .before .before .before .if1 .left (c .before .before .before .before .before .in-slot .ensures ∙ e)) (λ e. c .before .before .before .if2 .left (omega (arith, c .before .before .before .before .before .in-slot .ensures))) (sym (c .before .before .before .before .before .in-slot .ensures) ∙ c .before .before .if3 .taken) (c .before .if4 .left))
+returns-4 c = subst (Masks (c .before .before .before .before .before .before .before .before .args .cell) (c .before .before .before .before .before .before .before .before .args .signals) (c .before .before .before .before .before .before .before .before .args .s)) (sym (c .mask-but4 .ensures)) (mask-other (c .before .before .before .before .before .before .before .before .args .cell) (c .before .before .before .before .before .before .before .before .args .signals) (c .before .before .before .before .before .before .before .before .args .s) (λ e. c .before .before .before .before .if1 .left (c .before .before .before .before .before .in-slot .ensures ∙ e)) (λ e. c .before .before .before .if2 .left (omega (arith, c .before .before .before .before .before .in-slot .ensures, c .before .before .before .before .before .before .before .slot-length .ensures))) (sym (c .before .before .before .before .before .in-slot .ensures) ∙ c .before .before .if3 .taken) (omega (arith, c .before .before .before .before .before .before .before .slot-length .ensures, c .before .if4 .left)))
 
 returns-5 : tie.Need-returns-5
-returns-5 c = mask-none (c .before .before .before .before .args .slot) (c .before .before .before .before .args .identity) (c .before .before .before .before .args .signals) (c .before .before .before .before .args .s) (c .before .before .before .before .pre .0) (λ e. c .before .before .if1 .left (c .before .before .before .in-slot .ensures ∙ e)) (λ e. c .before .if2 .left (omega (arith, c .before .before .before .in-slot .ensures))) (λ e. c .if3 .left (c .before .before .before .in-slot .ensures ∙ e))
+returns-5 c = mask-none (c .before .before .before .before .before .before .args .cell) (c .before .before .before .before .before .before .args .signals) (c .before .before .before .before .before .before .args .s) (λ e. c .before .before .if1 .left (c .before .before .before .in-slot .ensures ∙ e)) (λ e. c .before .if2 .left (omega (arith, c .before .before .before .in-slot .ensures, c .before .before .before .before .before .slot-length .ensures))) (λ e. c .if3 .left (c .before .before .before .in-slot .ensures ∙ e))
 
 pub row-mask-spec : {M : Type 1} → statement M
 row-mask-spec =
     tie.close
     (tie.spec
+    slot-length-requires
+    cast-identity
     in-slot-requires
     mask-but-requires
     returns

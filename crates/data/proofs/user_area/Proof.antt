@@ -1,9 +1,9 @@
 -- A user's area is the one that the specs name.
 use native.Mathlib.Omega.{arith}
-use Rattle.places.proofs.Numbers.{slot-length}
 use Rattle.data.proofs.Made.{user-made}
 use borrow.Author.Needs.{needs}
 use Rattle.data.proofs.user_area.Statement.{statement}
+use Rattle.layout.proofs.Pilot.{slot-length}
 use Rattle.data.proofs.user_area.Tie as tie
 
 wide-requires : tie.Need-wide-requires
@@ -19,7 +19,7 @@ slot-length-requires : tie.Need-slot-length-requires
 slot-length-requires c κs = search needs
 
 mul-t8 : tie.Need-mul-t8
-mul-t8 c = omega (arith, c .slot-length .ensures, slot-length (c .before .before .before .before .args .cell .prefix))
+mul-t8 c = omega (arith, c .slot-length .ensures, slot-length (c .before .before .before .before .args .cell))
 
 mul-t9 : tie.Need-mul-t9
 mul-t9 c = search needs

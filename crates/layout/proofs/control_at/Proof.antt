@@ -5,6 +5,9 @@ use Rattle.layout.specs.Chain.{controlAt}
 use Rattle.layout.proofs.control_at.Statement.{statement}
 use Rattle.layout.proofs.control_at.Tie as tie
 
+cast-if1 : tie.Need-cast-if1
+cast-if1 c = omega arith
+
 returns : tie.Need-returns
 unfolding controlAt
 returns c = simp (eq-eqb _ _ (c .if1 .taken))
@@ -17,4 +20,4 @@ unfolding controlAt
 returns-2 c = simp (ne-eqb _ _ (c .before .if1 .left)) (c .group-at .ensures)
 
 pub control-at-spec : {M : Type 1} → statement M
-control-at-spec = tie.close (tie.spec returns group-at-requires returns-2)
+control-at-spec = tie.close (tie.spec cast-if1 returns group-at-requires returns-2)

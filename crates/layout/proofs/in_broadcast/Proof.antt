@@ -1,27 +1,39 @@
 -- One law for each return.
 use native.Mathlib.Omega.{arith}
 use Rattle.layout.proofs.Ways.{area-early, area-frame, area-in, area-late}
+use Rattle.layout.proofs.Pilot.{slot-length}
 use Rattle.layout.proofs.in_broadcast.Statement.{statement}
 use Rattle.layout.proofs.in_broadcast.Tie as tie
 
 returns : tie.Need-returns
-returns c = area-frame (c .before .args .slot) (c .before .args .blocks) (c .before .args .subframe) (c .before .args .s) (c .before .args .k) (c .if1 .taken)
+returns c = area-frame (c .before .before .args .cell) (c .before .before .args .frame) (c .before .before .args .s) (c .before .before .args .k) (c .if1 .taken)
+
+slot-length-requires : tie.Need-slot-length-requires
+slot-length-requires c κs = tt
 
 returns-2 : tie.Need-returns-2
-returns-2 c = area-early (c .before .before .args .slot) (c .before .before .args .blocks) (c .before .before .args .subframe) (c .before .before .args .s) (c .before .before .args .k) (c .before .if1 .left) (c .if2 .taken)
+returns-2 c = area-early (c .before .before .before .before .args .cell) (c .before .before .before .before .args .frame) (c .before .before .before .before .args .s) (c .before .before .before .before .args .k) _ (c .before .slot-length .ensures) (c .before .before .if1 .left) (c .if2 .taken)
 
 add-if3 : tie.Need-add-if3
-add-if3 c = omega arith
+add-if3 c = omega (arith, slot-length (c .before .before .before .before .args .cell), c .before .slot-length .ensures)
 
 in-middle-requires : tie.Need-in-middle-requires
 in-middle-requires c κs = omega arith
 
 returns-3 : tie.Need-returns-3
-returns-3 c = area-in (c .before .before .before .before .args .slot) (c .before .before .before .before .args .blocks) (c .before .before .before .before .args .subframe) (c .before .before .before .before .args .s) (c .before .before .before .before .args .k) (c .before .before .before .if1 .left) (c .before .before .if2 .left) (c .before .if3 .taken) _ (c .in-middle .ensures)
+returns-3 c = area-in (c .before .before .before .before .before .before .args .cell) (c .before .before .before .before .before .before .args .frame) (c .before .before .before .before .before .before .args .s) (c .before .before .before .before .before .before .args .k) _ (c .before .before .before .slot-length .ensures) (c .before .before .before .before .if1 .left) (c .before .before .if2 .left) (c .before .if3 .taken) _ (c .in-middle .ensures)
 
 returns-4 : tie.Need-returns-4
-returns-4 c = area-late (c .before .before .before .args .slot) (c .before .before .before .args .blocks) (c .before .before .before .args .subframe) (c .before .before .before .args .s) (c .before .before .before .args .k) (c .before .before .if1 .left) (c .before .if2 .left) (c .if3 .left)
+returns-4 c = area-late (c .before .before .before .before .before .args .cell) (c .before .before .before .before .before .args .frame) (c .before .before .before .before .before .args .s) (c .before .before .before .before .before .args .k) _ (c .before .before .slot-length .ensures) (c .before .before .before .if1 .left) (c .before .if2 .left) (c .if3 .left)
 
 pub in-broadcast-spec : {M : Type 1} → statement M
 in-broadcast-spec =
-    tie.close (tie.spec returns returns-2 add-if3 in-middle-requires returns-3 returns-4)
+    tie.close
+    (tie.spec
+    returns
+    slot-length-requires
+    returns-2
+    add-if3
+    in-middle-requires
+    returns-3
+    returns-4)

@@ -2,7 +2,7 @@
 use mathlib.Core.Path.{refl}
 use native.Mathlib.Omega.{arith}
 use borrow.Author.Tests.{lt-ltb, le-ltb}
-use Rattle.layout.proofs.Fixed.{slot-length}
+use Rattle.layout.proofs.Pilot.{slot-length}
 use Rattle.layout.specs.Query.{inGrid}
 use Rattle.layout.proofs.in_grid.Statement.{statement}
 use Rattle.layout.proofs.in_grid.Tie as tie
@@ -11,7 +11,7 @@ slot-length-requires : tie.Need-slot-length-requires
 slot-length-requires c κs = tt
 
 mul-if1 : tie.Need-mul-if1
-mul-if1 c = let z = slot-length (c .before .args .cell .prefix) in omega (arith, c .slot-length .ensures)
+mul-if1 c = let z = slot-length (c .before .args .cell) in omega (arith, c .slot-length .ensures)
 
 cast-if2 : tie.Need-cast-if2
 cast-if2 c = omega arith

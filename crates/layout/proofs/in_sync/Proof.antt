@@ -4,6 +4,9 @@ use Rattle.layout.proofs.Ways.{sync-earlier, sync-last, sync-no, sync-u
 use Rattle.layout.proofs.in_sync.Statement.{statement}
 use Rattle.layout.proofs.in_sync.Tie as tie
 
+slot-length-requires : tie.Need-slot-length-requires
+slot-length-requires c κs = tt
+
 is-marked-requires : tie.Need-is-marked-requires
 is-marked-requires c κs = tt
 
@@ -14,7 +17,7 @@ in-middle-requires : tie.Need-in-middle-requires
 in-middle-requires c κs = omega arith
 
 returns : tie.Need-returns
-returns c = sync-last (c .before .before .before .before .args .slot) (c .before .before .before .before .args .blocks) (c .before .before .before .before .args .subframe) (c .before .before .before .before .args .s) (c .before .before .before .before .args .k) _ (c .before .before .before .is-marked .ensures) (c .before .before .if1 .taken) (c .before .if2 .taken) _ (c .in-middle .ensures)
+returns c = sync-last (c .before .before .before .before .before .args .cell) (c .before .before .before .before .before .args .frame) (c .before .before .before .before .before .args .s) (c .before .before .before .before .before .args .k) _ (c .before .before .before .before .slot-length .ensures) _ (c .before .before .before .is-marked .ensures) (c .before .before .if1 .taken) (c .before .if2 .taken) _ (c .in-middle .ensures)
 
 add-if3 : tie.Need-add-if3
 add-if3 c = omega arith
@@ -23,18 +26,19 @@ in-middle-requires-2 : tie.Need-in-middle-requires-2
 in-middle-requires-2 c κs = omega arith
 
 returns-2 : tie.Need-returns-2
-returns-2 c = sync-earlier (c .before .before .before .before .before .args .slot) (c .before .before .before .before .before .args .blocks) (c .before .before .before .before .before .args .subframe) (c .before .before .before .before .before .args .s) (c .before .before .before .before .before .args .k) _ (c .before .before .before .before .is-marked .ensures) (c .before .before .before .if1 .taken) (c .before .if3 .taken) _ (c .in-middle2 .ensures)
+returns-2 c = sync-earlier (c .before .before .before .before .before .before .args .cell) (c .before .before .before .before .before .before .args .frame) (c .before .before .before .before .before .before .args .s) (c .before .before .before .before .before .before .args .k) _ (c .before .before .before .before .before .slot-length .ensures) _ (c .before .before .before .before .is-marked .ensures) (c .before .before .before .if1 .taken) (c .before .if3 .taken) _ (c .in-middle2 .ensures)
 
 returns-3 : tie.Need-returns-3
-returns-3 c = sync-no (c .before .before .before .before .args .slot) (c .before .before .before .before .args .blocks) (c .before .before .before .before .args .subframe) (c .before .before .before .before .args .s) (c .before .before .before .before .args .k) _ (c .before .before .before .is-marked .ensures) (c .before .before .if1 .taken) (c .before .if2 .left) (c .if3 .left)
+returns-3 c = sync-no (c .before .before .before .before .before .args .cell) (c .before .before .before .before .before .args .frame) (c .before .before .before .before .before .args .s) (c .before .before .before .before .before .args .k) _ (c .before .before .before .before .slot-length .ensures) _ (c .before .before .before .is-marked .ensures) (c .before .before .if1 .taken) (c .before .if2 .left) (c .if3 .left)
 
 returns-4 : tie.Need-returns-4
-returns-4 c = sync-unmarked (c .before .before .args .slot) (c .before .before .args .blocks) (c .before .before .args .subframe) (c .before .before .args .s) (c .before .before .args .k) _ (c .before .is-marked .ensures) (c .if1 .left)
+returns-4 c = sync-unmarked (c .before .before .before .args .cell) (c .before .before .before .args .frame) (c .before .before .before .args .s) (c .before .before .before .args .k) _ (c .before .before .slot-length .ensures) _ (c .before .is-marked .ensures) (c .if1 .left)
 
 pub in-sync-spec : {M : Type 1} → statement M
 in-sync-spec =
     tie.close
     (tie.spec
+    slot-length-requires
     is-marked-requires
     add-if2
     in-middle-requires

@@ -5,13 +5,13 @@ use Rattle.layout.proofs.OneOwner.{owner-of}
 use native.Mathlib.Omega.{arith}
 use Rattle.layout.proofs.Few.{blocks-least, ports-most, sixths-most}
 use Rattle.plan.proofs.Counts.{users-most}
-use Rattle.layout.proofs.Fixed.{slot-length}
+use Rattle.layout.proofs.Pilot.{slot-length}
 use Rattle.layout.proofs.Ways.{end-fixed, end-control, end-user}
 use Rattle.layout.proofs.owner_at.Statement.{statement}
 use Rattle.layout.proofs.owner_at.Tie as tie
 
 fixed-at-requires : tie.Need-fixed-at-requires
-fixed-at-requires c κs = let z = slot-length (c .before .before .before .before .args .p .cell .prefix) in omega (arith, c .before .before .before .before .pre, blocks-least (c .before .before .before .before .args .plan .now) (c .before .before .before .before .args .p) (c .before .before .before .before .pre .0), ports-most (c .before .before .before .before .args .plan .now) (c .before .before .before .before .args .p) (c .before .before .before .before .pre .0), sixths-most (c .before .before .before .before .args .plan .now) (c .before .before .before .before .args .p) (c .before .before .before .before .pre .0))
+fixed-at-requires c κs = let z = slot-length (c .before .before .before .before .args .p .cell) in omega (arith, c .before .before .before .before .pre, blocks-least (c .before .before .before .before .args .plan .now) (c .before .before .before .before .args .p) (c .before .before .before .before .pre .0), ports-most (c .before .before .before .before .args .plan .now) (c .before .before .before .before .args .p) (c .before .before .before .before .pre .0), sixths-most (c .before .before .before .before .args .plan .now) (c .before .before .before .before .args .p) (c .before .before .before .before .pre .0))
 
 enum-told : tie.Need-enum-told
 enum-told c = search needs

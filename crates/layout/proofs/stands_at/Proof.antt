@@ -5,6 +5,9 @@ use Rattle.layout.specs.Rules.{standsAt}
 use Rattle.layout.proofs.stands_at.Statement.{statement}
 use Rattle.layout.proofs.stands_at.Tie as tie
 
+cast-result : tie.Need-cast-result
+cast-result c = omega arith
+
 add-result : tie.Need-add-result
 add-result c = omega arith
 
@@ -13,4 +16,4 @@ unfolding standsAt
 returns c = refl
 
 pub stands-at-spec : {M : Type 1} → statement M
-stands-at-spec = tie.close (tie.spec add-result returns)
+stands-at-spec = tie.close (tie.spec cast-result add-result returns)

@@ -30,7 +30,7 @@ add-result-3 : tie.Need-add-result-3
 add-result-3 c = search needs
 
 returns : tie.Need-returns
-returns c = place-sum (c .before .before .args .cell .identity) (c .before .before .args .g) (c .before .before .args .j) (omega arith) (c .one-below .ensures .0)
+returns c = place-sum (c .before .before .args .cell) (c .before .before .args .g) (c .before .before .args .j) (omega arith) (omega arith) (c .one-below .ensures .0)
 
 pub quad-place-spec : {M : Type 1} → statement M
 quad-place-spec =

@@ -45,7 +45,7 @@ add-result-4 : tie.Need-add-result-4
 add-result-4 c = search needs
 
 returns : tie.Need-returns
-returns c = unit-sum (c .before .before .before .before .before .before .before .before .before .args .cell .identity) (c .before .before .before .before .before .before .before .before .before .args .cell .blocks) (c .before .before .before .before .before .before .before .before .before .args .m) (c .before .before .before .before .before .before .before .before .before .args .i) (omega arith) (c .before .before .before .before .before .before .before .before .format-group .ensures) (c .before .before .before .before .before .before .before .format-group2 .ensures) (c .before .before .before .before .before .before .format-group3 .ensures) (c .before .before .before .before .before .format-group4 .ensures) (c .before .before .before .before .unit-number .ensures .0) (c .before .before .before .step .ensures .0) (c .before .before .step2 .ensures .0) (c .before .step3 .ensures .0) (c .step4 .ensures .0)
+returns c = unit-sum (c .before .before .before .before .before .before .before .before .before .args .cell) (c .before .before .before .before .before .before .before .before .before .args .m) (c .before .before .before .before .before .before .before .before .before .args .i) (omega arith) (c .before .before .before .before .before .before .before .before .format-group .ensures) (c .before .before .before .before .before .before .before .format-group2 .ensures) (c .before .before .before .before .before .before .format-group3 .ensures) (c .before .before .before .before .before .format-group4 .ensures) (c .before .before .before .before .unit-number .ensures .0) (c .before .before .before .step .ensures .0) (c .before .before .step2 .ensures .0) (c .before .step3 .ensures .0) (c .step4 .ensures .0)
 
 pub unit-group-spec : {M : Type 1} → statement M
 unit-group-spec =

@@ -32,7 +32,7 @@ rem-result c = search needs
 
 returns : tie.Need-returns
 unfolding Rattle.layout.specs.Rules.unitNumber
-returns c = number-in (c .before .before .args .cell .identity) (c .before .before .args .cell .blocks) (c .before .before .args .m) (c .before .before .args .i) (omega arith) (omega arith)
+returns c = number-in (c .before .before .args .cell) (c .before .before .args .m) (c .before .before .args .i) (omega arith) (omega arith)
 
 pub unit-number-spec : {M : Type 1} → statement M
 unit-number-spec =

@@ -7,9 +7,6 @@ use Rattle.signals.proofs.first_carrier.Tie as tie
 wide-requires : tie.Need-wide-requires
 wide-requires c κs = search needs
 
-slot-length-requires : tie.Need-slot-length-requires
-slot-length-requires c κs = search needs
-
 shift-requires : tie.Need-shift-requires
 shift-requires c κs = search needs
 
@@ -20,9 +17,8 @@ add-result : tie.Need-add-result
 add-result c = search needs
 
 returns : tie.Need-returns
-returns c = carrier-first (c .before .before .before .before .args .cell) (c .before .before .before .before .args .s) (c .before .before .before .before .args .port) (c .before .before .before .wide .ensures) (c .before .before .slot-length .ensures) (c .before .shift .ensures .0)
+returns c = carrier-first (c .before .before .before .args .cell) (c .before .before .before .args .s) (c .before .before .before .args .port) (c .before .before .wide .ensures) (c .before .shift .ensures .0)
 
 pub first-carrier-spec : {M : Type 1} → statement M
 first-carrier-spec =
-    tie.close
-    (tie.spec wide-requires slot-length-requires shift-requires cast-result add-result returns)
+    tie.close (tie.spec wide-requires shift-requires cast-result add-result returns)

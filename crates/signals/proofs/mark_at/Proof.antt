@@ -2,20 +2,20 @@
 use Prim.Native.Nat.{_-_}
 use native.Mathlib.Omega.{arith}
 use Rattle.counts.proofs.Ranges.{big}
-use Rattle.places.proofs.Numbers.{slot-length}
 use Rattle.signals.proofs.Numbers.{mark-first, row-at-most}
 use borrow.Author.Needs.{needs}
 use Rattle.signals.proofs.mark_at.Statement.{statement}
+use Rattle.layout.proofs.Pilot.{slot-length}
 use Rattle.signals.proofs.mark_at.Tie as tie
 
 slot-length-requires : tie.Need-slot-length-requires
 slot-length-requires c κs = search needs
 
 sub-s : tie.Need-sub-s
-sub-s c = omega (arith, c .slot-length .ensures, slot-length (c .before .args .cell .prefix))
+sub-s c = omega (arith, c .slot-length .ensures, slot-length (c .before .args .cell))
 
 row-at-requires : tie.Need-row-at-requires
-row-at-requires c κs = omega (arith, c .slot-length .ensures, slot-length (c .before .args .cell .prefix))
+row-at-requires c κs = omega (arith, c .slot-length .ensures, slot-length (c .before .args .cell))
 
 wide-requires : tie.Need-wide-requires
 wide-requires c κs = search needs
@@ -27,7 +27,7 @@ sub-result : tie.Need-sub-result
 sub-result c = omega (arith, big (c .before .before .before .args .cell .blocks) (c .before .before .before .pre .0 .blocks), c .wide .ensures)
 
 add-result : tie.Need-add-result
-add-result c = omega (arith, row-at-most (c .before .before .before .args .cell) (c .before .before .slot-length .result - c .before .before .before .args .y) 0 (omega arith) (omega arith) (omega (arith, c .before .before .slot-length .ensures, slot-length (c .before .before .before .args .cell .prefix))), c .before .row-at .ensures)
+add-result c = omega (arith, row-at-most (c .before .before .before .args .cell) (c .before .before .slot-length .result - c .before .before .before .args .y) 0 (omega arith) (omega arith) (omega (arith, c .before .before .slot-length .ensures, slot-length (c .before .before .before .args .cell))), c .before .row-at .ensures)
 
 returns : tie.Need-returns
 returns c = mark-first (c .before .before .before .args .cell) (c .before .before .before .args .y) (c .before .before .slot-length .ensures) (c .before .row-at .ensures) (c .wide .ensures)

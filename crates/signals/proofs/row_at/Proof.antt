@@ -2,8 +2,8 @@
 use Prim.Native.Nat.{_+_, _*_}
 use native.Mathlib.Omega.{arith}
 use Rattle.signals.proofs.Numbers.{rows-most, row-most, row-is}
-use Rattle.places.proofs.Numbers.{slot-length}
 use Rattle.signals.proofs.row_at.Statement.{statement}
+use Rattle.layout.proofs.Pilot.{slot-length}
 use Rattle.signals.proofs.row_at.Tie as tie
 
 wide-requires : tie.Need-wide-requires
@@ -13,13 +13,13 @@ slot-length-requires : tie.Need-slot-length-requires
 slot-length-requires c κs = tt
 
 mul-rows : tie.Need-mul-rows
-mul-rows c = omega (arith, c .slot-length .ensures, slot-length (c .before .before .args .cell .prefix))
+mul-rows c = omega (arith, c .slot-length .ensures, slot-length (c .before .before .args .cell))
 
 mul-rows-2 : tie.Need-mul-rows-2
-mul-rows-2 c = omega (arith, rows-most (c .before .wide .result) (c .slot-length .result) (c .before .before .args .s) (omega arith) (omega (arith, c .slot-length .ensures, slot-length (c .before .before .args .cell .prefix))) (c .before .before .pre))
+mul-rows-2 c = omega (arith, rows-most (c .before .wide .result) (c .slot-length .result) (c .before .before .args .s) (omega arith) (omega (arith, c .slot-length .ensures, slot-length (c .before .before .args .cell))) (c .before .before .pre))
 
 add-rows : tie.Need-add-rows
-add-rows c = omega (arith, rows-most (c .before .wide .result) (c .slot-length .result) (c .before .before .args .s) (omega arith) (omega (arith, c .slot-length .ensures, slot-length (c .before .before .args .cell .prefix))) (c .before .before .pre))
+add-rows c = omega (arith, rows-most (c .before .wide .result) (c .slot-length .result) (c .before .before .args .s) (omega arith) (omega (arith, c .slot-length .ensures, slot-length (c .before .before .args .cell))) (c .before .before .pre))
 
 wide-requires-2 : tie.Need-wide-requires-2
 wide-requires-2 c κs = tt
@@ -28,7 +28,7 @@ mul-result : tie.Need-mul-result
 mul-result c = omega arith
 
 mul-result-2 : tie.Need-mul-result-2
-mul-result-2 c = let h = rows-most (c .before .before .wide .result) (c .before .slot-length .result) (c .before .before .before .args .s) (omega arith) (omega (arith, c .before .slot-length .ensures, slot-length (c .before .before .before .args .cell .prefix))) (c .before .before .before .pre) in
+mul-result-2 c = let h = rows-most (c .before .before .wide .result) (c .before .slot-length .result) (c .before .before .before .args .s) (omega arith) (omega (arith, c .before .slot-length .ensures, slot-length (c .before .before .before .args .cell))) (c .before .before .before .pre) in
     omega (arith, row-most (c .before .before .wide .result * (2 * c .before .slot-length .result) + c .before .before .before .args .s) (12 * c .wide2 .result) h (omega arith))
 
 returns : tie.Need-returns

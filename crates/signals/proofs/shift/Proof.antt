@@ -1,20 +1,18 @@
 -- `signals::shift` meets its contract: port by port. Assumes nothing.
 use native.Mathlib.Omega.{arith}
-use mathlib.Core.Path.{sym, _∙_}
-use Rattle.layout.specs.Rules.{slotOf, inSlot}
 use Rattle.signals.proofs.Shifts.{shift-opening, shift-later, shift-last}
 use borrow.Author.Needs.{needs}
 use Rattle.signals.proofs.shift.Statement.{statement}
 use Rattle.signals.proofs.shift.Tie as tie
 
-opens-requires : tie.Need-opens-requires
-opens-requires c κs = search needs
+in-slot-requires : tie.Need-in-slot-requires
+in-slot-requires c κs = search needs
 
 mul-result : tie.Need-mul-result
 mul-result c = search needs
 
 returns : tie.Need-returns
-returns c = shift-opening (c .before .before .before .args .port) (inSlot (c .before .before .before .args .slot) (c .before .before .before .args .s)) (slotOf (c .before .before .before .args .slot) (c .before .before .before .args .s)) (omega arith) (sym (c .before .opens .ensures) ∙ c .if2 .taken)
+returns c = shift-opening (c .before .before .before .args .cell) (c .before .before .before .args .port) (c .before .before .before .args .s) _ (omega arith) (c .before .in-slot .ensures) (c .if2 .taken)
 
 sub-result : tie.Need-sub-result
 sub-result c = search needs
@@ -23,7 +21,7 @@ mul-result-2 : tie.Need-mul-result-2
 mul-result-2 c = search needs
 
 returns-2 : tie.Need-returns-2
-returns-2 c = shift-later (c .before .before .before .args .port) (inSlot (c .before .before .before .args .slot) (c .before .before .before .args .s)) (slotOf (c .before .before .before .args .slot) (c .before .before .before .args .s)) (omega arith) (sym (c .before .opens .ensures) ∙ c .if2 .left)
+returns-2 c = shift-later (c .before .before .before .args .cell) (c .before .before .before .args .port) (c .before .before .before .args .s) _ (omega arith) (c .before .in-slot .ensures) (c .if2 .left)
 
 slot-number-requires : tie.Need-slot-number-requires
 slot-number-requires c κs = search needs
@@ -35,13 +33,13 @@ mul-result-3 : tie.Need-mul-result-3
 mul-result-3 c = search needs
 
 returns-3 : tie.Need-returns-3
-returns-3 c = shift-last (c .before .before .args .port) (inSlot (c .before .before .args .slot) (c .before .before .args .s)) (slotOf (c .before .before .args .slot) (c .before .before .args .s)) (omega arith) (omega arith) (c .slot-number .ensures)
+returns-3 c = shift-last (c .before .before .args .cell) (c .before .before .args .port) (c .before .before .args .s) (omega arith) (omega arith) (c .slot-number .ensures)
 
 pub shift-spec : {M : Type 1} → statement M
 shift-spec =
     tie.close
     (tie.spec
-    opens-requires
+    in-slot-requires
     mul-result
     returns
     sub-result

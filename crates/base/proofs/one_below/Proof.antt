@@ -2,9 +2,9 @@
 use borrow.Author.Tests.{lt-ltb, le-ltb}
 use native.Mathlib.Omega.{arith}
 use mathlib.Core.Path.{sym, ap}
 use Rattle.base.specs.Choice.{one}
-use Rattle.layout.proofs.one_below.Statement.{statement}
-use Rattle.layout.proofs.one_below.Tie as tie
+use Rattle.base.proofs.one_below.Statement.{statement}
+use Rattle.base.proofs.one_below.Tie as tie
 
 returns : tie.Need-returns
 returns c = (sym (ap one (lt-ltb _ _ (c .if1 .taken))), omega arith)
