@@ -102,15 +102,15 @@ unfolding mul ofInt ofBits
 passes = tt
 
 -- the limit of a row is a whole number that an f32 holds
-abbrev held : UnitRow → Bool
-held r = leb (r .limit) (2 ^ 24)
+abbrev limited : UnitRow → Bool
+limited r = leb (r .limit) (2 ^ 24)
 
 -- THE SAMPLE of each level z up to the limit of its unit's row
 pub sample-of : (b : ℕ) (r : UnitRow) (z : ℤ) → scaleOf b ≡ Levels r → natAbs z ≤ r .limit → Product (r .unit) (r .gain) z (partOf (r .gain) z)
 unfolding scaleOf
 sample-of b r z e h =
     record {
-      exact = whole z (le-trans h (leb→le (r .limit) (2 ^ 24) (found held rows tt b r e)));
+      exact = whole z (le-trans h (leb→le (r .limit) (2 ^ 24) (found limited rows tt b r e)));
       product = refl;
       bound = closed (r .unit) z (partOf (r .gain) z) (levels-at r (found levels rows passes b r e) z h);
     }

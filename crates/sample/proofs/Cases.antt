@@ -12,7 +12,7 @@ use Rattle.sample.specs.declared.SampleAnswer.the-variants.{Is, Refused}
 use Rattle.sample.specs.declared.Scale.{Scale}
 use Rattle.sample.specs.declared.Scale.the-variants.{Levels, Nothing}
 use Rattle.sample.specs.Units.{scaleOf, gainOf}
-use Rattle.sample.specs.Refusal.{levelled, beyond, noElement}
+use Rattle.sample.specs.Refusal.{hasLevels, beyond, noElement}
 use Rattle.sample.specs.Answer.{pointOf, sampleOf}
 use Rattle.sample.specs.Cases.{scaledOf, byUnit}
 
@@ -33,7 +33,7 @@ phase : (i j : ℕ) → byUnit 63 i j ≡ sampleOf 63 i j
 unfolding scaleOf
 phase i j = tested (leb i 62 && eqb j 0) (noElement 63 i j) (Phase i) (simp (or-false, either-not))
 
-levels : (s : Scale) (i j : ℤ) → scaledOf s i j ≡ cond (not (levelled s) || (beyond s i || beyond s j)) Refused (Is (At (pointOf (gainOf s) i j)))
+levels : (s : Scale) (i j : ℤ) → scaledOf s i j ≡ cond (not (hasLevels s) || (beyond s i || beyond s j)) Refused (Is (At (pointOf (gainOf s) i j)))
 levels (Levels r) i j =
     let m = leb (natAbs i) (r .limit) in
     let n = leb (natAbs j) (r .limit) in

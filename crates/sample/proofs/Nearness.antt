@@ -150,7 +150,7 @@ central-at u (fin false m e) h =
     let p = positive (fin false m e) in
     let q = middles u (2 ^ 23 + b % 2 ^ 23) (150 - b / 2 ^ 23) (m * up e) (down e) in
     let k = and-r f (p && q) h in
-    record { held = and-l f (p && q) h; number = and-l p q k; none-nearer = none-nearer u (2 ^ 23 + b % 2 ^ 23) (150 - b / 2 ^ 23) m e (and-r p q k) }
+    record { is-f32 = and-l f (p && q) h; number = and-l p q k; none-nearer = none-nearer u (2 ^ 23 + b % 2 ^ 23) (150 - b / 2 ^ 23) m e (and-r p q k) }
 
 -- ---- the table
 passes : T (every (λ r. central (r .unit) (r .gain)) rows)

@@ -30,6 +30,6 @@ pub record NoNearer (u a b t : ℕ) : Type 0 where
 
 -- g is an f32, finite and above 0, and no f32 that is 0 or more lies nearer to 1 / √u. (One below 0 is further than 0.)
 pub record Nearest (u : ℕ) (g : Float) : Type 0 where
-  pub held : T (fits binary32 g)
+  pub is-f32 : T (fits binary32 g)
   pub number : T (positive g)
   pub none-nearer : (y : Float) → T (fits binary32 y) → (a b t : ℕ) → HasValue g false a (2 ^ t) → HasValue y false b (2 ^ t) → NoNearer u a b t

@@ -9,9 +9,9 @@ use Rattle.sample.specs.declared.Scale.the-variants.{Levels, Nothing}
 use Rattle.sample.specs.Units.{scaleOf}
 
 -- whether a byte names a unit of levels, and whether a level is beyond that unit's limit
-abbrev pub levelled : Scale → Bool
-levelled (Levels r) = true
-levelled Nothing = false
+abbrev pub hasLevels : Scale → Bool
+hasLevels (Levels r) = true
+hasLevels Nothing = false
 
 abbrev pub beyond : Scale → ℤ → Bool
 beyond (Levels r) z = not (leb (natAbs z) (r .limit))
@@ -21,7 +21,7 @@ beyond Nothing z = false
 abbrev pub noElement : ℕ → ℕ → ℕ → Bool
 noElement b i j =
     -- "other unit"
-    not (eqb b 0 || eqb b 63 || levelled (scaleOf b))
+    not (eqb b 0 || eqb b 63 || hasLevels (scaleOf b))
     -- "silent with a value"
     || (eqb b 0 && not (eqb i 0 && eqb j 0))
     -- "phase outside 0..62 or J ≠ 0"; a byte above 127 is a negative I
