@@ -23,12 +23,9 @@ module _ (w : List ℕ) (p : Plan) (ok : checkOf w ≡ accepted p) (payload : Li
   abbrev T : ℕ
   T = placesOf (p .cell)
 
-  abbrev L : ℕ
-  L = slotLength (p .cell)
-
   pub crs-numbered :
       (s q e : ℕ) → q < p .cell .ports → crsSymbol (p .cell) q s ≡ true → crsSends (p .cell) s q e ≡ true
-      → crsSent (p .cell) (pairAt (crsInit (p .cell .prefix) (p .cell .identity) (2 * p .frame .subframe + slotOf L s) (inSlot L s)) (2 * (110 - p .cell .blocks))) e
+      → crsSent (p .cell) (pairAt (crsInit (p .cell .prefix) (p .cell .identity) (2 * p .frame .subframe + slotOf (p .cell) s) (inSlot (p .cell) s)) (2 * (110 - p .cell .blocks))) e
       ≡ elementNumbered w p payload e
   unfolding elementFor ownsAt
   crs-numbered s q e l y h =

@@ -31,7 +31,7 @@ pub fn uses(cell: Cell, port: u8, s: u8) -> bool
     ensures { λ r. ⌜ r ≡ crsSymbol cell port s ⌝ }
 {
     let slot = layout::slot_length(cell);
-    let l = layout::in_slot(slot, base::wide(s));
+    let l = layout::in_slot(cell, base::wide(s));
     if port < 2 {
         return l == 0 || l + 3 == slot;
     }

@@ -1,10 +1,8 @@
 -- `build::uses` meets its contract: the tests of a symbol, in turn. Assumes nothing.
-use Rattle.build.proofs.Pilots.{uses-first, uses-third, uses-second, in-slot-le}
-use Prim.Native.Nat.{ℕ}
-use mathlib.Core.Path.{ap₂, _∙_}
+use mathlib.Core.Path.{ap, _∙_}
 use native.Mathlib.Omega.{arith}
 use Rattle.layout.specs.Rules.{inSlot}
-use Rattle.layout.proofs.Pilot.{slot-length}
+use Rattle.layout.proofs.Pilot.{in-slot-le}
 use Rattle.build.proofs.Pilots.{uses-first, uses-third, uses-second}
 use Rattle.build.proofs.uses.Statement.{statement}
 use Rattle.build.proofs.uses.Tie as tie
@@ -19,16 +17,16 @@ in-slot-requires : tie.Need-in-slot-requires
 in-slot-requires c κs = tt
 
 add-result : tie.Need-add-result
-add-result c = omega (arith, c .before .before .in-slot .ensures, c .before .before .before .wide .ensures, in-slot-le (c .before .before .before .before .slot-length .result) (c .before .before .before .wide .result), c .before .before .before .before .before .fits .s)
+add-result c = omega (arith, c .before .before .in-slot .ensures, c .before .before .before .wide .ensures, in-slot-le (c .before .before .before .before .before .args .cell) (c .before .before .before .wide .result), c .before .before .before .before .before .fits .s)
 
 returns : tie.Need-returns
-returns c = uses-first _ _ (c .before .before .before .before .before .args .port) _ _ (c .before .before .before .before .slot-length .ensures) (c .before .before .in-slot .ensures ∙ ap₂ (λ (x y : ℕ). inSlot x y) (c .before .before .before .before .slot-length .ensures) (c .before .before .before .wide .ensures)) (c .before .if1 .taken) (c .if2 .taken)
+returns c = uses-first (c .before .before .before .before .before .args .cell) (c .before .before .before .before .before .args .port) (c .before .before .before .before .before .args .s) _ (c .before .before .in-slot .ensures ∙ ap (inSlot (c .before .before .before .before .before .args .cell)) (c .before .before .before .wide .ensures)) (c .before .if1 .taken) (c .if2 .taken)
 
 returns-2 : tie.Need-returns-2
-returns-2 c = uses-third _ _ (c .before .before .before .before .before .args .port) _ _ (c .before .before .before .before .slot-length .ensures) (c .before .before .in-slot .ensures ∙ ap₂ (λ (x y : ℕ). inSlot x y) (c .before .before .before .before .slot-length .ensures) (c .before .before .before .wide .ensures)) (c .before .if1 .taken) (c .if2 .left)
+returns-2 c = uses-third (c .before .before .before .before .before .args .cell) (c .before .before .before .before .before .args .port) (c .before .before .before .before .before .args .s) _ (c .before .before .in-slot .ensures ∙ ap (inSlot (c .before .before .before .before .before .args .cell)) (c .before .before .before .wide .ensures)) _ (c .before .before .before .before .slot-length .ensures) (c .before .if1 .taken) (c .if2 .left)
 
 returns-3 : tie.Need-returns-3
-returns-3 c = uses-second _ _ (c .before .before .before .before .args .port) _ _ (c .before .before .before .slot-length .ensures) (c .before .in-slot .ensures ∙ ap₂ (λ (x y : ℕ). inSlot x y) (c .before .before .before .slot-length .ensures) (c .before .before .wide .ensures)) (c .if1 .left)
+returns-3 c = uses-second (c .before .before .before .before .args .cell) (c .before .before .before .before .args .port) (c .before .before .before .before .args .s) _ (c .before .in-slot .ensures ∙ ap (inSlot (c .before .before .before .before .args .cell)) (c .before .before .wide .ensures)) (c .if1 .left)
 
 pub uses-spec : {M : Type 1} → statement M
 uses-spec =
