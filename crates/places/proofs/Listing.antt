@@ -22,9 +22,9 @@ use Rattle.layout.specs.declared.Owner.{Owner}
 use Rattle.layout.specs.declared.Owner.the-variants.{Crs, Sync, Pbch, Pcfich, Phich, User as UserOf, Held, Idle}
 use Rattle.layout.proofs.Few.{blocks-least, blocks-most, sixths-most}
 use Rattle.layout.proofs.Units.{units-fit}
-use Rattle.base.specs.Counts.{Listed}
+use Rattle.base.specs.Counts.{cnt, Listed}
 use Rattle.places.specs.Quads.{quadPlace, quadsPlace, quadsIndex, InQuads}
-use Rattle.places.specs.Places.{placeNumber, symbolAt, carrierAt, placesOf, ownsAt, orderOf, placeBy, indexBy, placeOf, indexOf, PlacesListed}
+use Rattle.places.specs.Places.{placeNumber, symbolAt, carrierAt, placesOf, ownsAt, FillingOrder, ascending, orderOf, placeBy, indexBy, placeOf, indexOf, PlacesListed}
 use Rattle.base.proofs.Counts.{listed-nth, listed-none, listed-count}
 use Rattle.places.proofs.Quads.{Groups, quads-listed, quads-exactly, quads-at}
 use Rattle.places.proofs.Channels.{format-groups, unit-groups}
