@@ -4,7 +4,7 @@ use Prim.Native.Nat.{ℕ, _+_, _*_, _/_, _%_, _<_}
 use mathlib.Core.Path.{_≡_, sym, ap, _∙_}
 use mathlib.Core.List.{List}
 use native.Mathlib.Omega.{arith}
-use lib.ListN.{length, getD}
+use lib.ListN.{length}
 use Rattle.base.specs.declared.Pair.{Pair}
 use Rattle.base.specs.Bytes.{pairOf}
 use Rattle.base.specs.Pairs.{nil, Small}
@@ -32,7 +32,6 @@ use Rattle.plan.proofs.Valid.{valid}
 use Rattle.layout.specs.declared.Owner.the-variants.{Phich}
 use Rattle.counts.specs.Counts.{countOf}
 use Rattle.counts.proofs.FixedCounts.{phich-count}
-use Rattle.payload.specs.Bits.{hiBits}
 use Rattle.subframe.specs.Elements.{controlInit, hiBit, phichSum, elementFor}
 use Rattle.subframe.specs.Grid.{gridOf}
 use Rattle.subframe.proofs.Owned.{index-back}
@@ -86,4 +85,4 @@ module _ (w : List ℕ) (p : Plan) (ok : checkOf w ≡ accepted p) (A : List ℕ
         let h : Hi = hiNumber (hisOf w p) n in
         ap (bitIn L (c (controlInit (p .cell) (p .frame))) h) (sums-back (mappingUnit L h) in-unit)
         ∙ recovered L (spread w p ok) (c (controlInit (p .cell) (p .frame))) (hisOf w p) (within w p ok) (distinct w p ok) (hiBit w p A) n
-        (bit-le A (getD (hiBits w p) n 0)) listed
+        (bit-le A _) listed

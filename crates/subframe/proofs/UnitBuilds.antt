@@ -140,7 +140,7 @@ module _ (w : List ℕ) (p : Plan) (ok : checkOf w ≡ accepted p) where
     unfolding hiBit
     by-his =
         exactly (spreadLength (p .cell)) (spread w p ok) (c (controlInit (p .cell) (p .frame))) (hisOf w p) (within w p ok) (distinct w p ok) m (hiBit w p A) (hiBit w p B)
-        (λ n. bit-le A (getD (hiBits w p) n 0)) (λ n. bit-le B (getD (hiBits w p) n 0))
+        (λ n. bit-le A _) (λ n. bit-le B _)
 
     -- ---- and the unit's bits in the payload
     by-bits : SameHis (spreadLength (p .cell)) m (hisOf w p) (hiBit w p A) (hiBit w p B) ↔ SameBits w p (Phich m) A B
