@@ -96,13 +96,13 @@ module _ (w : List ℕ) (p : Plan) where
   pbch-span = refl
 
 module _ (w : List ℕ) (p : Plan) (ok : checkOf w ≡ accepted p) where
-  pub pbch-size : length (ownerBits w p Pbch) ≡ 2 * placeCount w p Pbch
+  -- PBCH has two bits to a place
+  pub pbch-both : pbchBits (p .cell) (p .frame) ≡ 2 * placeCount w p Pbch
   unfolding pbchBits
-  pbch-size =
-      ap length (pbch-span w p)
-      ∙ span-length (8 * startOf (sections w p) 0) (pbchBits (p .cell) (p .frame))
-      ∙ pbch-twice (eqb (p .frame .subframe) 0) (eqb (p .cell .prefix) 1)
-      ∙ ap (λ (n : ℕ). 2 * n) (sym (pbch-places w p ok))
+  pbch-both = pbch-twice (eqb (p .frame .subframe) 0) (eqb (p .cell .prefix) 1) ∙ ap (λ (n : ℕ). 2 * n) (sym (pbch-places w p ok))
+
+  pub pbch-size : length (ownerBits w p Pbch) ≡ 2 * placeCount w p Pbch
+  pbch-size = ap length (pbch-span w p) ∙ span-length (8 * startOf (sections w p) 0) (pbchBits (p .cell) (p .frame)) ∙ pbch-both
 
   module _ (i : ℕ) (l : i < length (usersOf w p)) where
     pub user-order : Order (nthUser w p i .order)
