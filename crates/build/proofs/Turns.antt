@@ -15,7 +15,6 @@ use Rattle.plan.specs.Check.{checkOf}
 use Rattle.plan.specs.Commands.{userOf}
 use Rattle.plan.specs.Fields.{unitsOf}
 use Rattle.plan.specs.Rows.{nextOf, usersOf, nthUser}
-use Rattle.plan.specs.Valid.{UserIn}
 use Rattle.plan.specs.declared.User.{User}
 use Rattle.plan.specs.declared.Plan.{Plan}
 use Rattle.plan.specs.declared.Checked.the-variants.{Plan as accepted}
@@ -35,7 +34,7 @@ use Rattle.subframe.proofs.Bytes.{length-by-port}
 use Rattle.signals.specs.Signals.{markSends, pssSent, sssSent}
 use Rattle.channels.specs.declared.Channel.{Channel}
 use Rattle.channels.specs.declared.Channel.the-variants.{Crs, Pbch as PbchChannel, Pcfich as PcfichChannel, Phich as PhichChannel, User as UserChannel}
-use Rattle.channels.specs.Channels.{initOf, firstBit, sendsOf, sentOf, Among, ChannelIn}
+use Rattle.channels.specs.Channels.{initOf, firstBit, sendsOf, sentOf, Among, Planned, ChannelIn}
 use Rattle.build.specs.Senders.{someBelow, ownerSends, crsIn, crsPorts, crsRows, marksSend, pbchSends, unitsSend, usersSend, allSend, Ready}
 use Rattle.build.proofs.Some.{some-none, some-more}
 use Rattle.build.proofs.DataValues.{pbch-area, pbch-value, user-area, user-value}
@@ -67,28 +66,28 @@ module _ (w : List ℕ) (p : Plan) (payload : List ℕ) {g₀ : List ℕ} (start
 
   -- what the channels need, at any point of the filling
   module _ {D : ℕ → Bool} {W : ℕ → Element} {g : List ℕ} (r : Written D W g₀ g) where
-    channel-in : (ch : Channel) → Among p ch → ChannelIn w p ch g
-    channel-in ch a = record { plan = start .answer; among = a; room = room-kept (start .room) r }
+    channel-in : (ch : Channel) → Among p ch → Planned w p ch → ChannelIn w p ch g
+    channel-in ch a h = record { plan = start .answer; among = a; planned = h; room = room-kept (start .room) r }
 
     pub crs-in : (s q : ℕ) → s < symbols (p .cell) → q < p .cell .ports → ChannelIn w p (Crs s q) g
-    unfolding Among
-    crs-in s q a b = channel-in (Crs s q) (a, b)
+    unfolding Among Planned
+    crs-in s q a b = channel-in (Crs s q) (a, b) tt
 
-    pub pbch-in : ChannelIn w p PbchChannel g
-    unfolding Among
-    pbch-in = channel-in PbchChannel tt
+    pub pbch-in : p .frame .subframe ≡ 0 → ChannelIn w p PbchChannel g
+    unfolding Among Planned
+    pbch-in z = channel-in PbchChannel tt z
 
     pub pcfich-in : ChannelIn w p PcfichChannel g
-    unfolding Among
-    pcfich-in = channel-in PcfichChannel tt
+    unfolding Among Planned
+    pcfich-in = channel-in PcfichChannel tt tt
 
     pub unit-in : (m : ℕ) → m < unitsOf (p .cell) → ChannelIn w p (PhichChannel m) g
-    unfolding Among
-    unit-in m a = channel-in (PhichChannel m) a
+    unfolding Among Planned
+    unit-in m a = channel-in (PhichChannel m) a tt
 
-    pub user-in : (u : User) → UserIn (p .cell) u → ChannelIn w p (UserChannel u) g
-    unfolding Among
-    user-in u a = channel-in (UserChannel u) a
+    pub user-in : (u : User) (i : ℕ) → i < length (usersOf w p) → u ≡ nthUser w p i → ChannelIn w p (UserChannel u) g
+    unfolding Among Planned
+    user-in u i l e = channel-in (UserChannel u) (rw e (user-valid w p ok payload i l)) (i, l, e)
 
   pub ready-kept : {D : ℕ → Bool} {W : ℕ → Element} {g : List ℕ} → Written D W g₀ g → Ready w p payload g
   ready-kept r = record { answer = start .answer; right = start .right; room = room-kept (start .room) r }
@@ -197,7 +196,7 @@ module _ (w : List ℕ) (p : Plan) (payload : List ℕ) {g₀ : List ℕ} (start
     user-is = eu ∙ from-user w p at i (so .users) in-i more
 
     pub going-valid : ChannelIn w p (UserChannel u) g
-    going-valid = user-in (so .written) u (rw user-is (user-valid w p ok payload i in-i))
+    going-valid = user-in (so .written) u i in-i user-is
 
     pub going-ready : UserReady (p .cell) (p .frame) u
     going-ready = rw user-is (user-ready w p ok payload i in-i (start .room .fits))

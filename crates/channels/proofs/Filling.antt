@@ -1,16 +1,18 @@
 -- What a channel of an accepted plan has for the function that fills it, and what that function writes, by cases on the channel.
 -- Assumes nothing.
-use Prim.Native.Nat.{ℕ, _%_, _≤_}
-use mathlib.Core.Path.{_≡_, sym, subst}
+use Prim.Native.Nat.{ℕ, _*_, _%_, _≤_}
+use mathlib.Core.Path.{_≡_, sym, ap, subst, _∙_}
 use mathlib.Core.List.{List}
 use native.Mathlib.Omega.{arith}
 use lib.Dec.{leb, eqb, leb→le, eqb→eq}
 use Rattle.gold.specs.declared.Registers.{Registers}
+use Rattle.gold.specs.Steps.{after}
+use Rattle.phich.specs.Spreading.{spreadLength}
 use Rattle.modulation.specs.Symbols.{Order, unitOf}
 use Rattle.modulation.proofs.Formulas.{unit-small}
 use Rattle.plan.specs.Lists.{Among as OneOf}
 use Rattle.plan.specs.Fields.{orders}
-use Rattle.plan.specs.Rows.{hisOf}
+use Rattle.plan.specs.Rows.{hisOf, nthUser}
 use Rattle.plan.specs.Valid.{Valid, CellIn, FrameIn, UserIn}
 use Rattle.plan.specs.declared.Plan.{Plan}
 use Rattle.plan.specs.declared.User.{User}
@@ -18,15 +20,20 @@ use Rattle.plan.proofs.OneOf.{among-holds}
 use Rattle.plan.proofs.Valid.{valid}
 use Rattle.plan.proofs.Counts.{blocks-least}
 use Rattle.layout.proofs.Pilot.{slot-length}
+use Rattle.counts.specs.Users.{userElements}
+use Rattle.counts.proofs.UserElements.{user-elements}
+use Rattle.payload.specs.Payload.{pbchBits}
 use Rattle.grid.specs.Writing.{Written}
 use Rattle.subframe.proofs.Acknowledged.{within, distinct}
-use Rattle.data.specs.Areas.{areaSends, areaElement, pbchArea, userArea, AreaIn}
+use Rattle.subframe.proofs.OwnerBits.{pbch-both}
+use Rattle.data.specs.Areas.{areaCount, areaSends, areaElement, pbchArea, userArea, AreaIn}
 use Rattle.data.specs.declared.Area.{Area}
+use Rattle.data.proofs.AreaOwners.{pbch-count, user-count}
 use Rattle.signals.specs.Signals.{crsSends, crsSent}
 use Rattle.signals.specs.Rows.{SignalIn}
 use Rattle.control.specs.Control.{pcfichSends, pcfichSent, phichSends, phichSent}
 use Rattle.control.specs.Filling.{PcfichIn, PhichIn}
-use Rattle.channels.specs.Channels.{sendsOf, sentOf, Among, ChannelIn}
+use Rattle.channels.specs.Channels.{sendsOf, sentOf, bitsUsed, Among, Planned, ChannelIn}
 use Rattle.channels.specs.declared.Channel.{Channel}
 use Rattle.channels.specs.declared.Channel.the-variants.{Crs, Pbch, Pcfich, Phich, User as UserOf}
 
@@ -96,6 +103,36 @@ module _ (w : List ℕ) (p : Plan) (ch : Channel) (grid : List ℕ) (ok : Channe
         level = omega (arith, eu, unit-small (u .order));
         room = ok .room;
       })
+
+  -- ---- where they leave the pair
+  module _ (r : Registers) {x : Registers} where
+    pub crs-after : (s q : ℕ) → ch ≡ Crs s q → x ≡ after r (4 * p .cell .blocks) → x ≡ after r (bitsUsed p ch)
+    unfolding bitsUsed
+    crs-after s q e k = k ∙ sym (ap (λ (c : Channel). after r (bitsUsed p c)) e)
+
+    pub pbch-after : (a : Area) → ch ≡ Pbch → a ≡ pbchArea (p .cell) (p .frame) → x ≡ after r (2 * areaCount a) → x ≡ after r (bitsUsed p ch)
+    unfolding Planned bitsUsed
+    pbch-after a e ea k =
+        let z : p .frame .subframe ≡ 0 = subst (Planned w p) e (ok .planned) in
+        let n : 2 * areaCount a ≡ pbchBits (p .cell) (p .frame) = ap (λ (b : Area). 2 * areaCount b) ea ∙ ap (λ (m : ℕ). 2 * m) (pbch-count w p (ok .plan) z) ∙ sym (pbch-both w p (ok .plan)) in
+        k ∙ ap (after r) n ∙ sym (ap (λ (c : Channel). after r (bitsUsed p c)) e)
+
+    pub pcfich-after : ch ≡ Pcfich → x ≡ after r 32 → x ≡ after r (bitsUsed p ch)
+    unfolding bitsUsed
+    pcfich-after e k = k ∙ sym (ap (λ (c : Channel). after r (bitsUsed p c)) e)
+
+    pub phich-after : (m : ℕ) → ch ≡ Phich m → x ≡ after r (3 * spreadLength (p .cell)) → x ≡ after r (bitsUsed p ch)
+    unfolding bitsUsed
+    phich-after m e k = k ∙ sym (ap (λ (c : Channel). after r (bitsUsed p c)) e)
+
+    pub user-after : (u : User) (a : Area) → ch ≡ UserOf u → a ≡ userArea (p .cell) (p .frame) u → x ≡ after r (u .order * areaCount a) → x ≡ after r (bitsUsed p ch)
+    unfolding Planned bitsUsed nthUser
+    user-after u a e ea k =
+        let none : User = record { rnti = 0; order = 0; first = 0; count = 0 } in
+        let d = subst (Planned w p) e (ok .planned) in
+        let n : areaCount a ≡ userElements (p .cell) (p .frame) (u .first) (u .count) =
+        ap areaCount ea ∙ rw (d .2) (user-count w p (ok .plan) (d .0) (d .1) none ∙ user-elements w p (ok .plan) none (d .0) (d .1)) in
+        k ∙ ap (λ (m : ℕ). after r (u .order * m)) n ∙ sym (ap (λ (c : Channel). after r (bitsUsed p c)) e)
 
 -- ---- what they write
 module _ (w : List ℕ) (p : Plan) (bits : List ℕ) (r : Registers) (g h : List ℕ) where

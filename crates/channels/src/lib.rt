@@ -6,7 +6,7 @@ use plan::Frame;
 use plan::Plan;
 use plan::User;
 ghost use mathlib.Core.Path.{_≡_};
-ghost use Prim.Native.Nat.{ℕ, _+_, _*_, _<_};
+ghost use Prim.Native.Nat.{_+_, _*_, _<_};
 ghost use Rattle.gold.specs.Sequence.{pairAt};
 ghost use Rattle.gold.specs.Steps.{after};
 ghost use Rattle.crs.specs.Crs.{crsInit};
@@ -15,7 +15,7 @@ ghost use Rattle.layout.specs.Rules.{slotLength, slotOf, inSlot};
 ghost use Rattle.layout.specs.Owners.{symbols};
 ghost use Rattle.grid.specs.Writing.{Written};
 ghost use Rattle.subframe.specs.Elements.{pbchFirst, controlInit, userInit};
-ghost use Rattle.channels.specs.Channels.{initOf, firstBit, sendsOf, sentOf, Among, ChannelIn};
+ghost use Rattle.channels.specs.Channels.{initOf, firstBit, sendsOf, sentOf, bitsUsed, Among, ChannelIn};
 
 // Which channel: a port's reference signal in a symbol, PBCH, PCFICH, a PHICH unit, a user.
 pub enum Channel {
@@ -119,7 +119,7 @@ fn filled(
     grid: &mut [u8],
 ) -> Registers
     requires { ⌜ ChannelIn (now plan) p ch (now grid) ⌝ }
-    ensures { λ s. ⌜ Written (sendsOf p ch) (sentOf (now (plan .entry)) p (now (bits .entry)) r ch) (now (grid .entry)) (now (grid .exit)) × ((n : ℕ) × (s ≡ after r n)) ⌝ }
+    ensures { λ s. ⌜ Written (sendsOf p ch) (sentOf (now (plan .entry)) p (now (bits .entry)) r ch) (now (grid .entry)) (now (grid .exit)) × (s ≡ after r (bitsUsed p ch)) ⌝ }
 {
     let cell = p.cell;
     let frame = p.frame;
@@ -140,10 +140,10 @@ fn filled(
     }
 }
 
-// The pair is lent to the channel being filled and advanced in place.
+// The pair is lent to the channel being filled and advanced in place, by the bits that the channel uses.
 pub fn fill(r: &mut Registers, p: Plan, ch: Channel, plan: &[u8], bits: &[u8], grid: &mut [u8])
     requires { ⌜ ChannelIn (now plan) p ch (now grid) ⌝ }
-    ensures { λ _. ⌜ Written (sendsOf p ch) (sentOf (now (plan .entry)) p (now (bits .entry)) (now (r .entry)) ch) (now (grid .entry)) (now (grid .exit)) × ((n : ℕ) × (now (r .exit) ≡ after (now (r .entry)) n)) ⌝ }
+    ensures { λ _. ⌜ Written (sendsOf p ch) (sentOf (now (plan .entry)) p (now (bits .entry)) (now (r .entry)) ch) (now (grid .entry)) (now (grid .exit)) × (now (r .exit) ≡ after (now (r .entry)) (bitsUsed p ch)) ⌝ }
 {
     let was = *r;
     *r = filled(was, p, ch, plan, bits, grid);

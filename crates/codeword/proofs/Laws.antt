@@ -1,8 +1,8 @@
--- The laws for callers: of a channel's symbols by its bits, and of the stream where it begins. Assumes nothing.
+-- The laws for callers: of a channel's symbols by its bits, and of the stream as it goes. Assumes nothing.
 use mathlib.Core.Path.{_≡_, refl, sym, ap, ap₂, _∙_}
 use mathlib.Core.List.{List}
 use Prim.Native.Nat.{ℕ, zero, suc, _+_, _-_, _*_, _/_, _%_, _<_, _≤_}
-use native.Mathlib.Nat.{zero-add, zero-mod}
+use native.Mathlib.Nat.{zero-add}
 use native.Mathlib.Omega.{arith}
 use lib.Bits.{bitXor, differ, xor-step}
 use Rattle.base.specs.Digits.{dig}
@@ -11,14 +11,14 @@ use Rattle.base.specs.Pairs.{Small}
 use Rattle.gold.specs.declared.Registers.{Registers}
 use Rattle.gold.specs.Sequence.{c, binary, pairAt}
 use Rattle.gold.specs.Steps.{after, outputOf}
-use Rattle.gold.proofs.Binary.{binary-none, binary-same, binary-lt, binary-digit}
-use Rattle.gold.proofs.Laws.{after-none, pair-after, pair-output, output-lt}
+use Rattle.gold.proofs.Binary.{binary-same, binary-lt, binary-digit}
+use Rattle.gold.proofs.Laws.{pair-after, pair-output, output-lt}
 use Rattle.modulation.specs.Symbols.{Order, symbolOf}
 use Rattle.modulation.proofs.Symbols.{symbol-injective, order-small}
 use Rattle.codeword.specs.declared.Stream.{Stream}
 use Rattle.codeword.specs.Codewords.{scrambled, dataSymbol}
-use Rattle.codeword.specs.Streams.{outputs, symbolsOf, Stands, Sound}
-use Rattle.codeword.proofs.Orders.{early-enough}
+use Rattle.codeword.specs.Streams.{outputs, symbolsOf, Stands, Sound, Given}
+use Rattle.codeword.proofs.Orders.{early-enough, last-word}
 
 -- ---- scrambled bits
 pub scrambled-lt : (b x : ℕ → ℕ) (i : ℕ) → scrambled b x i < 2
@@ -86,23 +86,19 @@ pub symbols-start : (q : ℕ) (bits : List ℕ) (ci j : ℕ) → symbolsOf q bit
 symbols-start q bits ci j =
     symbols-are q bits ci 0 j ∙ ap (λ (x : ℕ → ℕ). dataSymbol q (bitAt bits) x j) (λ t i. c ci (zero-add i t))
 
--- ---- the stream where it begins
-pub begins : (q : ℕ) (bits : List ℕ) (r : Registers) → Stands q bits r 0 (record { r = r; at = 0; word = 0; left = 0 })
-begins q bits r = record {
-  whole = zero-mod (2 * q);
-  most = omega arith;
-  taken = omega arith;
-  pair = sym (after-none r);
-  held = sym (binary-none (scrambled (bitAt bits) (outputs r)) (2 * q * 0));
-}
-
+-- ---- the stream as it goes
 -- the stream that stands before any symbol below 200000 has what `next_pair` needs
 pub sound : {q i : ℕ} {bits : List ℕ} {r : Registers} {st : Stream} → Order q → i ≤ 100000 → Stands q bits r i st → Sound q st
-sound {q} {i} {bits} {r} {st} o h s = record {
-  whole = s .whole;
-  most = s .most;
-  early = early-enough q o i (st .at) (st .left) h (s .most) (s .taken);
-}
+sound {q} {i} {bits} {r} {st} o h s =
+    let w = s .word in
+    record { whole = w .whole; most = w .most; early = early-enough q o i (st .at) (st .left) h (w .most) (w .taken) }
+
+-- and where it has given n symbols, what `ended` needs
+pub given : {q : ℕ} (n : ℕ) {bits : List ℕ} {r : Registers} {st : Stream} → Order q → n ≤ 200000 → Stands q bits r ((n + 1) / 2) st → Given q n st
+given {q} n {bits} {r} {st} o h s =
+    let w = s .word in
+    let l = last-word q o n (st .at) (st .left) h (w .most) (s .used) (w .taken) in
+    record { few = l .0; reached = l .1 }
 
 -- ---- the scrambled word
 differ-sum : (a b : ℕ) → a < 2 → b < 2 → differ a b ≡ (a + b) % 2

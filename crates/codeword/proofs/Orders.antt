@@ -1,6 +1,6 @@
 -- Bits that are whole pairs of symbols, at each order. Assumes nothing.
 use mathlib.Core.Path.{_≡_, refl}
-use Prim.Native.Nat.{ℕ, zero, suc, _+_, _-_, _*_, _%_, _^_, _<_, _≤_}
+use Prim.Native.Nat.{ℕ, zero, suc, _+_, _-_, _*_, _/_, _%_, _^_, _<_, _≤_}
 use native.Mathlib.Omega.{arith}
 use Rattle.modulation.specs.Symbols.{Order}
 
@@ -30,3 +30,13 @@ one-pair = by-order (λ (q : ℕ). (n : ℕ) → n % (2 * q) ≡ 0 → 0 < n →
 pub early-enough : (q : ℕ) → Order q → (i a n : ℕ) → i ≤ 100000 → n ≤ 24 → 8 * a ≡ 2 * q * i + n → a ≤ 2 ^ 32
 early-enough = by-order (λ (q : ℕ). (i a n : ℕ) → i ≤ 100000 → n ≤ 24 → 8 * a ≡ 2 * q * i + n → a ≤ 2 ^ 32)
     (λ i a n h k e. omega arith) (λ i a n h k e. omega arith) (λ i a n h k e. omega arith)
+
+-- n symbols, taken two by two, with l bits of the last word left: the word begins before the last symbol ends
+pub last-word : (q : ℕ) → Order q → (n a l : ℕ) → n ≤ 200000 → l ≤ 24 → (0 < (n + 1) / 2 → l + 2 * q ≤ 24) → 8 * a ≡ 2 * q * ((n + 1) / 2) + l
+    → (q * n ≤ 2 ^ 32) × (8 * a ≤ q * n + 24)
+last-word q o zero a l h k u e = (omega arith, omega arith)
+last-word q o (suc n) a l h k u e = some q o (suc n) h (u (omega arith)) e
+  where
+    some : (q : ℕ) → Order q → (n : ℕ) → n ≤ 200000 → l + 2 * q ≤ 24 → 8 * a ≡ 2 * q * ((n + 1) / 2) + l → (q * n ≤ 2 ^ 32) × (8 * a ≤ q * n + 24)
+    some = by-order (λ (q : ℕ). (n : ℕ) → n ≤ 200000 → l + 2 * q ≤ 24 → 8 * a ≡ 2 * q * ((n + 1) / 2) + l → (q * n ≤ 2 ^ 32) × (8 * a ≤ q * n + 24))
+        (λ n h k e. (omega arith, omega arith)) (λ n h k e. (omega arith, omega arith)) (λ n h k e. (omega arith, omega arith))

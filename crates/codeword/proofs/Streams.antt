@@ -14,13 +14,13 @@ use Rattle.gold.specs.Sequence.{binary}
 use Rattle.gold.specs.Steps.{after, outputOf, wordOf}
 use Rattle.gold.proofs.Binary.{binary-same, binary-split, binary-lt}
 use Rattle.gold.proofs.Window.{halve}
-use Rattle.gold.proofs.Laws.{after-after}
+use Rattle.gold.proofs.Laws.{after-none, after-after}
 use Rattle.modulation.specs.Symbols.{Order, evens, odds, level, symbolOf}
 use Rattle.modulation.proofs.Words.{word-low}
 use Rattle.codeword.specs.declared.Stream.{Stream}
 use Rattle.codeword.specs.declared.Symbols.{Symbols}
 use Rattle.codeword.specs.Codewords.{scrambled, dataSymbol}
-use Rattle.codeword.specs.Streams.{outputs, symbolsOf, Stands, Next, Sound, more, two}
+use Rattle.codeword.specs.Streams.{outputs, symbolsOf, WordHeld, Stands, Begins, Next, Sound, Given, Ended, wordAt, more, two}
 use Rattle.codeword.proofs.Orders.{all-whole, rest-whole, one-pair}
 use Rattle.codeword.proofs.Laws.{scrambled-lt, outputs-lt, word-scrambled}
 
@@ -91,30 +91,48 @@ more-word bits r k =
     ap (bitXor (binary (bitAt bits) k 24)) (word-after r k 24)
     ∙ sym (word-scrambled (bitAt bits) (outputs r) (bit-lt bits) (outputs-lt r) k 24)
 
-pub more-stands : (q : ℕ) (bits : List ℕ) (r : Registers) (i : ℕ) (st : Stream) → Order q → st .left ≡ 0 → Stands q bits r i st → Stands q bits r i (more bits st)
-unfolding more
-more-stands q bits r i st o z s =
+-- a word of which no bit is taken
+word-held : (q : ℕ) (bits : List ℕ) (r : Registers) (i : ℕ) (p : Registers) (a : ℕ) → Order q → p ≡ after r (8 * a) → 8 * a ≡ 2 * q * i → WordHeld q bits r i (wordAt bits p a)
+unfolding wordAt
+word-held q bits r i p a o e t =
     let x = scrambled (bitAt bits) (outputs r) in
-    let t : 8 * st .at ≡ 2 * q * i = omega (arith, s .taken) in
-    let e : 8 * st .at + 24 ≡ 8 * (st .at + 3) = omega arith in
+    let k : 8 * a ≡ 8 * (a + 3) - 24 = omega arith in
     record {
       whole = all-whole q o;
       most = omega arith;
+      some = omega arith;
       taken = omega arith;
-      pair = ap (λ (p : Registers). after p 24) (s .pair) ∙ after-after r (8 * st .at) 24 ∙ ap (after r) e;
+      pair = e ∙ ap (after r) k;
       held =
           ap (λ (w : ℕ). w % 2 ^ 24)
-          (ap (λ (p : Registers). bitXor (binary (bitAt bits) (8 * st .at) 24) (wordOf p 24)) (s .pair)
-          ∙ more-word bits r (8 * st .at)
-          ∙ ap (λ (k : ℕ). binary x k 24) t)
+          (ap (λ (z : Registers). bitXor (binary (bitAt bits) (8 * a) 24) (wordOf z 24)) e ∙ more-word bits r (8 * a) ∙ ap (λ (k : ℕ). binary x k 24) t)
           ∙ mod-eq-of-lt (binary-lt x (scrambled-lt (bitAt bits) (outputs r)) (2 * q * i) 24);
     }
 
--- what the calls of `refilled` give
-pub more-is : (bits : List ℕ) (st : Stream) (p : Registers) (b w : ℕ) → p ≡ after (st .r) 24 → b ≡ binary (bitAt bits) (8 * st .at) 24 → w ≡ wordOf (st .r) 24
-    → _≡_ {A = Stream} (record { r = p; at = st .at + 3; word = bitXor b w; left = 24 }) (more bits st)
+-- the first, and the next where none is left
+pub begins : (bits : List ℕ) (r : Registers) (st : Stream) → st ≡ wordAt bits r 0 → Begins bits r st
+begins bits r st e = record {
+  stands = λ q o. rw e (record { word = word-held q bits r 0 r 0 o (sym (after-none r)) (omega arith); used = λ h. absurd (omega arith) });
+}
+
+more-held : (q : ℕ) (bits : List ℕ) (r : Registers) (i : ℕ) (st : Stream) → Order q → st .left ≡ 0 → WordHeld q bits r i st → WordHeld q bits r i (more bits st)
 unfolding more
-more-is bits st p b w e f g = λ t. record { r = e t; at = st .at + 3; word = bitXor (f t) (g t); left = 24 }
+more-held q bits r i st o z s =
+    let e : 8 * st .at - 24 + 24 ≡ 8 * st .at = omega (arith, s .some) in
+    let t : 8 * st .at ≡ 2 * q * i = omega (arith, s .taken) in
+    word-held q bits r i (after (st .r) 24) (st .at) o
+    (ap (λ (p : Registers). after p 24) (s .pair) ∙ after-after r (8 * st .at - 24) 24 ∙ ap (after r) e)
+    t
+
+-- what the calls of `loaded` and of `refilled` give
+pub word-is : (bits : List ℕ) (r : Registers) (a b w : ℕ) → b ≡ binary (bitAt bits) (8 * a) 24 → w ≡ wordOf r 24
+    → _≡_ {A = Stream} (record { r = r; at = a + 3; word = bitXor b w; left = 24 }) (wordAt bits r a)
+unfolding wordAt
+word-is bits r a b w f g = λ t. record { r = r; at = a + 3; word = bitXor (f t) (g t); left = 24 }
+
+pub more-is : (bits : List ℕ) (st s : Stream) (p : Registers) → p ≡ after (st .r) 24 → s ≡ wordAt bits p (st .at) → s ≡ more bits st
+unfolding more
+more-is bits st s p e f = f ∙ ap (λ (z : Registers). wordAt bits z (st .at)) e
 
 -- ---- two symbols out of a word
 -- a symbol looks at the q lowest bits only
@@ -155,7 +173,7 @@ next-place q i =
     let e : q + q ≡ 2 * q = omega arith in
     ap (λ (v : ℕ). 2 * q * i + v) (e ∙ sym (mul-one (2 * q))) ∙ sym (mul-add (2 * q) i 1)
 
-pub two-stand : (q : ℕ) (bits : List ℕ) (r : Registers) (i : ℕ) (st : Stream) → Order q → 2 * q ≤ st .left → Stands q bits r i st
+pub two-stand : (q : ℕ) (bits : List ℕ) (r : Registers) (i : ℕ) (st : Stream) → Order q → 2 * q ≤ st .left → WordHeld q bits r i st
     → (two q st .first ≡ symbolsOf q bits r (2 * i)) × (two q st .second ≡ symbolsOf q bits r (2 * i + 1)) × Stands q bits r (i + 1) (two q st .rest)
 unfolding two symbolsOf dataSymbol
 two-stand q bits r i st o h s =
@@ -171,11 +189,16 @@ two-stand q bits r i st o h s =
       sym (symbol-low q (w / 2 ^ m))
           ∙ ap (symbolOf q) (second-word x bit q m (2 * q * i) w held ∙ ap (λ (k : ℕ). binary x k q) (second-place q i)),
       record {
-        whole = rest-whole q o (st .left) (s .whole);
-        most = omega (arith, s .most);
-        taken = omega (arith, s .taken, next-place q i);
-        pair = s .pair;
-        held = rest-word x bit q m (2 * q * i) w held ∙ ap (λ (k : ℕ). binary x k m) (next-place q i);
+        word =
+            record {
+              whole = rest-whole q o (st .left) (s .whole);
+              most = omega (arith, s .most);
+              some = s .some;
+              taken = omega (arith, s .taken, next-place q i);
+              pair = s .pair;
+              held = rest-word x bit q m (2 * q * i) w held ∙ ap (λ (k : ℕ). binary x k m) (next-place q i);
+            };
+        used = λ k. omega (arith, s .most);
       },
     )
 
@@ -190,17 +213,26 @@ pub held-enough : (q : ℕ) (st : Stream) → Order q → Sound q st → 0 < st 
 held-enough q st o s h = (one-pair q o (st .left) (s .whole) h, s .most)
 
 pub more-enough : (q : ℕ) (bits : List ℕ) (st s : Stream) → Order q → s ≡ more bits st → (2 * q ≤ s .left) × (s .left ≤ 24)
-unfolding more
+unfolding more wordAt
 more-enough q bits st s o e =
     let l : s .left ≡ 24 = ap (λ (z : Stream). z .left) e in
     (omega (arith, o), omega arith)
 
 pub next-held : (q : ℕ) (bits : List ℕ) (st : Stream) (s : Symbols) → Order q → Sound q st → 0 < st .left → s ≡ two q st → Next q bits st s
 next-held q bits st s o ok h e = record {
-  goes = λ r i at. rw e (two-stand q bits r i st o (held-enough q st o ok h .0) at);
+  goes = λ r i at. rw e (two-stand q bits r i st o (held-enough q st o ok h .0) (at .word));
 }
 
 pub next-more : (q : ℕ) (bits : List ℕ) (st t : Stream) (s : Symbols) → Order q → st .left ≡ 0 → t ≡ more bits st → s ≡ two q t → Next q bits st s
 next-more q bits st t s o z f e = record {
-  goes = λ r i at. rw (e, f) (two-stand q bits r i (more bits st) o (more-enough q bits st (more bits st) o refl .0) (more-stands q bits r i st o z at));
+  goes = λ r i at. rw (e, f) (two-stand q bits r i (more bits st) o (more-enough q bits st (more bits st) o refl .0) (more-held q bits r i st o z (at .word)));
+}
+
+-- ---- `ended`
+pub ends : (q n : ℕ) (st : Stream) (x : Registers) → Given q n st → x ≡ after (st .r) (q * n + 24 - 8 * st .at) → Ended q n st x
+ends q n st x g e = record {
+  exact = λ bits r at.
+      let m = q * n + 24 - 8 * st .at in
+      let d : 8 * st .at - 24 + m ≡ q * n = omega (arith, g .reached, at .word .some) in
+      e ∙ ap (λ (p : Registers). after p m) (at .word .pair) ∙ after-after r (8 * st .at - 24) m ∙ ap (after r) d;
 }

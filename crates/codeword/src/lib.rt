@@ -7,10 +7,10 @@ ghost use lib.ListN.{getD};
 ghost use Rattle.base.specs.Bits.{bitAt};
 ghost use Rattle.gold.specs.Sequence.{binary};
 ghost use Rattle.modulation.specs.Symbols.{Order};
-ghost use Rattle.codeword.specs.Streams.{Sound, Next, more, two};
+ghost use Rattle.codeword.specs.Streams.{Sound, Begins, Next, Given, Ended, wordAt, more, two};
 
-// Where a channel's stream of symbols stands: the register pair, the byte of the bits that is due, and the scrambled bits that are
-// read and not taken, the lowest `left` of a word.
+// Where a channel's stream of symbols stands: the register pair where the word in use begins, the byte of the bits that follows the
+// word, and the word's 24 scrambled bits, of which the lowest `left` are not taken.
 pub struct Stream {
     pub r: Registers,
     pub at: usize,
@@ -46,31 +46,34 @@ fn bytes_at(bits: &[u8], at: usize) -> u32
     a * 65536 + b * 256 + c
 }
 
-// The stream that begins with a register pair.
-pub fn begun(r: Registers) -> Stream
-    ensures { λ s. ⌜ s ≡ record { r = r; at = 0; word = 0; left = 0 } ⌝ }
+// The stream whose word in use begins at a byte, where the pair stands: 24 bits, none taken.
+fn loaded(r: Registers, at: usize, bits: &[u8]) -> Stream
+    requires { ⌜ at ≤ 2 ^ 32 ⌝ }
+    ensures { λ s. ⌜ s ≡ wordAt (now (bits .entry)) r at ⌝ }
 {
     Stream {
         r: r,
-        at: 0,
-        word: 0,
-        left: 0,
-    }
-}
-
-// 24 bits more, where none is left.
-fn refilled(st: Stream, bits: &[u8]) -> Stream
-    requires { ⌜ st .at ≤ 2 ^ 32 ⌝ }
-    ensures { λ s. ⌜ s ≡ more (now (bits .entry)) st ⌝ }
-{
-    let r = st.r;
-    let at = st.at;
-    Stream {
-        r: gold::advance(r, 24),
         at: at + 3,
         word: bytes_at(bits, at) ^ gold::word(r, 24),
         left: 24,
     }
+}
+
+// The stream that begins with a register pair.
+pub fn begun(r: Registers, bits: &[u8]) -> Stream
+    ensures { λ s. ⌜ Begins (now (bits .entry)) r s ⌝ }
+{
+    loaded(r, 0, bits)
+}
+
+// The next 24 bits, where none is left.
+fn refilled(st: Stream, bits: &[u8]) -> Stream
+    requires { ⌜ st .at ≤ 2 ^ 32 ⌝ }
+    ensures { λ s. ⌜ s ≡ more (now (bits .entry)) st ⌝ }
+{
+    let at = st.at;
+    let r = gold::advance(st.r, 24);
+    loaded(r, at, bits)
 }
 
 // The next two symbols, where the bits of both are left.
@@ -102,4 +105,14 @@ pub fn next_pair(st: Stream, q: u32, bits: &[u8]) -> Symbols
         return taken(refilled(st, bits), q);
     }
     taken(st, q)
+}
+
+// The pair after n symbols of q bits each, at bit q × n. Callers pass the stream that gave these symbols, with or without the second of
+// the last two.
+pub fn ended(st: Stream, q: u32, n: usize) -> Registers
+    requires { ⌜ Given q n st ⌝ }
+    ensures { λ x. ⌜ Ended q n st x ⌝ }
+{
+    let r = st.r;
+    gold::skip(r, (q as usize) * n + 24 - 8 * st.at)
 }

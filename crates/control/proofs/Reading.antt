@@ -91,9 +91,6 @@ module _ {c : Cell} {m : ℕ} {grid : List ℕ} where
   sums-finish {sums = sums} t r = filled nil (sumRead c m grid) 12 sums (t .full) (λ j k. t .below j (omega arith))
 
 -- ---- the bit of one HI
-pub length-most : (c : Cell) {l : ℕ} → l ≡ spreadLength c → l ≤ 4
-length-most c e = omega (arith, length-ok c .1)
-
 module _ {c : Cell} {h₀ : Hi} {grid : List ℕ} (ok : HiRead c h₀ grid) where
   pub hi-ready : {l : ℕ} {h : Hi} → l ≡ spreadLength c → h ≡ h₀ → Length l × (h .sequence < 2 * l)
   hi-ready el eh = rw (el, eh) (length-ok c, ok .known)

@@ -1,13 +1,14 @@
 -- What `fill_phich` hands to `unit_sums` and `put_unit`, and that the sums by the word's bits are those by the pair's. Assumes nothing.
-use Prim.Native.Nat.{ℕ}
+use Prim.Native.Nat.{ℕ, _*_, _≤_}
 use mathlib.Core.Path.{_≡_, refl, ap, _∙_}
 use mathlib.Core.List.{List}
+use native.Mathlib.Omega.{arith}
 use lib.ListN.{drop}
 use borrow.Author.Tests.{eq-eqb, ne-eqb}
 use Rattle.base.specs.declared.Pair.{Pair}
 use Rattle.base.specs.Bits.{bitAt}
 use Rattle.gold.specs.declared.Registers.{Registers}
-use Rattle.gold.specs.Steps.{wordOf}
+use Rattle.gold.specs.Steps.{after, wordOf}
 use Rattle.codeword.specs.Streams.{outputs}
 use Rattle.phich.specs.Spreading.{wordBit, spreadLength}
 use Rattle.phich.specs.Units.{unitSums, Ready}
@@ -29,6 +30,13 @@ length-two c e = rw (eq-eqb (c .prefix) 1 e) refl
 pub length-four : (c : Cell) → (c .prefix ≡ 1 → ⊥) → 4 ≡ spreadLength c
 unfolding spreadLength
 length-four c e = rw (ne-eqb (c .prefix) 1 e) refl
+
+pub length-most : (c : Cell) {l : ℕ} → l ≡ spreadLength c → l ≤ 4
+length-most c e = omega (arith, length-ok c .1)
+
+-- and the pair after three sequences of it
+pub after-three : (c : Cell) (r : Registers) {l : ℕ} {s : Registers} → l ≡ spreadLength c → s ≡ after r (3 * l) → s ≡ after r (3 * spreadLength c)
+after-three c r is e = e ∙ ap (λ (l : ℕ). after r (3 * l)) is
 
 module _ {c : Cell} {m : ℕ} {his : Row} {plan grid : List ℕ} (ok : PhichIn c m his plan grid) {l : ℕ} (is : l ≡ spreadLength c) where
   pub sums-ready : Ready l m plan (his .at) (his .count)

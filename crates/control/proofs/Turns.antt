@@ -94,11 +94,12 @@ module _ (c : Cell) (cfi : ℕ) (r : Registers) (g₀ : List ℕ) (ok : PcfichIn
               (f ∙ first-symbol (cfiBit cfi) (outputs r) n w x) (h ∙ second-symbol (cfiBit cfi) (outputs r) n w x) (t .written) p;
         }
 
-  pub format-finish : {s : Registers} {n : ℕ} {g : List ℕ} → FormatTurn c cfi r s n g₀ g → 8 ≤ n → Written (pcfichSends c) (pcfichSent c cfi r) g₀ g × ((k : ℕ) × (s ≡ after r k))
+  pub format-finish : {s : Registers} {n : ℕ} {g : List ℕ} → FormatTurn c cfi r s n g₀ g → 8 ≤ n → Written (pcfichSends c) (pcfichSent c cfi r) g₀ g × (s ≡ after r 32)
   unfolding pcfichSends pcfichSent
   format-finish {n = n} t last =
       let e : 2 * n ≡ 16 = omega (arith, t .most, last) in
-      (filling.finish (c .ports) (placesOf c) byTwo (dataSymbol 2 (cfiBit cfi) (outputs r)) (some-places c (ok .cell)) (pcfich-listed c (ok .cell)) (rw e at (t .written)), (4 * n, t .pair))
+      let bits : 4 * n ≡ 32 = omega (arith, t .most, last) in
+      (filling.finish (c .ports) (placesOf c) byTwo (dataSymbol 2 (cfiBit cfi) (outputs r)) (some-places c (ok .cell)) (pcfich-listed c (ok .cell)) (rw e at (t .written)), t .pair ∙ ap (after r) bits)
 
 -- ---- a PHICH unit
 abbrev phichHas : Cell → ℕ → ℕ → Bool

@@ -5,7 +5,7 @@ use gold::Registers;
 use plan::Cell;
 use plan::Row;
 ghost use mathlib.Core.Path.{_≡_};
-ghost use Prim.Native.Nat.{ℕ, _+_, _*_, _≤_, _<_};
+ghost use Prim.Native.Nat.{_+_, _*_, _≤_, _<_};
 ghost use lib.ListN.{drop};
 ghost use Rattle.gold.specs.Sequence.{binary};
 ghost use Rattle.gold.specs.Steps.{after};
@@ -69,7 +69,7 @@ fn put_pair(cell: Cell, g: usize, i: usize, turn: u8, d: Pair, e: Pair, grid: &m
 // PCFICH: the CFI's codeword, scrambled by the pair r. Callers pass a cell, a CFI and a grid of an accepted plan.
 pub fn fill_pcfich(r: Registers, cell: Cell, cfi: u8, grid: &mut [u8]) -> Registers
     requires { ⌜ PcfichIn cell cfi (now grid) ⌝ }
-    ensures { λ s. ⌜ Written (pcfichSends cell) (pcfichSent cell cfi r) (now (grid .entry)) (now (grid .exit)) × ((n : ℕ) × (s ≡ after r n)) ⌝ }
+    ensures { λ s. ⌜ Written (pcfichSends cell) (pcfichSent cell cfi r) (now (grid .entry)) (now (grid .exit)) × (s ≡ after r 32) ⌝ }
 {
     let mut s = r;
     let mut n: usize = 0;
@@ -121,12 +121,13 @@ pub fn fill_phich(
     grid: &mut [u8],
 ) -> Registers
     requires { ⌜ PhichIn cell m his (now plan) (now grid) ⌝ }
-    ensures { λ s. ⌜ Written (phichSends cell m) (phichSent cell m r (hisFrom (drop (his .at) (now (plan .entry))) (his .count)) (now (bits .entry))) (now (grid .entry)) (now (grid .exit)) × ((n : ℕ) × (s ≡ after r n)) ⌝ }
+    ensures { λ s. ⌜ Written (phichSends cell m) (phichSent cell m r (hisFrom (drop (his .at) (now (plan .entry))) (his .count)) (now (bits .entry))) (now (grid .entry)) (now (grid .exit)) × (s ≡ after r (3 * spreadLength cell)) ⌝ }
 {
     let w = gold::word(r, 12);
-    let sums = phich::unit_sums(spread_length(cell), w, m, plan, his.at, his.count, bits);
+    let l = spread_length(cell);
+    let sums = phich::unit_sums(l, w, m, plan, his.at, his.count, bits);
     put_unit(cell, m, sums, grid);
-    gold::advance(r, 12)
+    gold::skip(r, 3 * l)
 }
 
 // The levels at place i of unit m, on the port that sends the sum itself.
@@ -197,7 +198,7 @@ pub fn read_his(
     part: &mut [u8],
 ) -> Registers
     requires { ⌜ ReadIn cell his (now plan) (now grid) (now part) ⌝ }
-    ensures { λ s. ⌜ (now (part .exit) ≡ sectionOf (ackFrom cell r (hisFrom (drop (his .at) (now (plan .entry))) (his .count)) (now (grid .entry))) (his .count)) × ((n : ℕ) × (s ≡ after r n)) ⌝ }
+    ensures { λ s. ⌜ (now (part .exit) ≡ sectionOf (ackFrom cell r (hisFrom (drop (his .at) (now (plan .entry))) (his .count)) (now (grid .entry))) (his .count)) × (s ≡ after r (3 * spreadLength cell)) ⌝ }
 {
     let w = gold::word(r, 12);
     let mut at = his.at;
@@ -208,5 +209,5 @@ pub fn read_his(
         at = plan::next_at(plan, at);
         n += 1;
     }
-    gold::advance(r, 12)
+    gold::skip(r, 3 * spread_length(cell))
 }

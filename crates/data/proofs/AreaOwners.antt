@@ -1,5 +1,5 @@
--- THE AREAS' OWNERS: PBCH's area has the places that PBCH owns, a user's those that the user owns, in the same order; and both lie in
--- the grid. Assumes nothing beyond the plan check's answer.
+-- THE AREAS' OWNERS: PBCH's area has the places that PBCH owns, a user's those that the user owns, in the same order and number; and both
+-- lie in the grid. Assumes nothing beyond the plan check's answer.
 use Prim.Native.Nat.{ℕ, zero, suc, _+_, _-_, _*_, _/_, _%_, _≤_, _<_}
 use mathlib.Core.Path.{_≡_, refl, sym, ap, ap₂, _∙_}
 use mathlib.Core.Bool.{Bool, true, false, not, _&&_}
@@ -23,13 +23,15 @@ use Rattle.layout.specs.Rules.{slotLength, slotOf, middle, inPbchArea as areaTe
 use Rattle.layout.specs.Owners.{symbols, carriers, controlSymbols, blocksHave, userHas, owns}
 use Rattle.layout.specs.declared.Owner.the-variants.{Pbch, User as UserOf}
 use Rattle.layout.proofs.Pilot.{slot-length}
+use Rattle.counts.specs.Counts.{countOf}
 use Rattle.places.specs.Places.{symbolAt, carrierAt, placesOf, ownsAt, orderOf, indexBy, indexOf}
+use Rattle.places.proofs.Elements.{count-is}
 use Rattle.places.specs.Halves.{openPlace, openOfFour, inPbch, taken, openTo}
 use Rattle.base.proofs.Counts.{cnt-same}
 use Rattle.places.proofs.Numbers.{symbol-inside}
 use Rattle.places.proofs.Halves.{pbch-half, user-places}
 use Rattle.grid.specs.Writing.{Room}
-use Rattle.data.specs.Areas.{areaHas, areaAt, areaIndex, pbchArea, userArea, AreaIn}
+use Rattle.data.specs.Areas.{areaHas, areaAt, areaCount, areaIndex, pbchArea, userArea, AreaIn}
 use Rattle.data.proofs.AreaPlaces.{leb-same}
 
 gathered : (a b x y o : Bool) → a && b && x && y && o && true ≡ (a && b && (x && y)) && o
@@ -132,6 +134,18 @@ module _ (w : List ℕ) (p : Plan) (ok : checkOf w ≡ accepted p) where
   unfolding areaIndex indexOf indexBy orderOf
   user-index i in-i d t l =
       cnt-same (areaAt (userArea (p .cell) (p .frame) (getD (usersOf w p) i d))) (ownsAt w p (UserOf i)) t (λ x k. user-place i in-i d x (omega arith))
+
+  -- and they are as many
+  pub pbch-count : p .frame .subframe ≡ 0 → areaCount (pbchArea (p .cell) (p .frame)) ≡ countOf w p Pbch
+  unfolding areaCount
+  pbch-count z = cnt-same (areaAt (pbchArea (p .cell) (p .frame))) (ownsAt w p Pbch) (placesOf (p .cell)) (λ t l. pbch-place z t) ∙ count-is w p Pbch
+
+  pub user-count :
+      (i : ℕ) → i < length (usersOf w p) → (d : User) → areaCount (userArea (p .cell) (p .frame) (getD (usersOf w p) i d)) ≡ countOf w p (UserOf i)
+  unfolding areaCount
+  user-count i in-i d =
+      cnt-same (areaAt (userArea (p .cell) (p .frame) (getD (usersOf w p) i d))) (ownsAt w p (UserOf i)) (placesOf (p .cell)) (λ t l. user-place i in-i d t l)
+      ∙ count-is w p (UserOf i)
 
   -- what filling them needs
   module _ (q unit : ℕ) (grid : List ℕ) (order : Order q) (level : unit ≤ 127) (room : Room (p .cell .ports) (placesOf (p .cell)) grid) where

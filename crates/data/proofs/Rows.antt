@@ -1,10 +1,10 @@
 -- A row of an area: one subcarrier of a half block, a half block that is left out, the row's ends, and what is computed once for it.
 -- Assumes what filling an area needs.
-use Prim.Native.Nat.{ℕ, suc, _+_, _-_, _*_, _≤_, _<_}
+use Prim.Native.Nat.{ℕ, suc, _+_, _-_, _*_, _/_, _≤_, _<_}
 use mathlib.Core.Path.{_≡_, refl, sym, ap, ap₂, _∙_, subst}
 use mathlib.Core.Bool.{Bool, true, false, _&&_, and-assoc}
 use mathlib.Core.List.{List}
-use native.Mathlib.Nat.{add-zero, suc-mul}
+use native.Mathlib.Nat.{add-zero, suc-mul, mul-le-mul-right}
 use native.Mathlib.Omega.{arith}
 use lib.Dec.{leb, ltb}
 use lib.ListN.{length}
@@ -23,17 +23,17 @@ use Rattle.counts.specs.Users.{taken as takenRow}
 use Rattle.places.specs.Places.{placesOf}
 use Rattle.places.proofs.Numbers.{symbols-most}
 use Rattle.codeword.specs.declared.Stream.{Stream}
-use Rattle.codeword.specs.Streams.{Stands}
-use Rattle.codeword.proofs.Laws.{begins}
+use Rattle.codeword.specs.Streams.{Stands, Begins, Given, Ended}
+use Rattle.codeword.proofs.Laws.{given}
 use Rattle.grid.specs.Writing.{Written}
 use Rattle.data.specs.declared.Area.{Area}
 use Rattle.data.specs.declared.Row.{Row}
 use Rattle.data.specs.declared.Walk.{Walk}
-use Rattle.data.specs.Areas.{areaAt, areaSends, areaElement, AreaIn}
+use Rattle.data.specs.Areas.{areaAt, areaCount, areaSends, areaElement, AreaIn}
 use Rattle.data.specs.Filling.{PlaceIn, Placed, Walked, Begun, Goes}
 use Rattle.data.specs.Rows.{bitOf, Masks, centreOut, leavesRow, RowIn, HalfIn, Stepped}
 use Rattle.data.proofs.AreaPlaces.{leftOut, row-early, row-late, rows-early, rows-late, area-open, area-signal, area-taken}
-use Rattle.data.proofs.Walking.{stay, skip, skip-one, one, placing, onward, further, begin, end}
+use Rattle.data.proofs.Walking.{index-all, count-most, stay, skip, skip-one, one, placing, onward, further, begin, end}
 use Rattle.data.proofs.Masks.{taken-centre}
 
 -- ---- a half block
@@ -180,16 +180,30 @@ module _ {a : Area} {q unit : ℕ} {bits : List ℕ} {t : ℕ} {w w′ : Walk} {
       further (subst (λ (x : ℕ). Goes a q unit bits t (x * carriers (a .cell)) w g w′ g′) e k)
       (subst (λ (x : ℕ). Goes a q unit bits (s * carriers (a .cell)) x w′ g′ w″ g″) f m)
 
-  pub area-ends :
+  area-ends :
       {r : Registers} {start : List ℕ} → a .last ≤ s → Walked a q unit bits r start t w g
-      → Written (areaSends a) (areaElement a q unit bits r) start g′ × ((n : ℕ) × (w′ .stream .r ≡ after r n))
+      → Written (areaSends a) (areaElement a q unit bits r) start g′ × (w′ .j ≡ areaCount a) × Stands q bits r ((w′ .j + 1) / 2) (w′ .stream)
   area-ends {r} {start} l b =
       let m = k .goes r start b in
-      let e : a .last - (a .last - s) ≡ a .last = omega arith in (
-        end (a .last * carriers (a .cell)) (λ x h. rows-late a (some a (m .area .cell)) (a .last) x (omega arith) h)
-            (subst (λ (x : ℕ). Walked a q unit bits r start (x * carriers (a .cell)) w′ g′) e m),
-        (8 * w′ .stream .at, m .holds .stands .pair),
+      let e : a .last - (a .last - s) ≡ a .last = omega arith in
+      let v = subst (λ (x : ℕ). Walked a q unit bits r start (x * carriers (a .cell)) w′ g′) e m in
+      let late : (x : ℕ) → a .last * carriers (a .cell) ≤ x → areaAt a x ≡ false = λ x h. rows-late a (some a (m .area .cell)) (a .last) x (omega arith) h in (
+        end (a .last * carriers (a .cell)) late v,
+        v .index ∙ index-all a (a .last * carriers (a .cell)) (mul-le-mul-right (carriers (a .cell)) (m .area .rows)) late,
+        v .holds .stands,
       )
+
+  -- what the pair's end then needs, and where it stands
+  pub area-given : {r : Registers} {start : List ℕ} → a .last ≤ s → Walked a q unit bits r start t w g → Given q (w′ .j) (w′ .stream)
+  area-given {r} {start} l b =
+      let d = area-ends l b in
+      let i = k .goes r start b .area in
+      given (w′ .j) (i .order) (omega (arith, d .1, count-most a, i .room .fits)) (d .2)
+
+  pub area-done :
+      {r : Registers} {start : List ℕ} {x : Registers} → a .last ≤ s → Walked a q unit bits r start t w g → Ended q (w′ .j) (w′ .stream) x
+      → Written (areaSends a) (areaElement a q unit bits r) start g′ × (x ≡ after r (q * areaCount a))
+  area-done {r} l b z = let d = area-ends l b in (d .0, z .exact bits r (d .2) ∙ ap (λ (n : ℕ). after r (q * n)) (d .1))
 
 pub begun-from :
     {a : Area} {q unit : ℕ} {bits : List ℕ} {r : Registers} {start : List ℕ} {t : ℕ} {w : Walk} {g : List ℕ} → Walked a q unit bits r start t w g
@@ -256,9 +270,9 @@ out-is N n b out x v e d h = ap (λ (y : ℕ). centreOut y out b) (sym e) ∙ sy
 -- ---- where filling an area begins
 pub area-starts :
     {a : Area} {q unit : ℕ} {bits : List ℕ} {g : List ℕ} {first second : Pair} (r : Registers) (st : Stream) → AreaIn a q unit g
-    → st ≡ record { r = r; at = 0; word = 0; left = 0 }
+    → Begins bits r st
     → Walked a q unit bits r g ((a .last - (a .last - a .first)) * carriers (a .cell)) (record { stream = st; j = 0; first = first; second = second }) g
-area-starts {q = q} {bits = bits} r st i e = area-begins i _ refl (subst (Stands q bits r 0) (sym e) (begins q bits r))
+area-starts {q = q} r st i b = area-begins i _ refl (b .stands q (i .order))
 
 pub rows-few : {a : Area} {q unit : ℕ} {g : List ℕ} → AreaIn a q unit g → a .last ≤ 14
 rows-few {a} i = omega (arith, i .rows, symbols-most (a .cell))

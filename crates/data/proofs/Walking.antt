@@ -20,7 +20,7 @@ use Rattle.grid.specs.Writing.{Written, sends, sentAt}
 use Rattle.grid.proofs.Writing.{none, same, over, room-kept}
 use Rattle.data.specs.declared.Area.{Area}
 use Rattle.data.specs.declared.Walk.{Walk}
-use Rattle.data.specs.Areas.{areaAt, areaIndex, areaSends, areaElement, AreaIn}
+use Rattle.data.specs.Areas.{areaAt, areaCount, areaIndex, areaSends, areaElement, AreaIn}
 use Rattle.data.specs.Filling.{PlaceIn, Placed, Walked, Begun, Goes}
 
 -- ---- an element's test
@@ -101,6 +101,15 @@ index-most a t = cnt-most (areaAt a) t
 pub index-none : (a : Area) → areaIndex a 0 ≡ 0
 unfolding areaIndex
 index-none a = cnt-none (areaAt a)
+
+-- past the area's last place the index is its count
+pub index-all : (a : Area) (t : ℕ) → t ≤ placesOf (a .cell) → ((x : ℕ) → t ≤ x → areaAt a x ≡ false) → areaIndex a t ≡ areaCount a
+unfolding areaIndex areaCount
+index-all a t l free = sym (index-same a t (placesOf (a .cell)) l (λ x h m. free x h))
+
+pub count-most : (a : Area) → areaCount a ≤ placesOf (a .cell)
+unfolding areaCount
+count-most a = cnt-most (areaAt a) (placesOf (a .cell))
 
 module _ {a : Area} {q unit : ℕ} {bits : List ℕ} {w : Walk} {g : List ℕ} where
   -- places t to u - 1 are not the area's

@@ -1,7 +1,6 @@
 -- For the inner contracts and loops only: channels that fill their places k first, then s, by half blocks of six subcarriers: PBCH and
 -- the users. The laws in proofs/ show that an area's places are the owner's (layout/specs/Owners.antt).
-use Prim.Native.Nat.{ℕ, _+_, _-_, _*_, _/_, _%_, _≤_, _<_}
-use mathlib.Core.Path.{_≡_}
+use Prim.Native.Nat.{ℕ, _+_, _-_, _*_, _/_, _%_, _≤_}
 use mathlib.Core.Bool.{Bool, true, false, not, _&&_}
 use mathlib.Core.List.{List}
 use lib.Dec.{leb, ltb}
@@ -33,7 +32,10 @@ areaHas a s k =
 unfoldable pub areaAt : Area → ℕ → Bool
 areaAt a t = areaHas a (symbolAt (a .cell) t) (carrierAt (a .cell) t)
 
--- which of its places t is
+-- how many places it has, and which of them t is
+unfoldable pub areaCount : Area → ℕ
+areaCount a = cnt (areaAt a) (placesOf (a .cell))
+
 unfoldable pub areaIndex : Area → ℕ → ℕ
 areaIndex a t = cnt (areaAt a) t
 

@@ -7,11 +7,11 @@ use plan::Frame;
 use plan::User;
 ghost use mathlib.Core.Path.{_≡_};
 ghost use mathlib.Core.Bool.{false};
-ghost use Prim.Native.Nat.{ℕ, _+_, _*_, _≤_, _<_};
+ghost use Prim.Native.Nat.{_+_, _*_, _≤_, _<_};
 ghost use Rattle.gold.specs.Steps.{after};
 ghost use Rattle.layout.specs.Owners.{symbols, carriers};
 ghost use Rattle.grid.specs.Writing.{Written};
-ghost use Rattle.data.specs.Areas.{areaSends, areaElement, AreaIn, pbchArea, userArea};
+ghost use Rattle.data.specs.Areas.{areaCount, areaSends, areaElement, AreaIn, pbchArea, userArea};
 ghost use Rattle.data.specs.Filling.{PlaceIn, Placed, Begun, Goes};
 ghost use Rattle.data.specs.Rows.{bitIf, maskBut, Masks, centreOut, leavesRow, RowIn, HalfIn, Stepped};
 
@@ -286,12 +286,13 @@ fn fill_row(start: Walk, a: Area, s: usize, q: u32, unit: u8, bits: &[u8], grid:
     w
 }
 
-// An area's places, with symbols of q bits in a unit, from a slice's bits scrambled by what the pair gives; the pair after them.
+// An area's places, with symbols of q bits in a unit, from a slice's bits scrambled by what the pair gives; the pair after
+// them, at the bit after the last that was used.
 pub fn fill_area(r: Registers, a: Area, q: u32, unit: u8, bits: &[u8], grid: &mut [u8]) -> Registers
     requires { ⌜ AreaIn a q unit (now grid) ⌝ }
-    ensures { λ x. ⌜ Written (areaSends a) (areaElement a q unit (now (bits .entry)) r) (now (grid .entry)) (now (grid .exit)) × ((n : ℕ) × (x ≡ after r n)) ⌝ }
+    ensures { λ x. ⌜ Written (areaSends a) (areaElement a q unit (now (bits .entry)) r) (now (grid .entry)) (now (grid .exit)) × (x ≡ after r (q * areaCount a)) ⌝ }
 {
-    let stream = codeword::begun(r);
+    let stream = codeword::begun(r, bits);
     let nil = Pair { re: 0, im: 0 };
     let mut w = Walk {
         stream: stream,
@@ -305,6 +306,5 @@ pub fn fill_area(r: Registers, a: Area, q: u32, unit: u8, bits: &[u8], grid: &mu
         w = fill_row(w, a, s, q, unit, bits, grid);
         s += 1;
     }
-    let end = w.stream;
-    end.r
+    codeword::ended(w.stream, q, w.j)
 }

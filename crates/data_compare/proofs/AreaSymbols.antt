@@ -1,13 +1,13 @@
 -- THE PLACES OF AN AREA by their indices: each index below the count has a place of the area, and each place of the area its index.
 -- Assumes nothing.
-use Prim.Native.Nat.{ℕ, _<_, _≤_}
+use Prim.Native.Nat.{ℕ, _<_}
 use mathlib.Core.Path.{_≡_}
 use mathlib.Core.Bool.{true}
 use Rattle.places.specs.Places.{placesOf}
-use Rattle.base.proofs.Counts.{cnt-lt, cnt-most, nth-of, nth-is}
+use Rattle.base.proofs.Counts.{cnt-lt, nth-of, nth-is}
 use Rattle.data.specs.declared.Area.{Area}
-use Rattle.data.specs.Areas.{areaAt, areaIndex}
-use Rattle.data_compare.specs.Symbols.{areaPlace, areaCount}
+use Rattle.data.specs.Areas.{areaAt, areaCount, areaIndex}
+use Rattle.data_compare.specs.Symbols.{areaPlace}
 
 module _ (a : Area) where
   pub place-in : (j : ℕ) → j < areaCount a → areaPlace a j < placesOf (a .cell)
@@ -29,7 +29,3 @@ module _ (a : Area) where
   pub index-below : (t : ℕ) → areaAt a t ≡ true → t < placesOf (a .cell) → areaIndex a t < areaCount a
   unfolding areaIndex areaCount
   index-below t is l = cnt-lt (areaAt a) t (placesOf (a .cell)) is l
-
-  pub count-most : areaCount a ≤ placesOf (a .cell)
-  unfolding areaCount
-  count-most = cnt-most (areaAt a) (placesOf (a .cell))

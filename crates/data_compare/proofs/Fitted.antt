@@ -21,7 +21,8 @@ use Rattle.grid.specs.Elements.{elementIn}
 use Rattle.compare.specs.Comparing.{sameElement}
 use Rattle.compare.proofs.Comparing.{same-element, element-same}
 use Rattle.data.specs.declared.Area.{Area}
-use Rattle.data_compare.specs.Symbols.{areaPlace, areaCount, areaSymbol, CompareIn}
+use Rattle.data.specs.Areas.{areaCount}
+use Rattle.data_compare.specs.Symbols.{areaPlace, areaSymbol, CompareIn}
 use Rattle.data_compare.specs.Fitting.{ownFits, partnerFits, pairFits, placeFits, all, areaFits}
 
 -- ---- tests below a number

@@ -11,10 +11,10 @@ use borrow.Author.Tests.{eqb-false}
 use Rattle.base.proofs.Tests.{by-test}
 use Rattle.places.specs.Places.{placesOf}
 use Rattle.data.specs.declared.Area.{Area}
-use Rattle.data.specs.Areas.{areaAt, areaIndex, AreaIn}
-use Rattle.data.proofs.Walking.{index-more, index-same, index-none, index-most}
+use Rattle.data.specs.Areas.{areaAt, areaCount, AreaIn}
+use Rattle.data.proofs.Walking.{index-more, index-same, index-none, index-most, index-all}
 use Rattle.data_compare.specs.declared.Walk.{Walk}
-use Rattle.data_compare.specs.Symbols.{areaPlace, areaCount}
+use Rattle.data_compare.specs.Symbols.{areaPlace}
 use Rattle.data_compare.specs.Fitting.{placeFits, walkOn, PlaceIn, all, areaFits, Walked, Through}
 use Rattle.data_compare.proofs.AreaSymbols.{place-back}
 
@@ -99,10 +99,6 @@ begin a q u g i =
       same = sym (all-none (areaFits a q u g));
     }
 
-counted : (a : Area) → areaIndex a (placesOf (a .cell)) ≡ areaCount a
-unfolding areaIndex areaCount
-counted a = refl
-
 -- past the area's last place all of it is compared
 pub through :
     {a : Area} {q u : ℕ} {g : List ℕ} {w : Walk} (t : ℕ) → t ≤ placesOf (a .cell) → ((x : ℕ) → t ≤ x → areaAt a x ≡ false)
@@ -110,4 +106,4 @@ pub through :
 through {a} {q} {u} {g} {w} t l free k = record { index = all-of; same = k .same ∙ ap (all (areaFits a q u g)) all-of }
   where
     all-of : w .j ≡ areaCount a
-    all-of = k .index ∙ sym (index-same a t (placesOf (a .cell)) l (λ x h m. free x h)) ∙ counted a
+    all-of = k .index ∙ index-all a t l free

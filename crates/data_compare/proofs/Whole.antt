@@ -33,12 +33,13 @@ use Rattle.compare.specs.Comparing.{weightOf, weightIn, countBelow}
 use Rattle.compare.proofs.Comparing.{nonzero-one}
 use Rattle.compare.proofs.PortWeights.{port-weight}
 use Rattle.data.specs.declared.Area.{Area}
-use Rattle.data.specs.Areas.{areaAt, areaIndex, areaSends, AreaIn}
+use Rattle.data.specs.Areas.{areaAt, areaCount, areaIndex, areaSends, AreaIn}
+use Rattle.data.proofs.Walking.{count-most}
 use Rattle.data.proofs.Rows.{some}
 use Rattle.data_compare.specs.declared.Walk.{Walk}
-use Rattle.data_compare.specs.Symbols.{areaPlace, areaCount, areaSymbol, areaSent, AreaHolds, AreaCompared, CompareIn}
+use Rattle.data_compare.specs.Symbols.{areaPlace, areaSymbol, areaSent, AreaHolds, AreaCompared, CompareIn}
 use Rattle.data_compare.specs.Fitting.{areaFits, all, Through}
-use Rattle.data_compare.proofs.AreaSymbols.{place-in, at-place, index-back, place-back, index-below, count-most}
+use Rattle.data_compare.proofs.AreaSymbols.{place-in, at-place, index-back, place-back, index-below}
 use Rattle.data_compare.proofs.Fitted.{Right, ownAt, otherAt, all-right, right-all}
 
 -- ---- bytes that are not 0

@@ -16,10 +16,10 @@ use Rattle.grid.specs.Writing.{Room}
 use Rattle.compare.specs.Comparing.{sameElement}
 use Rattle.data.specs.declared.Area.{Area}
 use Rattle.data.specs.declared.Row.{Row}
-use Rattle.data.specs.Areas.{areaIndex, AreaIn}
+use Rattle.data.specs.Areas.{areaCount, areaIndex, AreaIn}
 use Rattle.data.specs.Rows.{RowIn}
 use Rattle.data_compare.specs.declared.Walk.{Walk}
-use Rattle.data_compare.specs.Symbols.{areaPlace, areaCount}
+use Rattle.data_compare.specs.Symbols.{areaPlace}
 
 -- the element is its own levels in the unit u, and some q bits have these levels
 unfoldable pub ownFits : ℕ → ℕ → Element → Bool

@@ -10,21 +10,18 @@ use Rattle.base.specs.declared.Element.{Element}
 use Rattle.base.specs.Bytes.{pairOf}
 use Rattle.modulation.specs.Marks.{isSymbol}
 use Rattle.precoding.specs.Places.{ownPort, placed}
-use Rattle.base.specs.Counts.{cnt, nth}
+use Rattle.base.specs.Counts.{nth}
 use Rattle.places.specs.Places.{placesOf}
 use Rattle.grid.specs.Elements.{elementIn}
 use Rattle.compare.specs.declared.Seen.{Seen}
 use Rattle.compare.specs.declared.Seen.the-variants.{Weight, Differs}
 use Rattle.compare.specs.Comparing.{Holds, weightIn}
 use Rattle.data.specs.declared.Area.{Area}
-use Rattle.data.specs.Areas.{areaAt, areaIndex, areaSends, AreaIn}
+use Rattle.data.specs.Areas.{areaAt, areaCount, areaIndex, areaSends, AreaIn}
 
--- the area's place of index j, and how many there are
+-- the area's place of index j
 unfoldable pub areaPlace : Area → ℕ → ℕ
 areaPlace a j = nth (areaAt a) (placesOf (a .cell)) j
-
-unfoldable pub areaCount : Area → ℕ
-areaCount a = cnt (areaAt a) (placesOf (a .cell))
 
 -- its symbol in a grid, from the port that sends it itself
 unfoldable pub areaSymbol : Area → List ℕ → ℕ → Pair

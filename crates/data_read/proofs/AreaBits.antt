@@ -16,19 +16,17 @@ use Rattle.plan.specs.declared.User.{User}
 use Rattle.plan.specs.declared.Plan.{Plan}
 use Rattle.plan.specs.declared.Checked.the-variants.{Plan as accepted}
 use Rattle.layout.specs.declared.Owner.the-variants.{Pbch, User as UserOf}
-use Rattle.counts.specs.Counts.{countOf}
 use Rattle.places.specs.Places.{placesOf, ownsAt, placeOf, placeBy, orderOf}
-use Rattle.base.proofs.Counts.{cnt-same, nth-same}
-use Rattle.places.proofs.Elements.{count-is}
+use Rattle.base.proofs.Counts.{nth-same}
 use Rattle.grid.specs.Elements.{elementIn}
 use Rattle.payload.specs.Payload.{pbchBits, userBits}
 use Rattle.subframe.specs.Elements.{pbchFirst, userInit}
 use Rattle.subframe.proofs.OwnerBits.{pbch-size}
 use Rattle.recovery.specs.Recovery.{wordOf, symbolIn, dataBit, pbchBit, userBit, sectionOf}
 use Rattle.recovery.proofs.Channels.{pbch-length}
-use Rattle.data.specs.Areas.{areaAt, pbchArea, userArea}
-use Rattle.data.proofs.AreaOwners.{pbch-place, user-place}
-use Rattle.data_compare.specs.Symbols.{areaPlace, areaCount, areaSymbol}
+use Rattle.data.specs.Areas.{areaAt, areaCount, pbchArea, userArea}
+use Rattle.data.proofs.AreaOwners.{pbch-place, user-place, pbch-count, user-count}
+use Rattle.data_compare.specs.Symbols.{areaPlace, areaSymbol}
 use Rattle.data_read.specs.Reading.{areaBit}
 
 module _ (w : List ℕ) (p : Plan) (ok : checkOf w ≡ accepted p) where
@@ -40,10 +38,6 @@ module _ (w : List ℕ) (p : Plan) (ok : checkOf w ≡ accepted p) where
       ap₂ (λ (t x : ℕ). (dig (wordOf (demapOf 2 (pairOf (elementIn g (ownPort (p .cell .ports) (i / 2 / 2) * placesOf (p .cell) + t))))) (2 - 1 - i % 2) + x) % 2)
       (nth-same (areaAt (pbchArea (p .cell) (p .frame))) (ownsAt w p Pbch) (placesOf (p .cell)) (λ t l. pbch-place w p ok z t) (i / 2))
       (output-of (p .cell .identity) (pbchFirst (p .cell) (p .frame)) i ∙ ap (c (p .cell .identity)) (add-comm (pbchFirst (p .cell) (p .frame)) i))
-
-  pub pbch-count : p .frame .subframe ≡ 0 → areaCount (pbchArea (p .cell) (p .frame)) ≡ countOf w p Pbch
-  unfolding areaCount
-  pbch-count z = cnt-same (areaAt (pbchArea (p .cell) (p .frame))) (ownsAt w p Pbch) (placesOf (p .cell)) (λ t l. pbch-place w p ok z t) ∙ count-is w p Pbch
 
   module _ (i : ℕ) (in-i : i < length (usersOf w p)) (d : User) where
     abbrev u : User
@@ -58,19 +52,13 @@ module _ (w : List ℕ) (p : Plan) (ok : checkOf w ≡ accepted p) where
         (nth-same (areaAt (userArea (p .cell) (p .frame) u)) (ownsAt w p (UserOf i)) (placesOf (p .cell)) (λ t l. user-place w p ok i in-i d t l) (n / u .order))
         (ap (λ (x : ℕ → ℕ). x n) (outputs-start (userInit (p .cell) (p .frame) u)))
 
-    pub user-count : areaCount (userArea (p .cell) (p .frame) u) ≡ countOf w p (UserOf i)
-    unfolding areaCount
-    user-count =
-        cnt-same (areaAt (userArea (p .cell) (p .frame) u)) (ownsAt w p (UserOf i)) (placesOf (p .cell)) (λ t l. user-place w p ok i in-i d t l)
-        ∙ count-is w p (UserOf i)
-
   -- ---- the sections
   pub pbch-section :
       p .frame .subframe ≡ 0 → (g : List ℕ)
       → sectionOf (areaBit (pbchArea (p .cell) (p .frame)) 2 g (pairAt (p .cell .identity) (pbchFirst (p .cell) (p .frame)))) (2 * areaCount (pbchArea (p .cell) (p .frame)))
       ≡ sectionOf (pbchBit w p g) (pbchBits (p .cell) (p .frame))
   pbch-section z g =
-      ap₂ sectionOf (λ t i. pbch-bits z g i t) (ap (λ (n : ℕ). 2 * n) (pbch-count z) ∙ sym (pbch-size w p ok) ∙ pbch-length w p ok)
+      ap₂ sectionOf (λ t i. pbch-bits z g i t) (ap (λ (n : ℕ). 2 * n) (pbch-count w p ok z) ∙ sym (pbch-size w p ok) ∙ pbch-length w p ok)
 
   pub user-section :
       (i : ℕ) → i < length (usersOf w p) → (g : List ℕ)
@@ -79,4 +67,4 @@ module _ (w : List ℕ) (p : Plan) (ok : checkOf w ≡ accepted p) where
   unfolding nthUser userBits
   user-section i in-i g =
       ap₂ sectionOf (λ t n. user-bits i in-i (record { rnti = 0; order = 0; first = 0; count = 0 }) g n t)
-      (ap (λ (n : ℕ). nthUser w p i .order * n) (user-count i in-i (record { rnti = 0; order = 0; first = 0; count = 0 })))
+      (ap (λ (n : ℕ). nthUser w p i .order * n) (user-count w p ok i in-i (record { rnti = 0; order = 0; first = 0; count = 0 })))

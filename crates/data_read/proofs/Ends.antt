@@ -24,9 +24,9 @@ use Rattle.grid.specs.Elements.{elementIn}
 use Rattle.grid.proofs.Sending.{own-fits}
 use Rattle.recovery.specs.Recovery.{wordOf, sectionOf}
 use Rattle.data.specs.declared.Area.{Area}
-use Rattle.data.specs.Areas.{areaAt, areaIndex}
-use Rattle.data.proofs.Walking.{index-same}
-use Rattle.data_compare.specs.Symbols.{areaCount, areaSymbol}
+use Rattle.data.specs.Areas.{areaAt, areaCount}
+use Rattle.data.proofs.Walking.{index-all}
+use Rattle.data_compare.specs.Symbols.{areaSymbol}
 use Rattle.data_read.specs.declared.Gather.{Gather}
 use Rattle.data_read.specs.Reading.{areaBit}
 use Rattle.data_read.specs.Gathering.{sentBit, bitsAt, shifted, flushedByte, ownElement, LastIn, Lasted, FlushIn, Flushed, Gathered, Ended}
@@ -41,8 +41,7 @@ own-one P x e = rw e refl
 
 module _ {a : Area} {q t : ℕ} {g : List ℕ} {r : Registers} {w : Gather} {part : List ℕ} (k : Gathered a q g r t w part) (inside : t ≤ placesOf (a .cell)) (free : (x : ℕ) → t ≤ x → areaAt a x ≡ false) where
   all-read : w .j ≡ areaCount a
-  unfolding areaIndex areaCount
-  all-read = k .index ∙ sym (index-same a t (placesOf (a .cell)) inside (λ x l m. free x l))
+  all-read = k .index ∙ index-all a t inside free
 
   one-port : w .j % 2 ≡ 1 → a .cell .ports ≡ 1
   one-port o = pick (ℕ-discrete (a .cell .ports) 1)

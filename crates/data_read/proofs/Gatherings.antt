@@ -25,10 +25,10 @@ use Rattle.places.specs.Places.{placesOf}
 use Rattle.grid.specs.Elements.{elementIn}
 use Rattle.recovery.specs.Recovery.{wordOf}
 use Rattle.data.specs.declared.Area.{Area}
-use Rattle.data.specs.Areas.{areaAt, areaIndex}
-use Rattle.data.proofs.Walking.{index-more, index-same, index-none, index-most}
-use Rattle.data_compare.specs.Symbols.{areaPlace, areaCount, areaSymbol}
-use Rattle.data_compare.proofs.AreaSymbols.{place-back, index-below, count-most}
+use Rattle.data.specs.Areas.{areaAt, areaCount, areaIndex}
+use Rattle.data.proofs.Walking.{index-more, index-same, index-none, index-most, count-most}
+use Rattle.data_compare.specs.Symbols.{areaPlace, areaSymbol}
+use Rattle.data_compare.proofs.AreaSymbols.{place-back, index-below}
 use Rattle.data_read.specs.declared.Gather.{Gather}
 use Rattle.data_read.specs.Reading.{areaBit, SectionIn}
 use Rattle.data_read.specs.Gathering.{sentBit, bitsAt, withThree, ownElement, PushIn, Pushed, PlaceIn, Placed, Gathered, Begun, Goes}

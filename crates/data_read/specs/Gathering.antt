@@ -22,9 +22,9 @@ use Rattle.grid.specs.Writing.{Room}
 use Rattle.recovery.specs.Recovery.{wordOf}
 use Rattle.data.specs.declared.Area.{Area}
 use Rattle.data.specs.declared.Row.{Row}
-use Rattle.data.specs.Areas.{areaIndex}
+use Rattle.data.specs.Areas.{areaCount, areaIndex}
 use Rattle.data.specs.Rows.{RowIn}
-use Rattle.data_compare.specs.Symbols.{areaPlace, areaCount, areaSymbol}
+use Rattle.data_compare.specs.Symbols.{areaPlace, areaSymbol}
 use Rattle.data_read.specs.declared.Gather.{Gather}
 use Rattle.data_read.specs.Reading.{areaBit, SectionIn}
 

@@ -11,7 +11,7 @@ ghost use Rattle.layout.specs.Owners.{carriers};
 ghost use Rattle.payload.specs.Sections.{sectionBytes};
 ghost use Rattle.recovery.specs.Recovery.{sectionOf};
 ghost use Rattle.data.specs.Rows.{centreOut};
-ghost use Rattle.data_compare.specs.Symbols.{areaCount};
+ghost use Rattle.data.specs.Areas.{areaCount};
 ghost use Rattle.data_read.specs.Reading.{areaBit, SectionIn};
 ghost use Rattle.data_read.specs.Gathering.{bitsAt, SymbolIn, withThree, PushIn, Pushed, PlaceIn, Placed, StepIn, Stepped, LastIn, Lasted, FlushIn, Flushed, Begun, Goes, HalfIn};
 

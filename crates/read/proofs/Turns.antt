@@ -26,11 +26,10 @@ use Rattle.subframe.proofs.OwnerBits.{pbch-size, user-order}
 use Rattle.recovery.specs.Recovery.{sectionOf, payloadIn}
 use Rattle.recovery.proofs.Channels.{pbch-length}
 use Rattle.data.specs.declared.Area.{Area}
-use Rattle.data.specs.Areas.{pbchArea, userArea}
-use Rattle.data.proofs.AreaOwners.{pbch-in, user-in}
-use Rattle.data_compare.specs.Symbols.{areaCount}
+use Rattle.data.specs.Areas.{areaCount, pbchArea, userArea}
+use Rattle.data.proofs.AreaOwners.{pbch-in, user-in, pbch-count, user-count}
 use Rattle.data_read.specs.Reading.{areaBit, SectionIn}
-use Rattle.data_read.proofs.AreaBits.{pbch-count, user-count, pbch-section, user-section}
+use Rattle.data_read.proofs.AreaBits.{pbch-section, user-section}
 use Rattle.control.specs.Reading.{ackFrom, ReadIn}
 use Rattle.control.proofs.ReadingOwners.{acks-are, read-in}
 use Rattle.channels.specs.declared.Channel.the-variants.{Pbch as PbchChannel, Phich as PhichChannel, User as UserChannel}

@@ -159,12 +159,13 @@ module _ (c : Cell) (s q : ℕ) {row a N : ℕ} (er : row ≡ q * placesOf c + s
 
   pub crs-done : (r : Registers) {h : List ℕ} {result : Registers}
       → Written (everySixth (row + a) (2 * N)) (pairSent r (row + a)) g h × (result ≡ after r (2 * (2 * N)))
-      → Written (crsSends c s q) (crsSent c r) g h × ((n : ℕ) × (result ≡ after r n))
+      → Written (crsSends c s q) (crsSent c r) g h × (result ≡ after r (4 * c .blocks))
   crs-done r {h} d =
+      let bits : 2 * (2 * N) ≡ 4 * c .blocks = omega arith in
       let first : row + a ≡ q * placesOf c + s * carriers c + a = ap (λ (x : ℕ). x + a) er in
       let w : Written (everySixth (row + a) (2 * c .blocks)) (pairSent r (row + a)) g h = subst (λ (n : ℕ). Written (everySixth (row + a) (2 * n)) (pairSent r (row + a)) g h) eN (d .0) in (
         same (crs-elements c s q a (row + a) (ready .cell) (ready .symbol) ea first) (crs-values c s q a (row + a) (ready .cell) (ready .symbol) ea first r) w,
-        (2 * (2 * N), d .1),
+        d .1 ∙ ap (after r) bits,
       )
 
 -- ---- synchronisation signals

@@ -6,7 +6,7 @@ use plan::Cell;
 use plan::Frame;
 use sync::Sss;
 ghost use mathlib.Core.Path.{_≡_};
-ghost use Prim.Native.Nat.{ℕ, _+_, _-_, _*_, _%_, _≤_, _<_};
+ghost use Prim.Native.Nat.{_+_, _-_, _*_, _%_, _≤_, _<_};
 ghost use lib.ListN.{length};
 ghost use Rattle.gold.specs.Steps.{after};
 ghost use Rattle.plan.specs.Valid.{CellIn};
@@ -99,7 +99,7 @@ fn fill_values(r: Registers, n: usize, first: usize, grid: &mut [u8]) -> Registe
 // accepted plan, and have compared the grid's length.
 pub fn fill_crs(r: Registers, cell: Cell, s: usize, port: u8, grid: &mut [u8]) -> Registers
     requires { ⌜ SignalIn cell s port (now grid) ⌝ }
-    ensures { λ result. ⌜ Written (crsSends cell s port) (crsSent cell r) (now (grid .entry)) (now (grid .exit)) × ((n : ℕ) × (result ≡ after r n)) ⌝ }
+    ensures { λ result. ⌜ Written (crsSends cell s port) (crsSent cell r) (now (grid .entry)) (now (grid .exit)) × (result ≡ after r (4 * cell .blocks)) ⌝ }
 {
     let first = row_at(cell, s, port) + first_carrier(cell, s, port);
     fill_values(r, 2 * base::wide(cell.blocks), first, grid)

@@ -88,13 +88,13 @@ module _ (w : List ℕ) (p : Plan) where
   pbch-span = refl
 
 module _ (w : List ℕ) (p : Plan) (ok : checkOf w ≡ accepted p) where
-  pub pbch-size : length (ownerBits w p Pbch) ≡ 2 * countOf w p Pbch
+  -- PBCH has two bits to a place
+  pub pbch-both : pbchBits (p .cell) (p .frame) ≡ 2 * countOf w p Pbch
   unfolding pbchBits
-  pbch-size =
-      ap length (pbch-span w p)
-      ∙ span-length (8 * startOf (sections w p) 0) (pbchBits (p .cell) (p .frame))
-      ∙ pbch-twice (eqb (p .frame .subframe) 0) (eqb (p .cell .prefix) 1)
-      ∙ ap (λ (n : ℕ). 2 * n) (sym (pbch-count w p ok))
+  pbch-both = pbch-twice (eqb (p .frame .subframe) 0) (eqb (p .cell .prefix) 1) ∙ ap (λ (n : ℕ). 2 * n) (sym (pbch-count w p ok))
+
+  pub pbch-size : length (ownerBits w p Pbch) ≡ 2 * countOf w p Pbch
+  pbch-size = ap length (pbch-span w p) ∙ span-length (8 * startOf (sections w p) 0) (pbchBits (p .cell) (p .frame)) ∙ pbch-both
 
   pub user-order : (i : ℕ) → i < length (usersOf w p) → Order (nthUser w p i .order)
   unfolding nthUser

@@ -22,8 +22,7 @@ use Rattle.layout.specs.declared.Owner.{Owner}
 use Rattle.layout.specs.declared.Owner.the-variants.{Pbch, User as UserOf}
 use Rattle.counts.specs.Counts.{countOf}
 use Rattle.places.specs.Places.{placesOf, ownsAt, placeOf, placeBy, orderOf, indexOf}
-use Rattle.base.proofs.Counts.{cnt-same, nth-same}
-use Rattle.places.proofs.Elements.{count-is}
+use Rattle.base.proofs.Counts.{nth-same}
 use Rattle.grid.specs.Elements.{elementIn}
 use Rattle.grid.specs.Writing.{sends, Room}
 use Rattle.compare.specs.declared.Seen.{Seen}
@@ -39,9 +38,9 @@ use Rattle.recovery.specs.Recovery.{symbolIn, dataBit, pbchBit, userBit, payloa
 use Rattle.recovery.proofs.Channels.{pbch-length}
 use Rattle.recovery.proofs.Payload.{pbch-bit, user-bit}
 use Rattle.data.specs.declared.Area.{Area}
-use Rattle.data.specs.Areas.{areaAt, areaIndex, areaSends, pbchArea, userArea}
-use Rattle.data.proofs.AreaOwners.{pbch-place, pbch-index, user-place, user-index}
-use Rattle.data_compare.specs.Symbols.{areaPlace, areaCount, areaSymbol, areaSent, AreaHolds, AreaCompared}
+use Rattle.data.specs.Areas.{areaAt, areaCount, areaIndex, areaSends, pbchArea, userArea}
+use Rattle.data.proofs.AreaOwners.{pbch-place, pbch-index, user-place, user-index, pbch-count, user-count as area-count}
+use Rattle.data_compare.specs.Symbols.{areaPlace, areaSymbol, areaSent, AreaHolds, AreaCompared}
 use Rattle.build.specs.Senders.{active, ownerSends}
 use Rattle.build.proofs.DataValues.{pbch-area, user-area}
 use Rattle.build.proofs.Numbered.{place-lt}
@@ -120,10 +119,6 @@ module _ (w : List ℕ) (p : Plan) (ok : checkOf w ≡ accepted p) (g : List ℕ
     abbrev pbch : Area
     pbch = pbchArea (p .cell) (p .frame)
 
-    pub pbch-count : areaCount (pbchArea (p .cell) (p .frame)) ≡ countOf w p Pbch
-    unfolding areaCount
-    pbch-count = cnt-same (areaAt pbch) (ownsAt w p Pbch) T (λ t l. pbch-place w p ok zero-th t) ∙ count-is w p Pbch
-
     pbch-symbols : (j : ℕ) → areaSymbol pbch g j ≡ symbolIn w p g Pbch (j / 2) j
     unfolding areaSymbol areaPlace symbolIn placeOf placeBy orderOf
     pbch-symbols j =
@@ -136,12 +131,12 @@ module _ (w : List ℕ) (p : Plan) (ok : checkOf w ≡ accepted p) (g : List ℕ
 
     pub pbch-known : Holds (ownerSends w p Pbch) (due w p g) g → (j : ℕ) → j < areaCount (pbchArea (p .cell) (p .frame)) → isSymbol 2 (areaSymbol (pbchArea (p .cell) (p .frame)) g j) ≡ true
     pbch-known h =
-        known-from w p g Pbch pbch 2 2 pbch-count pbch-symbols (λ e. pbch-area w p ok A A room zero-th e) pbch-area-sent
+        known-from w p g Pbch pbch 2 2 (pbch-count w p ok zero-th) pbch-symbols (λ e. pbch-area w p ok A A room zero-th e) pbch-area-sent
         (due-known w p ok g room Pbch 2 2 pbchScrambling (omega arith) (pbch-occurs w p ok) pbch-sent pbch-bits pbch-turns h)
 
     pub pbch-seen : (r : Seen) → AreaCompared (pbchArea (p .cell) (p .frame)) 2 2 g r → Compared (ownerSends w p Pbch) (due w p g) g r
     pbch-seen =
-        area-compared w p g Pbch pbch 2 2 pbch-count pbch-symbols (λ e. pbch-area w p ok A A room zero-th e) pbch-area-sent
+        area-compared w p g Pbch pbch 2 2 (pbch-count w p ok zero-th) pbch-symbols (λ e. pbch-area w p ok A A room zero-th e) pbch-area-sent
         (to-due w p ok g room Pbch 2 2 pbchScrambling (omega arith) (pbch-occurs w p ok) pbch-sent pbch-bits pbch-turns)
         (due-known w p ok g room Pbch 2 2 pbchScrambling (omega arith) (pbch-occurs w p ok) pbch-sent pbch-bits pbch-turns)
         (from-due w p ok g room Pbch 2 2 pbchScrambling (omega arith) (pbch-occurs w p ok) pbch-sent pbch-bits pbch-turns)
@@ -181,8 +176,8 @@ module _ (w : List ℕ) (p : Plan) (ok : checkOf w ≡ accepted p) (g : List ℕ
     index-is t l = user-index w p ok i in-i _ t l
 
     pub user-count : areaCount (userArea (p .cell) (p .frame) (nthUser w p i)) ≡ countOf w p (UserOf i)
-    unfolding areaCount
-    user-count = cnt-same (areaAt area) (ownsAt w p (UserOf i)) T place-is ∙ count-is w p (UserOf i)
+    unfolding nthUser
+    user-count = area-count w p ok i in-i _
 
     user-symbols : (j : ℕ) → areaSymbol area g j ≡ symbolIn w p g (UserOf i) (j / 2) j
     unfolding areaSymbol areaPlace symbolIn placeOf placeBy orderOf

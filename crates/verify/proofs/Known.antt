@@ -14,8 +14,9 @@ use Rattle.compare.specs.Comparing.{Holds}
 use Rattle.subframe.specs.Grid.{gridOf}
 use Rattle.subframe.proofs.Occurs.{pbch-occurs, user-occurs}
 use Rattle.recovery.specs.Recovery.{payloadIn}
-use Rattle.data.specs.Areas.{pbchArea, userArea}
-use Rattle.data_compare.specs.Symbols.{areaCount, areaSymbol}
+use Rattle.data.specs.Areas.{areaCount, pbchArea, userArea}
+use Rattle.data.proofs.AreaOwners.{pbch-count}
+use Rattle.data_compare.specs.Symbols.{areaSymbol}
 use Rattle.build.specs.Senders.{ownerSends}
 use Rattle.verify.specs.Made.{due, Given}
 use Rattle.verify.proofs.Elements.{made-element}
@@ -31,7 +32,7 @@ module _ (w : List ℕ) (p : Plan) (g : List ℕ) (given : Given w p g) where
   -- ---- the places
   pub pbch-even : p .frame .subframe ≡ 0 → (p .cell .ports ≡ 1 → ⊥) → areaCount (pbchArea (p .cell) (p .frame)) % 2 ≡ 0
   pbch-even z n =
-      ap (λ (m : ℕ). m % 2) (areas.pbch-count w p (given .answer) g (given .room) z) ∙ occurs-even (pbch-occurs w p (given .answer)) n
+      ap (λ (m : ℕ). m % 2) (pbch-count w p (given .answer) z) ∙ occurs-even (pbch-occurs w p (given .answer)) n
 
   pub user-even :
       (i : ℕ) → i < length (usersOf w p) → (p .cell .ports ≡ 1 → ⊥) → areaCount (userArea (p .cell) (p .frame) (nthUser w p i)) % 2 ≡ 0

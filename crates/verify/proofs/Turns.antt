@@ -32,9 +32,9 @@ use Rattle.subframe.specs.Elements.{controlInit}
 use Rattle.subframe.proofs.OwnerBits.{user-order}
 use Rattle.recovery.specs.Recovery.{payloadIn}
 use Rattle.data.specs.declared.Area.{Area}
-use Rattle.data.specs.Areas.{pbchArea, userArea, AreaIn}
+use Rattle.data.specs.Areas.{areaCount, pbchArea, userArea, AreaIn}
 use Rattle.data.proofs.AreaOwners.{pbch-in, user-in}
-use Rattle.data_compare.specs.Symbols.{areaCount, AreaCompared, CompareIn}
+use Rattle.data_compare.specs.Symbols.{AreaCompared, CompareIn}
 use Rattle.signals.specs.Signals.{crsSends, crsSent, markSends, pssSent, sssSent}
 use Rattle.signals.specs.Rows.{MarkIn, SignalIn}
 use Rattle.control.specs.Control.{pcfichSends, pcfichSent, phichSends}

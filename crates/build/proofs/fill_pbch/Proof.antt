@@ -25,7 +25,7 @@ part-map-end : tie.Need-part-map-end
 part-map-end c = let h = heads-room (c .before .before .before .before .before .before .before .args .plan .now) (c .before .before .before .before .before .before .before .args .p) (c .before .before .before .before .before .before .before .pre .answer) (c .before .before .before .before .before .before .before .args .payload .now) _ _ (c .section-bytes .ensures ∙ ap sectionBytes (c .before .pbch-bits .ensures)) refl in omega (arith, h .0, h .1, c .before .before .before .before .before .before .before .pre .right .size)
 
 map-requires : tie.Need-map-requires
-map-requires c κs = pbch-in (c .before .before .before .before .before .before .before .before .before .args .plan .now) (c .before .before .before .before .before .before .before .before .before .args .p) (c .before .before .before .before .before .before .before .before .before .args .payload .now) (c .before .before .before .before .before .before .before .before .before .pre) (none (elementNumbered (c .before .before .before .before .before .before .before .before .before .args .plan .now) (c .before .before .before .before .before .before .before .before .before .args .p) (c .before .before .before .before .before .before .before .before .before .args .payload .now)) (c .before .before .before .before .before .before .before .before .before .args .grid .now))
+map-requires c κs = pbch-in (c .before .before .before .before .before .before .before .before .before .args .plan .now) (c .before .before .before .before .before .before .before .before .before .args .p) (c .before .before .before .before .before .before .before .before .before .args .payload .now) (c .before .before .before .before .before .before .before .before .before .pre) (none (elementNumbered (c .before .before .before .before .before .before .before .before .before .args .plan .now) (c .before .before .before .before .before .before .before .before .before .args .p) (c .before .before .before .before .before .before .before .before .before .args .payload .now)) (c .before .before .before .before .before .before .before .before .before .args .grid .now)) (c .before .before .before .before .if1 .taken)
 
 same-length : tie.Need-same-length
 same-length c = c .before .before .map .ensures .size

@@ -49,7 +49,7 @@ use Rattle.plan.specs.declared.Plan.{Plan}
 use Rattle.plan.proofs.Plan as P
 use Rattle.plan.proofs.Plan.Laws as P′
 use Rattle.grid.specs.Writing.{Written}
-use Rattle.channels.specs.Channels.{sendsOf, sentOf, ChannelIn}
+use Rattle.channels.specs.Channels.{sendsOf, sentOf, bitsUsed, ChannelIn}
 use Rattle.channels.specs.declared.Channel.{Channel}
 use Rattle.channels.proofs.Channel as E
 use Rattle.channels.proofs.Channel.Laws as E′
@@ -120,7 +120,7 @@ module _ {M : Type 1} (𝓤 : URA M) (H : Heap 𝓤) (A : Atoms 𝓤) (W : Given
 
   -- what is said of the pair after it and of the grid
   abbrev Says : Registers → List ℕ → Type 0
-  Says r zs = Written (sendsOf p ch) (sentOf (now w) p (now bs) h ch) g zs × ((n : ℕ) × (r ≡ after h n))
+  Says r zs = Written (sendsOf p ch) (sentOf (now w) p (now bs) h ch) g zs × (r ≡ after h (bitsUsed p ch))
 
   abbrev Post : Val → SProp 𝓤
   Post = walkOf 𝓤 H A f.ended stayed (f.clauses 𝓤 H A at-mem run) .post (((κ, (κ₁, (κ₂, (κ₃, tt)))), (q, (q₁, (q₂, (q₃, tt)))), tt, x, at), tt)

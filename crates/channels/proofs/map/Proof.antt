@@ -53,7 +53,7 @@ use Rattle.plan.specs.declared.Plan.{Plan}
 use Rattle.plan.proofs.Plan as P
 use Rattle.plan.proofs.Plan.Laws as P′
 use Rattle.grid.specs.Writing.{Written}
-use Rattle.channels.specs.Channels.{initOf, firstBit, sendsOf, sentOf, ChannelIn}
+use Rattle.channels.specs.Channels.{initOf, firstBit, sendsOf, sentOf, bitsUsed, ChannelIn}
 use Rattle.channels.specs.declared.Channel.{Channel}
 use Rattle.channels.proofs.Channel as E
 use Rattle.channels.proofs.Channel.Laws as E′
@@ -201,8 +201,8 @@ module _ {M : Type 1} (𝓤 : URA M) (H : Heap 𝓤) (A : Atoms 𝓤) (W : Given
         calls-at ! fm (Lent 𝓤 H A at-mem run) known-lent (to-lent l₆ ν δ r) (and-then ! (load ! (from ! (stop !)) (look ! 6 refl)) (and-then ! (load ! (from ! (stop !)) (look ! 21 refl)) (and-then ! (load ! (from ! (stop !)) (look ! 19 refl))
         (and-then ! (load ! (from ! (stop !)) (look ! 17 refl)) (and-then ! (load ! (from ! (stop !)) (look ! 15 refl)) (and-then ! (load ! (from ! (stop !)) (look ! 2 refl)) (no-more !))))))) (λ v.
         use1 W (later (some (λ (m : Unit {0}). ((‵ (flft (ν ∷ []) fullShare) ⊛ tokens) ⊛ ‵ (unit .own m (v ∷ []))) ⊛ raw (ensured 𝓤 H A lent.ended (lent.clauses 𝓤 H A at-mem run) (ν ∷ [], (κ₁, (κ₂, (κ₃, tt)))) (rx l₆ δ r, x) tt m)))) (id⊢ 𝓤 _) $ await ! tt $ pick ! (λ m.
-        split ! $ move ! (1 ∷ []) $ use1 W (some (λ (zs : Left). ‵ (lasts lent.ended (ν ∷ [], (κ₁, (κ₂, (κ₃, tt)))) (rx l₆ δ r, x) zs) ⊛ raw (fact 𝓤 (Says r (zs .1 .1 .1 .1 .1 .0) × ((n : ℕ) × (zs .0 ≡ after r n)))))) (id⊢ 𝓤 _) $ pick ! (λ zs.
-        split ! $ move ! (1 ∷ []) $ heard ! (Says r (zs .1 .1 .1 .1 .1 .0) × ((n : ℕ) × (zs .0 ≡ after r n))) (λ e. fsplit ! $ move ! (1 ∷ []) $
+        split ! $ move ! (1 ∷ []) $ use1 W (some (λ (zs : Left). ‵ (lasts lent.ended (ν ∷ [], (κ₁, (κ₂, (κ₃, tt)))) (rx l₆ δ r, x) zs) ⊛ raw (fact 𝓤 (Says r (zs .1 .1 .1 .1 .1 .0) × (zs .0 ≡ after r (bitsUsed p ch)))))) (id⊢ 𝓤 _) $ pick ! (λ zs.
+        split ! $ move ! (1 ∷ []) $ heard ! (Says r (zs .1 .1 .1 .1 .1 .0) × (zs .0 ≡ after r (bitsUsed p ch))) (λ e. fsplit ! $ move ! (1 ∷ []) $
         fsplit ! $ drop ! $ fsplit ! $ drop ! $ fsplit ! $ drop ! $ fsplit ! $ drop ! $ fsplit ! $ fsplit ! $ move ! (1 ∷ []) $ feqL ! (λ l.
         -- [the last list; true; the last pair; the tokens and the result; the lender's part; _11; …; _10; …; _9; …; _8; …; _7; …; …; _5; …; …; _0; …]
         move ! (3 ∷ []) $ split ! $ move ! (1 ∷ []) $ peeks ! unit (Is unit) (shows 𝓤 H A unit) m (v ∷ []) (λ is′. land ! (from ! (stop !)) (init ! 12 refl (nothing-lawful 𝓤 H A W .typed m _ is′ .0)) $

@@ -1,7 +1,8 @@
 -- `control::bit_in` meets its contract: the bit from the sums of the HI's unit. Assumes nothing.
 use borrow.Author.Needs.{needs}
 use Rattle.phich.specs.Spreading.{wordBit}
-use Rattle.control.proofs.Reading.{length-most, unit-read, hi-ready, bit-read}
+use Rattle.control.proofs.Sums.{length-most}
+use Rattle.control.proofs.Reading.{unit-read, hi-ready, bit-read}
 use Rattle.control.proofs.bit_in.Statement.{statement}
 use Rattle.control.proofs.bit_in.Tie as tie
 

@@ -1,5 +1,6 @@
 -- `control::fill_phich` meets its contract: the sums by the word's bits are those by the pair's. Assumes nothing.
-use Rattle.control.proofs.Sums.{sums-ready, unit-ready, unit-done}
+use native.Mathlib.Omega.{arith}
+use Rattle.control.proofs.Sums.{length-most, after-three, sums-ready, unit-ready, unit-done}
 use borrow.Author.Needs.{needs}
 use Rattle.control.proofs.fill_phich.Statement.{statement}
 use Rattle.control.proofs.fill_phich.Tie as tie
@@ -18,8 +19,13 @@ put-unit-requires c κs =
     let s = c .before .before .before .before .before .before .before in
     unit-ready (s .pre) (c .before .before .spread-length .ensures) (c .before .before .before .word .result) (s .args .bits .now) (c .before .unit-sums .ensures)
 
-advance-requires : tie.Need-advance-requires
-advance-requires c κs = search needs
+mul-skip : tie.Need-mul-skip
+mul-skip c =
+    let s = c .before .before .before .before .before .before .before .before .before .before in
+    omega (arith, length-most (s .args .cell) (c .before .before .before .before .before .spread-length .ensures))
+
+skip-requires : tie.Need-skip-requires
+skip-requires c κs = search needs
 
 same-length : tie.Need-same-length
 same-length c = search needs
@@ -27,7 +33,7 @@ same-length c = search needs
 returns : tie.Need-returns
 returns c =
     let s = c .before .before .before .before .before .before .before .before .before .before .before in
-    (unit-done (s .pre) (c .before .before .before .before .before .before .spread-length .ensures) (c .before .before .before .before .before .before .before .word .result) (s .args .bits .now) (c .before .before .before .before .before .unit-sums .ensures) (s .args .r) (c .before .before .before .before .before .before .before .word .ensures) (c .before .before .before .put-unit .ensures), (12, c .advance .ensures))
+    (unit-done (s .pre) (c .before .before .before .before .before .before .spread-length .ensures) (c .before .before .before .before .before .before .before .word .result) (s .args .bits .now) (c .before .before .before .before .before .unit-sums .ensures) (s .args .r) (c .before .before .before .before .before .before .before .word .ensures) (c .before .before .before .put-unit .ensures), after-three (s .args .cell) (s .args .r) (c .before .before .before .before .before .before .spread-length .ensures) (c .skip .ensures))
 
 pub fill-phich-spec : {M : Type 1} → statement M
 fill-phich-spec =
@@ -37,6 +43,7 @@ fill-phich-spec =
     spread-length-requires
     unit-sums-requires
     put-unit-requires
-    advance-requires
+    mul-skip
+    skip-requires
     same-length
     returns)

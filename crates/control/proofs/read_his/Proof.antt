@@ -2,6 +2,7 @@
 use native.Mathlib.Omega.{arith}
 use Prim.Native.Nat.{_-_}
 use mathlib.Core.Path.{sym, _∙_}
+use Rattle.control.proofs.Sums.{length-most, after-three}
 use Rattle.control.proofs.Reading.{ReadTurn, read-start, hi-read, push-in, read-next, read-finish}
 use Rattle.control.proofs.read_his.Statement.{statement}
 use Rattle.control.proofs.read_his.Tie as tie
@@ -44,16 +45,22 @@ loop-again c =
     let s = c .before .before .before .before .before .before .before .before .before .before .before .before .before in
     read-next (s .pre) (s .args .r) (c .before .before .before .before .before .before .before .before .loop .inv) (c .before .before .before .before .before .before .if1 .taken) (c .before .before .before .before .before .before .before .before .before .word .ensures) (c .before .before .before .before .before .bit-in .ensures) (c .before .before .before .push .ensures) (c .next-at .ensures)
 
-advance-requires : tie.Need-advance-requires Inv-loop μ-loop
-advance-requires c κs = (omega arith, omega arith)
+spread-length-requires : tie.Need-spread-length-requires Inv-loop μ-loop
+spread-length-requires c κs = tt
+
+mul-skip : tie.Need-mul-skip Inv-loop μ-loop
+mul-skip c = omega (arith, length-most (c .before .before .before .before .before .before .before .before .args .cell) (c .spread-length .ensures))
+
+skip-requires : tie.Need-skip-requires Inv-loop μ-loop
+skip-requires c κs = tt
 
 same-length : tie.Need-same-length Inv-loop μ-loop
-same-length c = c .before .before .before .loop .inv .size ∙ sym (c .before .before .before .before .before .before .before .before .pre .size)
+same-length c = c .before .before .before .before .loop .inv .size ∙ sym (c .before .before .before .before .before .before .before .before .before .pre .size)
 
 returns : tie.Need-returns Inv-loop μ-loop
 returns c =
-    let s = c .before .before .before .before .before .before .before .before in
-    (read-finish (s .pre) (s .args .r) (c .before .before .before .loop .inv) (c .before .if1 .left), (12, c .advance .ensures))
+    let s = c .before .before .before .before .before .before .before .before .before in
+    (read-finish (s .pre) (s .args .r) (c .before .before .before .before .loop .inv) (c .before .before .if1 .left), after-three (s .args .cell) (s .args .r) (c .before .spread-length .ensures) (c .skip .ensures))
 
 pub read-his-spec : {M : Type 1} → statement M
 read-his-spec =
@@ -69,6 +76,8 @@ read-his-spec =
     add-n
     loop-less
     loop-again
-    advance-requires
+    spread-length-requires
+    mul-skip
+    skip-requires
     same-length
     returns)

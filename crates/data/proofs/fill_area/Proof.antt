@@ -5,7 +5,7 @@ use borrow.Author.Needs.{needs}
 use Rattle.layout.specs.Owners.{carriers}
 use Rattle.data.specs.Filling.{Goes}
 use Rattle.data.proofs.Walking.{stay}
-use Rattle.data.proofs.Rows.{area-starts, begun-from, area-row, area-step, area-ends, rows-few, same-size}
+use Rattle.data.proofs.Rows.{area-starts, begun-from, area-row, area-step, area-given, area-done, rows-few, same-size}
 use Rattle.data.proofs.fill_area.Statement.{statement}
 use Rattle.data.proofs.fill_area.Tie as tie
 
@@ -33,11 +33,20 @@ loop-less c = omega arith
 loop-again : tie.Need-loop-again Inv-loop μ-loop
 loop-again c = (omega arith, area-step (c .before .before .before .before .before .loop .s) (c .before .before .before .before .before .loop .inv .1) (c .before .before .before .before .loop-test .taken) (c .before .before .fill-row .ensures))
 
+ended-requires : tie.Need-ended-requires Inv-loop μ-loop
+ended-requires c κs =
+    let s = c .before .before .before .before .before in
+    area-given (c .before .loop .s) (c .before .loop .inv .1) (c .loop-test .left) (area-starts (s .args .r) (c .before .before .begun .result) (s .pre) (c .before .before .begun .ensures))
+
 same-length : tie.Need-same-length Inv-loop μ-loop
-same-length c = same-size (begun-from (area-starts (c .before .before .before .before .before .before .before .args .r) (c .before .before .before .before .begun .result) (c .before .before .before .before .before .before .before .pre) (c .before .before .before .before .begun .ensures))) (c .before .before .before .loop .inv .1)
+same-length c =
+    let s = c .before .before .before .before .before .before in
+    same-size (begun-from (area-starts (s .args .r) (c .before .before .before .begun .result) (s .pre) (c .before .before .before .begun .ensures))) (c .before .before .loop .inv .1)
 
 returns : tie.Need-returns Inv-loop μ-loop
-returns c = area-ends (c .before .before .before .loop .s) (c .before .before .before .loop .inv .1) (c .before .before .loop-test .left) (area-starts (c .before .before .before .before .before .before .before .args .r) (c .before .before .before .before .begun .result) (c .before .before .before .before .before .before .before .pre) (c .before .before .before .before .begun .ensures))
+returns c =
+    let s = c .before .before .before .before .before .before in
+    area-done (c .before .before .loop .s) (c .before .before .loop .inv .1) (c .before .loop-test .left) (area-starts (s .args .r) (c .before .before .before .begun .result) (s .pre) (c .before .before .before .begun .ensures)) (c .ended .ensures)
 
 pub fill-area-spec : {M : Type 1} → statement M
 fill-area-spec =
@@ -51,5 +60,6 @@ fill-area-spec =
     add-s
     loop-less
     loop-again
+    ended-requires
     same-length
     returns)
