@@ -12,7 +12,7 @@ use Rattle.layout.specs.declared.Owner.{Owner}
 use Rattle.counts.specs.Sums.{sumTo}
 use Rattle.counts.specs.Counts.{countOf as elementsOf}
 use Rattle.base.specs.Counts.{cnt}
-use Rattle.places.specs.Places.{placeNumber, placesOf, ownsAt, placeCount}
+use Rattle.places.specs.Places.{placeNumber, ownsAt, placeCount}
 use Rattle.base.proofs.Counts.{cnt-add}
 use Rattle.places.proofs.Numbers.{owns-at}
 
