@@ -23,7 +23,7 @@ use Rattle.plan.specs.Fields.{unitsOf}
 use Rattle.plan.specs.Rows.{usersOf, nthUser}
 use Rattle.plan.specs.declared.Plan.{Plan}
 use Rattle.plan.specs.declared.Checked.the-variants.{Plan as accepted}
-use Rattle.layout.specs.Rules.{slotLength, inSlot, crsSymbol, crs, crsOf, marked, pss, sss, pbch, inPbchArea}
+use Rattle.layout.specs.Rules.{crsSymbol, crs, crsOf, marked, pss, sss, pbch, inPbchArea}
 use Rattle.layout.specs.Owners.{symbols, owns, fixedRule}
 use Rattle.layout.specs.declared.Mark.the-variants.{Primary, Secondary}
 use Rattle.layout.specs.declared.Owner.{Owner}

@@ -8,7 +8,7 @@ use Rattle.crs.specs.Crs.{crsInit}
 use Rattle.plan.specs.Check.{checkOf}
 use Rattle.plan.specs.declared.Plan.{Plan}
 use Rattle.plan.specs.declared.Checked.the-variants.{Plan as accepted}
-use Rattle.layout.specs.Rules.{slotLength, slotOf, inSlot, crsSymbol, marked}
+use Rattle.layout.specs.Rules.{slotOf, inSlot, crsSymbol, marked}
 use Rattle.layout.specs.Owners.{owns}
 use Rattle.layout.specs.declared.Mark.the-variants.{Primary, Secondary}
 use Rattle.layout.specs.declared.Owner.the-variants.{Crs, Sync}

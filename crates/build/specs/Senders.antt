@@ -10,7 +10,7 @@ use Rattle.plan.specs.Fields.{unitsOf}
 use Rattle.plan.specs.Rows.{usersOf}
 use Rattle.plan.specs.declared.Plan.{Plan}
 use Rattle.plan.specs.declared.Checked.the-variants.{Plan as accepted}
-use Rattle.layout.specs.Rules.{slotLength, inSlot, crsSymbol, marked}
+use Rattle.layout.specs.Rules.{crsSymbol, marked}
 use Rattle.layout.specs.Owners.{symbols}
 use Rattle.layout.specs.declared.Owner.{Owner}
 use Rattle.layout.specs.declared.Owner.the-variants.{Crs, Sync, Pbch, Pcfich, Phich, User as UserOf, Held, Idle}

@@ -12,12 +12,11 @@ ghost use Prim.Native.Nat.{ℕ, _<_};
 ghost use lib.ListN.{length};
 ghost use Rattle.plan.specs.Rows.{usersOf};
 ghost use Rattle.plan.specs.Fields.{unitsOf};
-ghost use Rattle.layout.specs.Rules.{slotLength, inSlot, crsSymbol};
+ghost use Rattle.layout.specs.Rules.{crsSymbol};
 ghost use Rattle.layout.specs.Owners.{symbols};
 ghost use Rattle.grid.specs.Writing.{Written};
 ghost use Rattle.subframe.specs.Grid.{elementNumbered, gridOf};
 ghost use Rattle.build.specs.Senders.{crsPorts, crsRows, marksSend, pbchSends, ownerSends, unitsSend, usersSend, Ready};
-ghost use Rattle.layout.specs.declared.Owner.the-variants.{Pcfich};
 ghost use Rattle.build.specs.Build.{builtOf, gridAfter, builtAnswer};
 
 // The count of user elements, ports not multiplied, or the refusal.

@@ -11,7 +11,7 @@ ghost use Rattle.gold.specs.Sequence.{pairAt};
 ghost use Rattle.gold.specs.Steps.{after};
 ghost use Rattle.crs.specs.Crs.{crsInit};
 ghost use Rattle.plan.specs.Valid.{CellIn, FrameIn};
-ghost use Rattle.layout.specs.Rules.{slotLength, slotOf, inSlot};
+ghost use Rattle.layout.specs.Rules.{slotOf, inSlot};
 ghost use Rattle.layout.specs.Owners.{symbols};
 ghost use Rattle.grid.specs.Writing.{Written};
 ghost use Rattle.subframe.specs.Elements.{pbchFirst, controlInit, userInit};

@@ -8,7 +8,7 @@ use borrow.Author.Tests.{ne-eqb, lt-ltb, le-ltb, eqb-true, eqb-false, ltb-true, 
 use Rattle.base.proofs.Tests.{by-test}
 use Rattle.plan.specs.declared.Cell.{Cell}
 use Rattle.base.specs.Choice.{one}
-use Rattle.layout.specs.Rules.{formatGroup, isFormat, left, unitGroup, unitHas}
+use Rattle.layout.specs.Rules.{formatGroup, isFormat, groupsLeft, unitGroup, unitHas}
 use Rattle.layout.proofs.Groups.{format-small, format-apart}
 use Rattle.layout.proofs.Units.{unit-small, unit-apart}
 use Rattle.counts.specs.Sums.{sumTo}
@@ -65,7 +65,7 @@ module _ (c : Cell) (big : 6 ≤ c .blocks) where
       (apart 0 1 (omega arith) (omega arith)) (apart 0 2 (omega arith) (omega arith)) (apart 1 2 (omega arith) (omega arith))
       (g 3) (small 3) (apart 0 3 (omega arith) (omega arith)) (apart 1 3 (omega arith) (omega arith)) (apart 2 3 (omega arith) (omega arith))
 
-  pub three-groups : (m s : ℕ) → m < left c / 3 → sumTo (2 * c .blocks) (λ t. one (unitHas c m s t)) ≡ 3
+  pub three-groups : (m s : ℕ) → m < groupsLeft c / 3 → sumTo (2 * c .blocks) (λ t. one (unitHas c m s t)) ≡ 3
   unfolding unitHas
   three-groups m s third =
       let g = unitGroup c m in

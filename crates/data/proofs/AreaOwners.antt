@@ -26,7 +26,7 @@ use Rattle.layout.proofs.Pilot.{slot-length}
 use Rattle.counts.specs.Counts.{countOf}
 use Rattle.places.specs.Places.{symbolAt, carrierAt, placesOf, ownsAt, orderOf, indexBy, indexOf}
 use Rattle.places.proofs.Elements.{count-is}
-use Rattle.places.specs.Halves.{openPlace, openOfFour, inPbch, taken, openTo}
+use Rattle.places.specs.Halves.{openPlace, openOfFour, inPbch, takenHalf, openTo}
 use Rattle.base.proofs.Counts.{cnt-same}
 use Rattle.places.proofs.Numbers.{symbol-inside}
 use Rattle.places.proofs.Halves.{pbch-half, user-places}
@@ -99,8 +99,8 @@ module _ (w : List ℕ) (p : Plan) (ok : checkOf w ≡ accepted p) where
     unfolding areaHas openTo blocksHave
     user-at s k in-s =
         rw (lt-ltb s (symbols (p .cell)) in-s)
-        (regrouped (leb (controlSymbols (p .cell) (p .frame)) s) (leb (6 * (2 * u .first)) k) (ltb k (6 * (2 * (u .first + u .count)))) (openPlace (p .cell) s (k % 6)) (not (taken (p .cell) (p .frame) s (k / 6)))
-        ∙ ap (λ (t : Bool). (t && leb (controlSymbols (p .cell) (p .frame)) s && not (taken (p .cell) (p .frame) s (k / 6))) && openPlace (p .cell) s (k % 6)) (ap₂ _&&_ low high ∙ sym (user-blocks (usersOf w p) i (slotOf (p .cell) s) (6 * (k / 6)) in-i d))
+        (regrouped (leb (controlSymbols (p .cell) (p .frame)) s) (leb (6 * (2 * u .first)) k) (ltb k (6 * (2 * (u .first + u .count)))) (openPlace (p .cell) s (k % 6)) (not (takenHalf (p .cell) (p .frame) s (k / 6)))
+        ∙ ap (λ (t : Bool). (t && leb (controlSymbols (p .cell) (p .frame)) s && not (takenHalf (p .cell) (p .frame) s (k / 6))) && openPlace (p .cell) s (k % 6)) (ap₂ _&&_ low high ∙ sym (user-blocks (usersOf w p) i (slotOf (p .cell) s) (6 * (k / 6)) in-i d))
         ∙ sym (user-places w p ok i s (k / 6) (k % 6) (omega arith))
         ∙ ap (owns w p (UserOf i) s) (split k))
       where

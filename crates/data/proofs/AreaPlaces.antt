@@ -9,9 +9,8 @@ use lib.Dec.{leb, ltb}
 use borrow.Author.Tests.{le-leb, lt-leb, lt-ltb, le-ltb, leb-true}
 use Rattle.base.proofs.Tests.{by-test, clash}
 use Rattle.layout.specs.Owners.{carriers}
-use Rattle.layout.specs.Rules.{slotLength}
 use Rattle.places.specs.Places.{symbolAt, carrierAt}
-use Rattle.places.specs.Halves.{without, taken}
+use Rattle.places.specs.Halves.{without, takenHalf}
 use Rattle.places.proofs.Numbers.{place-symbol, place-carrier, place-both, carrier-inside}
 use Rattle.data.specs.declared.Area.{Area}
 use Rattle.data.specs.Areas.{areaHas, areaAt}
@@ -28,7 +27,7 @@ abbrev pub openIn : Area → ℕ → ℕ → Bool
 openIn a s r = without (a .cell) (a .signals) s r
 
 abbrev pub leftOut : Area → ℕ → ℕ → Bool
-leftOut a s b = a .leaves && taken (a .cell) (a .frame) s b
+leftOut a s b = a .leaves && takenHalf (a .cell) (a .frame) s b
 
 fourth-false : (x y z v n m : Bool) → z ≡ false → x && y && z && v && n && m ≡ false
 fourth-false x y z v n m e = rw e (rw (and-false (x && y)) refl)

@@ -14,7 +14,7 @@ use Rattle.plan.specs.declared.Frame.{Frame}
 use Rattle.base.specs.Choice.{one}
 use Rattle.layout.specs.Rules.{inSyncArea, slotLength, slotOf, inSlot, crsShift, marked, middle, inPbchArea}
 use Rattle.counts.specs.Users.{taken as takenRow}
-use Rattle.places.specs.Halves.{taken}
+use Rattle.places.specs.Halves.{takenHalf}
 use Rattle.places.proofs.Halves.{first-at, last-at, none-at, not-second}
 use Rattle.data.specs.Rows.{bitIf, maskBut, bitOf, Masks, centreOut}
 use Rattle.data.proofs.AreaPlaces.{leb-same}
@@ -102,8 +102,8 @@ joined : (m x z p q c : Bool) → m && x && c || z && p && q && c ≡ (m && x ||
 joined m x z p q true = ap₂ _||_ (and-true (m && x)) (and-true (z && p && q)) ∙ sym (and-true (m && x || z && p && q))
 joined m x z p q false = ap₂ _||_ (and-false (m && x)) (and-false (z && p && q)) ∙ sym (and-false (m && x || z && p && q))
 
-pub taken-centre : (c : Cell) (f : Frame) (s b : ℕ) → taken c f s b ≡ centreOut (c .blocks) (takenRow c f s) b
-unfolding taken inSyncArea inPbchArea middle takenRow centreOut
+pub taken-centre : (c : Cell) (f : Frame) (s b : ℕ) → takenHalf c f s b ≡ centreOut (c .blocks) (takenRow c f s) b
+unfolding takenHalf inSyncArea inPbchArea middle takenRow centreOut
 taken-centre c f s b =
     joined (marked f) (eqb (s + 1) (slotLength c) || eqb (s + 2) (slotLength c)) (eqb (f .subframe) 0) (leb (slotLength c) s) (ltb s (slotLength c + 4))
     (leb (6 * c .blocks) (6 * b + 36) && ltb (6 * b) (6 * c .blocks + 36))

@@ -16,7 +16,7 @@ use Rattle.layout.specs.Owners.{symbols, controlSymbols}
 use Rattle.layout.specs.Rules.{slotLength}
 use Rattle.base.specs.Counts.{cnt}
 use Rattle.places.specs.Places.{symbolAt, carrierAt, placesOf}
-use Rattle.places.specs.Halves.{without, taken}
+use Rattle.places.specs.Halves.{without, takenHalf}
 use Rattle.codeword.specs.Streams.{symbolsOf}
 use Rattle.grid.specs.Writing.{sends, Room}
 use Rattle.data.specs.declared.Area.{Area}
@@ -27,7 +27,7 @@ unfoldable pub areaHas : Area → ℕ → ℕ → Bool
 areaHas a s k =
     leb (a .first) s && ltb s (a .last) && leb (6 * a .from) k && ltb k (6 * a .to)
     && without (a .cell) (a .signals) s (k % 6)
-    && not (a .leaves && taken (a .cell) (a .frame) s (k / 6))
+    && not (a .leaves && takenHalf (a .cell) (a .frame) s (k / 6))
 
 unfoldable pub areaAt : Area → ℕ → Bool
 areaAt a t = areaHas a (symbolAt (a .cell) t) (carrierAt (a .cell) t)

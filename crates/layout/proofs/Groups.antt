@@ -11,7 +11,7 @@ use Rattle.base.specs.Choice.{one}
 use Rattle.base.specs.Counts.{cnt}
 use Rattle.base.proofs.Counts.{cnt-none, cnt-more, cnt-lt}
 use Rattle.plan.specs.declared.Cell.{Cell}
-use Rattle.layout.specs.Rules.{formatGroup, isFormat, left, isLeft}
+use Rattle.layout.specs.Rules.{formatGroup, isFormat, groupsLeft, isLeft}
 use Rattle.layout.specs.Chain.{number}
 use Rattle.layout.proofs.Ring as ring
 
@@ -93,9 +93,9 @@ module _ (c : Cell) (big : 6 ≤ c .blocks) where
   number-is (suc t) = omega (arith, number-is t, number-step t, below-step t)
 
   -- h groups are left
-  pub left-count : cnt (isLeft c) (2 * N) ≡ left c
+  pub left-count : cnt (isLeft c) (2 * N) ≡ groupsLeft c
   left-count = omega (arith, number-is (2 * N), below-all)
 
   -- a group left has a number below h
-  pub number-small : (t : ℕ) → t < 2 * N → isLeft c t ≡ true → number c t < left c
+  pub number-small : (t : ℕ) → t < 2 * N → isLeft c t ≡ true → number c t < groupsLeft c
   number-small t l e = omega (arith, cnt-lt (isLeft c) t (2 * N) e l, left-count)

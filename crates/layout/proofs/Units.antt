@@ -1,4 +1,4 @@
--- PHICH: a unit has the groups left whose numbers it takes, no two units take one number, and unitIn names the unit that takes it.
+-- PHICH: a unit has the groups left whose numbers it takes, no two units take one number, and unitAt names the unit that takes it.
 -- Assumes six blocks.
 use Prim.Native.Nat.{ℕ, _+_, _-_, _*_, _/_, _%_, _≤_, _<_}
 use mathlib.Core.Path.{_≡_, refl, sym, ap, _∙_}
@@ -11,8 +11,8 @@ use borrow.Author.Tests.{eq-eqb, lt-ltb, le-ltb, le-leb, eqb-true, ltb-true, leb
 use Rattle.base.proofs.Tests.{or-cases, on-if}
 use Rattle.base.specs.Counts.{cnt}
 use Rattle.base.proofs.Counts.{nth-is, nth-test}
-use Rattle.layout.specs.Rules.{left, isLeft, unitNumber, unitGroup, unitHas}
-use Rattle.layout.specs.Chain.{number, takes, unitIn, past}
+use Rattle.layout.specs.Rules.{groupsLeft, isLeft, unitNumber, unitGroup, unitHas}
+use Rattle.layout.specs.Chain.{number, takes, unitAt, past}
 use Rattle.plan.specs.Fields.{unitsOf}
 use Rattle.plan.specs.declared.Cell.{Cell}
 use Rattle.layout.specs.declared.Owner.{Owner}
@@ -22,21 +22,21 @@ use Rattle.layout.proofs.Ring as ring
 use Rattle.layout.proofs.Groups.{left-count}
 
 -- the units fill at most a third of the numbers
-pub units-fit : (c : Cell) → c .sixths ≤ 12 → 6 ≤ c .blocks → unitsOf c ≤ left c / 3
+pub units-fit : (c : Cell) → c .sixths ≤ 12 → 6 ≤ c .blocks → unitsOf c ≤ groupsLeft c / 3
 unfolding unitsOf
 units-fit c l m = omega (arith, mul-le-mul-right (c .blocks) l)
 
 -- how far the number of quad i lies past the identity's
-past-of-unit : (c : Cell) → 0 < left c → (m i n : ℕ) → m + i * left c / 3 < left c → n ≡ unitNumber c m i → past (c .identity) (left c) n ≡ m + i * left c / 3
+past-of-unit : (c : Cell) → 0 < groupsLeft c → (m i n : ℕ) → m + i * groupsLeft c / 3 < groupsLeft c → n ≡ unitNumber c m i → past (c .identity) (groupsLeft c) n ≡ m + i * groupsLeft c / 3
 unfolding unitNumber
 past-of-unit c pos m i n l e =
-    let h = left c in
+    let h = groupsLeft c in
     ring.past-of (c .identity) h pos (m + i * h / 3) n l (e ∙ ap (λ (x : ℕ). x % h) (add-assoc (c .identity) m (i * h / 3)))
 
 -- ---- the groups of a unit's quads
-pub number-lt : (c : Cell) → 6 ≤ c .blocks → (m i : ℕ) → unitNumber c m i < left c
+pub number-lt : (c : Cell) → 6 ≤ c .blocks → (m i : ℕ) → unitNumber c m i < groupsLeft c
 unfolding unitNumber
-number-lt c big m i = mod-lt (c .identity + m + i * left c / 3) (omega arith)
+number-lt c big m i = mod-lt (c .identity + m + i * groupsLeft c / 3) (omega arith)
 
 spread : (a x y z : Bool) → a && x || a && y || a && z ≡ a && (x || y || z)
 spread true x y z = refl
@@ -60,9 +60,9 @@ module _ (c : Cell) (big : 6 ≤ c .blocks) (m : ℕ) where
   unit-number i = nth-is (isLeft c) (2 * c .blocks) (unitNumber c m i) (numbered i) .2
 
   -- a unit in the first third of the numbers has three groups
-  pub unit-apart : m < left c / 3 → (i j : ℕ) → i < j → j < 3 → unitGroup c m i ≡ unitGroup c m j → ⊥
+  pub unit-apart : m < groupsLeft c / 3 → (i j : ℕ) → i < j → j < 3 → unitGroup c m i ≡ unitGroup c m j → ⊥
   unit-apart third i j l u e =
-      let h = left c in
+      let h = groupsLeft c in
       let z : i * h + h ≤ j * h = rw (← suc-mul i h) (mul-le-mul-right h l) in
       let y : j * h ≤ 2 * h = mul-le-mul-right h (omega arith) in
       let d : unitNumber c m i ≡ unitNumber c m j = sym (unit-number i) ∙ ap (number c) e ∙ unit-number j in
@@ -83,13 +83,13 @@ module _ (c : Cell) (big : 6 ≤ c .blocks) (m : ℕ) where
         rw (group-test 0, group-test 1, group-test 2)
         (spread (isLeft c t) (eqb (number c t) (unitNumber c m 0)) (eqb (number c t) (unitNumber c m 1)) (eqb (number c t) (unitNumber c m 2)))
 
--- ---- and unitIn names the unit that takes a number
-module _ (c : Cell) (pos : 0 < left c) (fit : unitsOf c ≤ left c / 3) where
+-- ---- and unitAt names the unit that takes a number
+module _ (c : Cell) (pos : 0 < groupsLeft c) (fit : unitsOf c ≤ groupsLeft c / 3) where
   abbrev C : ℕ
   C = c .identity
 
   abbrev h : ℕ
-  h = left c
+  h = groupsLeft c
 
   abbrev M : ℕ
   M = unitsOf c
@@ -111,42 +111,42 @@ module _ (c : Cell) (pos : 0 < left c) (fit : unitsOf c ≤ left c / 3) where
   taken2 m n e = rw (e, or-true (eqb n (unitNumber c m 0) || eqb n (unitNumber c m 1))) refl
 
   module _ (m : ℕ) (in-m : m < M) where
-    at0 : (d : ℕ) → d ≡ m + 0 * h / 3 → unitIn c d ≡ Phich m
-    unfolding unitIn
+    at0 : (d : ℕ) → d ≡ m + 0 * h / 3 → unitAt c d ≡ Phich m
+    unfolding unitAt
     at0 d e = rw (lt-ltb d M (omega arith)) (ap Phich (let z : d ≡ m = omega arith in z))
 
-    at1 : (d : ℕ) → d ≡ m + 1 * h / 3 → unitIn c d ≡ Phich m
-    unfolding unitIn
+    at1 : (d : ℕ) → d ≡ m + 1 * h / 3 → unitAt c d ≡ Phich m
+    unfolding unitAt
     at1 d e =
         rw (le-ltb d M (omega arith), le-leb (1 * h / 3) d (omega arith), lt-ltb d (1 * h / 3 + M) (omega arith))
         (ap Phich (let z : d - 1 * h / 3 ≡ m = omega arith in z))
 
-    at2 : (d : ℕ) → d ≡ m + 2 * h / 3 → unitIn c d ≡ Phich m
-    unfolding unitIn
+    at2 : (d : ℕ) → d ≡ m + 2 * h / 3 → unitAt c d ≡ Phich m
+    unfolding unitAt
     at2 d e =
         rw (le-ltb d M (omega arith), le-ltb d (1 * h / 3 + M) (omega arith), and-false (leb (1 * h / 3) d), le-leb (2 * h / 3) d (omega arith), lt-ltb d (2 * h / 3 + M) (omega arith))
         (ap Phich (let z : d - 2 * h / 3 ≡ m = omega arith in z))
 
     -- a number that unit m takes
-    pub unit-at : (n : ℕ) → takes c m n ≡ true → unitIn c (past C h n) ≡ Phich m
+    pub unit-at : (n : ℕ) → takes c m n ≡ true → unitAt c (past C h n) ≡ Phich m
     unfolding takes
     unit-at n e = go (or-cases _ _ e)
       where
         on : (i : ℕ) → m + i * h / 3 < h → eqb n (unitNumber c m i) ≡ true → past C h n ≡ m + i * h / 3
         on i l w = past-of-unit c pos m i n l (eqb-true _ _ w)
 
-        go₁ : (eqb n (unitNumber c m 0) ≡ true) ⊎ (eqb n (unitNumber c m 1) ≡ true) → unitIn c (past C h n) ≡ Phich m
+        go₁ : (eqb n (unitNumber c m 0) ≡ true) ⊎ (eqb n (unitNumber c m 1) ≡ true) → unitAt c (past C h n) ≡ Phich m
         go₁ (inl w) = at0 (past C h n) (on 0 (omega arith) w)
         go₁ (inr w) = at1 (past C h n) (on 1 (omega arith) w)
 
-        go : (eqb n (unitNumber c m 0) || eqb n (unitNumber c m 1) ≡ true) ⊎ (eqb n (unitNumber c m 2) ≡ true) → unitIn c (past C h n) ≡ Phich m
+        go : (eqb n (unitNumber c m 0) || eqb n (unitNumber c m 1) ≡ true) ⊎ (eqb n (unitNumber c m 2) ≡ true) → unitAt c (past C h n) ≡ Phich m
         go (inl w) = go₁ (or-cases _ _ w)
         go (inr w) = at2 (past C h n) (on 2 (omega arith) w)
 
-  -- whatever unitIn answers is a unit that takes the number, or idle
+  -- whatever unitAt answers is a unit that takes the number, or idle
   module _ (P : Owner → Type 0) (idle : P Idle) (n : ℕ) (small : n < h) (unit : (m : ℕ) → m < M → takes c m n ≡ true → P (Phich m)) where
-    pub unit-sound : P (unitIn c (past C h n))
-    unfolding unitIn
+    pub unit-sound : P (unitAt c (past C h n))
+    unfolding unitAt
     unit-sound =
         on-if P _
         (λ e. unit (past C h n) (ltb-true _ M e) (taken0 _ n (unit-of-past (past C h n) 0 n small (omega arith))))

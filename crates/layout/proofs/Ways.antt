@@ -26,7 +26,7 @@ use Rattle.plan.proofs.RowLaws.{row-next}
 use Rattle.base.specs.Choice.{one}
 use Rattle.layout.specs.Rules.{slotLength, slotOf, inSlot, middle, centre, used, marked, inSyncArea, inPbchArea, formatGroup, isFormat}
 use Rattle.layout.specs.Owners.{controlSymbols, blocksHave}
-use Rattle.layout.specs.Chain.{pilot, number, unitIn, groupAt, controlAt, fixedAt, userFrom, isIdle, ownerAt}
+use Rattle.layout.specs.Chain.{pilot, number, unitAt, groupAt, controlAt, fixedAt, userFrom, isIdle, ownerAt}
 use Rattle.layout.specs.declared.Mark.the-variants.{Primary, Secondary}
 use Rattle.layout.specs.declared.Owner.{Owner}
 use Rattle.layout.specs.declared.Owner.the-variants.{Crs, Sync, Pbch, Pcfich, Phich, User as UserOf, Held, Idle}
@@ -90,8 +90,8 @@ area-frame c f s k e = rw (ne-eqb (f .subframe) 0 e) refl
 
 -- ---- groups and units: M the number of units, h that of the groups left
 module _ (c : Cell) (d M : ℕ) (eM : M ≡ unitsOf c) where
-  pub unit-first : d < M → Phich d ≡ unitIn c d
-  unfolding unitIn
+  pub unit-first : d < M → Phich d ≡ unitAt c d
+  unfolding unitAt
   unit-first l = rw (← eM, lt-ltb d M l) refl
 
   abbrev h : ℕ
@@ -101,16 +101,16 @@ module _ (c : Cell) (d M : ℕ) (eM : M ≡ unitsOf c) where
   In a = leb a d && ltb d (a + M)
 
   module _ (n : M ≤ d) where
-    pub unit-second : In (h / 3) ≡ true → Phich (d - h / 3) ≡ unitIn c d
-    unfolding unitIn
+    pub unit-second : In (h / 3) ≡ true → Phich (d - h / 3) ≡ unitAt c d
+    unfolding unitAt
     unit-second e = let z : 1 * h / 3 ≡ h / 3 = omega arith in rw (← eM, le-ltb d M n, z, e) refl
 
-    pub unit-third : In (h / 3) ≡ false → In (2 * h / 3) ≡ true → Phich (d - 2 * h / 3) ≡ unitIn c d
-    unfolding unitIn
+    pub unit-third : In (h / 3) ≡ false → In (2 * h / 3) ≡ true → Phich (d - 2 * h / 3) ≡ unitAt c d
+    unfolding unitAt
     unit-third e w = let z : 1 * h / 3 ≡ h / 3 = omega arith in rw (← eM, le-ltb d M n, z, e, w) refl
 
-    pub unit-none : In (h / 3) ≡ false → In (2 * h / 3) ≡ false → Idle ≡ unitIn c d
-    unfolding unitIn
+    pub unit-none : In (h / 3) ≡ false → In (2 * h / 3) ≡ false → Idle ≡ unitAt c d
+    unfolding unitAt
     unit-none e w = let z : 1 * h / 3 ≡ h / 3 = omega arith in rw (← eM, le-ltb d M n, z, e, w) refl
 
 module _ (c : Cell) (t : ℕ) where
@@ -139,7 +139,7 @@ module _ (c : Cell) (t x y z w : ℕ) (ex : x ≡ formatGroup c 0) (ey : y ≡ f
       unfolding isFormat
       no-format = rw (← ex, ← ey, ← ez, ← ew, ne-eqb t x nx, ne-eqb t y ny, ne-eqb t z nz, ne-eqb t w nw) refl
 
-      pub group-unit : (r : Owner) → r ≡ unitIn c ((t - (i + j + m + n) + (2 * c .blocks - 4 - c .identity % (2 * c .blocks - 4))) % (2 * c .blocks - 4)) → r ≡ groupAt c t
+      pub group-unit : (r : Owner) → r ≡ unitAt c ((t - (i + j + m + n) + (2 * c .blocks - 4 - c .identity % (2 * c .blocks - 4))) % (2 * c .blocks - 4)) → r ≡ groupAt c t
       unfolding groupAt
       group-unit r er = er ∙ rw (numbered, no-format) refl
 

@@ -16,7 +16,7 @@ use Rattle.plan.specs.declared.Checked.{Checked}
 use Rattle.plan.specs.declared.Checked.the-variants.{Plan as accepted, Refused as refused}
 use Rattle.base.specs.Choice.{if_then_else_}
 use Rattle.base.specs.Counts.{cnt}
-use Rattle.layout.specs.Rules.{slotLength, slotOf, inSlot, standsAt, used, inSyncArea, inPbchArea, isFormat, left, isLeft, unitNumber}
+use Rattle.layout.specs.Rules.{slotLength, slotOf, inSlot, standsAt, used, inSyncArea, inPbchArea, isFormat, groupsLeft, isLeft, unitNumber}
 use Rattle.layout.specs.Owners.{controlSymbols, blocksHave}
 use Rattle.layout.specs.declared.Mark.the-variants.{Primary, Secondary}
 use Rattle.layout.specs.declared.Owner.{Owner}
@@ -48,9 +48,9 @@ abbrev pub past : ℕ → ℕ → ℕ → ℕ
 past C h n = (n + (h - C % h)) % h
 
 -- the unit that takes the number d past the identity's: the first M from 0, h/3 and 2h/3 on are the units'
-unfoldable pub unitIn : Cell → ℕ → Owner
-unitIn c d =
-    let h = left c in
+unfoldable pub unitAt : Cell → ℕ → Owner
+unitAt c d =
+    let h = groupsLeft c in
     let M = unitsOf c in
     if ltb d M then Phich d
     else if leb (1 * h / 3) d && ltb d (1 * h / 3 + M) then Phich (d - 1 * h / 3)
@@ -59,7 +59,7 @@ unitIn c d =
 
 -- group t of symbol 0, and subcarrier k there
 unfoldable pub groupAt : Cell → ℕ → Owner
-groupAt c t = if isFormat c t then Pcfich else unitIn c (past (c .identity) (left c) (number c t))
+groupAt c t = if isFormat c t then Pcfich else unitAt c (past (c .identity) (groupsLeft c) (number c t))
 
 unfoldable pub controlAt : Cell → ℕ → Owner
 controlAt c k = if eqb (k % 3) (c .identity % 3) then Idle else groupAt c (k / 6)

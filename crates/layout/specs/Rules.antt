@@ -113,15 +113,17 @@ isFormat c t = eqb t (formatGroup c 0) || eqb t (formatGroup c 1) || eqb t (form
 unfoldable pub pcfich : Cell → ℕ → ℕ → Bool
 pcfich c s k = inGroup c s k && isFormat c (groupOf c s k)
 
--- ---- PHICH, of unit m: "With h = 2N−4 groups left in ascending order, quad i of unit m takes number (C+m+floor(ih/3)) mod h", i = 0..2
-abbrev pub left : Cell → ℕ
-left c = 2 * c .blocks - 4
+-- ---- PHICH, of unit m: "With h = 2N−4 groups left in ascending order, quad i of unit m takes number (C+m+floor(ih/3)) mod h", i = 0..2.
+-- h, and whether group t is left
+abbrev pub groupsLeft : Cell → ℕ
+groupsLeft c = 2 * c .blocks - 4
 
 unfoldable pub isLeft : Cell → ℕ → Bool
 isLeft c t = not (isFormat c t)
 
+-- the number that quad i takes, and the group with that number: those left are numbered from 0 on, in ascending order
 unfoldable pub unitNumber : Cell → ℕ → ℕ → ℕ
-unitNumber c m i = (c .identity + m + i * left c / 3) % left c
+unitNumber c m i = (c .identity + m + i * groupsLeft c / 3) % groupsLeft c
 
 unfoldable pub unitGroup : Cell → ℕ → ℕ → ℕ
 unitGroup c m i = nth (isLeft c) (2 * c .blocks) (unitNumber c m i)

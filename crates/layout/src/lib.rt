@@ -7,9 +7,9 @@ ghost use lib.Dec.{leb, ltb};
 ghost use Rattle.plan.specs.Check.{checkOf};
 ghost use Rattle.plan.specs.Rows.{usersFrom};
 ghost use Rattle.plan.specs.declared.Checked.the-variants.{Plan as accepted};
-ghost use Rattle.layout.specs.Rules.{slotLength, inSlot, middle, marked, inSyncArea, inPbchArea, standsAt, formatGroup, left};
+ghost use Rattle.layout.specs.Rules.{slotLength, inSlot, middle, marked, inSyncArea, inPbchArea, standsAt, formatGroup, groupsLeft};
 ghost use Rattle.layout.specs.Owners.{ownerNumber, gridPlace, controlSymbols, blocksHave, ownerOf};
-ghost use Rattle.layout.specs.Chain.{pickPort, pilot, unitIn, groupAt, controlAt, fixedAt, userFrom, ownerAt, refusalOf};
+ghost use Rattle.layout.specs.Chain.{pickPort, pilot, unitAt, groupAt, controlAt, fixedAt, userFrom, refusalOf};
 ghost use Rattle.layout.specs.Query.{inGrid, ownerQueryOf};
 use plan::Cell;
 use plan::Checked;
@@ -192,7 +192,7 @@ pub fn format_group(cell: Cell, i: usize) -> usize
 // The unit that takes the number d past the identity's, or idle.
 fn unit_in(cell: Cell, d: usize) -> Owner
     requires { ⌜ (6 ≤ cell .blocks) × (cell .sixths ≤ 12) ⌝ }
-    ensures { λ r. ⌜ r ≡ unitIn cell d ⌝ }
+    ensures { λ r. ⌜ r ≡ unitAt cell d ⌝ }
 {
     let units = plan::units(cell);
     if d < units {

@@ -4,7 +4,7 @@ use Prim.Native.Nat.{ℕ, _*_, _/_, _≤_, _<_}
 use mathlib.Core.Path.{_≡_, refl, sym, _∙_}
 use Rattle.base.proofs.Some.{isSome, some-in, in-some, all-apart}
 use Rattle.plan.specs.declared.Cell.{Cell}
-use Rattle.layout.specs.Rules.{formatGroup, isFormat, left, unitGroup, unitHas}
+use Rattle.layout.specs.Rules.{formatGroup, isFormat, groupsLeft, unitGroup, unitHas}
 use Rattle.layout.proofs.Groups.{format-small, format-apart}
 use Rattle.layout.proofs.Units.{unit-small, unit-apart}
 use Rattle.places.proofs.Quads.{Groups}
@@ -27,7 +27,7 @@ module _ (c : Cell) (big : 6 ≤ c .blocks) where
         some = λ g l e. in-some (formatGroup c) 4 g (sym (format-some c g) ∙ e);
       }
 
-  pub unit-groups : (m : ℕ) → m < left c / 3 → Groups 3 (2 * c .blocks) (unitGroup c m) (unitHas c m 0)
+  pub unit-groups : (m : ℕ) → m < groupsLeft c / 3 → Groups 3 (2 * c .blocks) (unitGroup c m) (unitHas c m 0)
   unit-groups m third =
       record {
         small = λ i l. unit-small c big m i;

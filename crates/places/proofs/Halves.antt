@@ -21,7 +21,7 @@ use Rattle.layout.specs.Owners.{controlSymbols, blocksHave, userHas, userRule, 
 use Rattle.layout.specs.declared.Owner.the-variants.{Pbch, User as UserOf}
 use Rattle.layout.proofs.Pilot.{slot-length}
 use Rattle.counts.proofs.UserElements.{area-free}
-use Rattle.places.specs.Halves.{without, openPlace, openOfFour, inPbch, taken, openTo}
+use Rattle.places.specs.Halves.{without, openPlace, openOfFour, inPbch, takenHalf, openTo}
 
 -- ---- tests that six subcarriers share
 leb-same : (a b c d : ℕ) → (a ≤ b → c ≤ d) → (c ≤ d → a ≤ b) → leb a b ≡ leb c d
@@ -139,8 +139,8 @@ unfolding owns fixedRule pbch without
 pbch-half w p s b r h = rw (area-six b r h (p .cell) (p .frame) s, below-six b r h (p .cell) 4 s) refl
 
 module _ (w : List ℕ) (p : Plan) (control : 1 ≤ p .frame .cfi) where
-  free-half : (s b r : ℕ) → r < 6 → 0 < s → free (p .cell) (p .frame) s (6 * b + r) ≡ not (crsAny (p .cell) s r) && not (taken (p .cell) (p .frame) s b)
-  unfolding taken
+  free-half : (s b r : ℕ) → r < 6 → 0 < s → free (p .cell) (p .frame) s (6 * b + r) ≡ not (crsAny (p .cell) s r) && not (takenHalf (p .cell) (p .frame) s b)
+  unfolding takenHalf
   free-half s b r h late =
       area-free (p .cell) (p .frame) s (6 * b + r) late
       ∙ rw (below-six b r h (p .cell) (p .cell .ports) s, sync-six b r h (p .cell) (p .frame) s, area-six b r h (p .cell) (p .frame) s) refl
@@ -151,7 +151,7 @@ module _ (w : List ℕ) (p : Plan) (control : 1 ≤ p .frame .cfi) where
   user-half i s b r h =
       let u = userHas (usersOf w p) i (slotOf (p .cell) s) in
       let n = not (crsAny (p .cell) s r) in
-      let t = not (taken (p .cell) (p .frame) s b) in
+      let t = not (takenHalf (p .cell) (p .frame) s b) in
       by-test (leb (controlSymbols (p .cell) (p .frame)) s)
       (λ e. rw (e, user-six b r h, free-half s b r h (late-symbol (p .cell) (p .frame) s control e)) (order (u (6 * b)) n t))
       (λ e. rw e (lost (u (6 * b + r)) (u (6 * b)) (free (p .cell) (p .frame) s (6 * b + r)) t n))

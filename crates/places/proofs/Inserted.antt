@@ -10,7 +10,7 @@ use borrow.Author.Tests.{lt-ltb, le-ltb, not-true}
 use Rattle.base.proofs.Tests.{clash}
 use Rattle.base.specs.Choice.{one}
 use Rattle.plan.specs.declared.Cell.{Cell}
-use Rattle.layout.specs.Rules.{formatGroup, isFormat, left, isLeft, unitNumber, unitGroup}
+use Rattle.layout.specs.Rules.{formatGroup, isFormat, groupsLeft, isLeft, unitNumber, unitGroup}
 use Rattle.layout.specs.Chain.{number}
 use Rattle.layout.proofs.Groups.{below, number-is, left-count}
 use Rattle.layout.proofs.Units.{number-lt}
@@ -34,7 +34,7 @@ module _ (c : Cell) (big : 6 ≤ c .blocks) where
   unfolding below
   below-is t = refl
 
-  module _ (n : ℕ) (small : n < left c) where
+  module _ (n : ℕ) (small : n < groupsLeft c) where
     abbrev G : ℕ
     G = nth (isLeft c) (2 * c .blocks) n
 

@@ -27,10 +27,10 @@ abbrev pub inPbch : Cell → Frame → ℕ → ℕ → Bool
 inPbch c f s b = inPbchArea c f s (6 * b)
 
 -- half block b of symbol s is wholly taken by a synchronisation mark or PBCH, with what is held there
-unfoldable pub taken : Cell → Frame → ℕ → ℕ → Bool
-taken c f s b = inSyncArea c f s (6 * b) || inPbch c f s b
+unfoldable pub takenHalf : Cell → Frame → ℕ → ℕ → Bool
+takenHalf c f s b = inSyncArea c f s (6 * b) || inPbch c f s b
 
 -- and goes to user i but for its reference signals
 unfoldable pub openTo : List ℕ → Plan → ℕ → ℕ → ℕ → Bool
 openTo w p i s b =
-    userHas (usersOf w p) i (slotOf (p .cell) s) (6 * b) && leb (controlSymbols (p .cell) (p .frame)) s && not (taken (p .cell) (p .frame) s b)
+    userHas (usersOf w p) i (slotOf (p .cell) s) (6 * b) && leb (controlSymbols (p .cell) (p .frame)) s && not (takenHalf (p .cell) (p .frame) s b)

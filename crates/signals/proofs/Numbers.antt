@@ -23,7 +23,7 @@ use Rattle.plan.specs.Valid.{CellIn}
 use Rattle.plan.specs.declared.Cell.{Cell}
 use Rattle.plan.specs.declared.Frame.{Frame}
 use Rattle.plan.proofs.Listed.{and-left, and-right}
-use Rattle.layout.specs.Rules.{slotLength, slotOf, inSlot, standsAt, crsShift, middle}
+use Rattle.layout.specs.Rules.{slotLength, standsAt, crsShift, middle}
 use Rattle.layout.specs.Owners.{symbols, carriers}
 use Rattle.layout.proofs.Pilot.{slot-length}
 use Rattle.counts.proofs.Ranges.{big}

@@ -12,7 +12,7 @@ use Rattle.gold.specs.declared.Registers.{Registers}
 use Rattle.codeword.specs.Streams.{outputs}
 use Rattle.plan.specs.declared.Cell.{Cell}
 use Rattle.plan.specs.declared.Frame.{Frame}
-use Rattle.layout.specs.Rules.{slotLength, slotOf, inSlot, standsAt, crsShift, used}
+use Rattle.layout.specs.Rules.{slotLength, standsAt, crsShift, used}
 use Rattle.places.specs.Places.{symbolAt, carrierAt, placesOf}
 use Rattle.subframe.specs.Elements.{pssElement, sssElement}
 

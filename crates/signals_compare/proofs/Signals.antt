@@ -11,7 +11,7 @@ use Rattle.sync.specs.Inner.{sssOf}
 use Rattle.plan.specs.Valid.{CellIn}
 use Rattle.plan.specs.declared.Cell.{Cell}
 use Rattle.plan.specs.declared.Frame.{Frame}
-use Rattle.layout.specs.Rules.{slotLength, slotOf, inSlot, crsShift}
+use Rattle.layout.specs.Rules.{slotLength, crsShift}
 use Rattle.layout.specs.Owners.{carriers}
 use Rattle.places.specs.Places.{placesOf}
 use Rattle.grid.specs.Writing.{Room}
