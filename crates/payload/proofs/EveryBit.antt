@@ -176,8 +176,8 @@ module _ (w : List ℕ) (p : Plan) (plan : checkOf w ≡ accepted p) where
   spare-not-owned b o s h = omega (arith, once b, among-occurs b (spareBits w p) s, owned b o h .0, owned b o h .1)
 
   -- and never two owners'
-  pub one-owner : (b : ℕ) (o q : Owner) → Owns o b → Owns q b → o ≡ q
-  one-owner b o q h k =
+  pub bit-owner : (b : ℕ) (o q : Owner) → Owns o b → Owns q b → o ≡ q
+  bit-owner b o q h k =
       list-one (Occurs b) o q (owners w p) (omega (arith, once b)) (owned b o h .0) (owned b q k .0) (owner-listed b o h) (owner-listed b q k)
 
   -- an owner's list has no position twice, and none beyond the payload

@@ -18,9 +18,9 @@ use Rattle.base.proofs.Computed.{allBelow, below-at, every}
 use Rattle.base.proofs.Fits.{abs8}
 use Rattle.sample.specs.declared.UnitRow.{UnitRow}
 use Rattle.sample.specs.declared.Scale.the-variants.{Levels}
-use Rattle.sample.specs.Units.{rows, scaleOf}
+use Rattle.sample.specs.Units.{unitRows, scaleOf}
 use Rattle.sample.specs.Answer.{partOf}
-use Rattle.sample.specs.Bound.{Within, Close}
+use Rattle.sample.specs.Bound.{WithinBound, Close}
 use Rattle.sample.specs.Promise.{Exact, Product}
 use Rattle.sample.proofs.Squares.{square, double, most-by, least-by}
 use Rattle.sample.proofs.Table.{found}
@@ -55,7 +55,7 @@ same true false t = absurd t
 same false true t = absurd t
 same false false t = refl
 
-within : (u : ℕ) (z : ℤ) (s : Bool) (w d a t : ℕ) → 0 < d → s ≡ negative z → T (sized u z w d) → w * 2 ^ t ≡ a * d → Within u z s a t
+within : (u : ℕ) (z : ℤ) (s : Bool) (w d a t : ℕ) → 0 < d → s ≡ negative z → T (sized u z w d) → w * 2 ^ t ≡ a * d → WithinBound u z s a t
 within u z s w d a t p e h v =
     let l = leb (low z * (d * d)) (2 ^ 44 * u * (w * w)) in
     let m = leb (2 ^ 44 * u * (w * w)) (high z * (d * d)) in
@@ -97,7 +97,7 @@ levels-at r t (negsuc n) h =
     below-at (under r) (r .limit) (and-r (allBelow (above r) (suc (r .limit))) (allBelow (under r) (r .limit)) t) n h
 
 -- ---- the table
-passes : T (every levels rows)
+passes : T (every levels unitRows)
 unfolding mul ofInt ofBits
 passes = tt
 
@@ -110,7 +110,7 @@ pub sample-of : (b : ℕ) (r : UnitRow) (z : ℤ) → scaleOf b ≡ Levels r →
 unfolding scaleOf
 sample-of b r z e h =
     record {
-      exact = whole z (le-trans h (leb→le (r .limit) (2 ^ 24) (found limited rows tt b r e)));
+      exact = whole z (le-trans h (leb→le (r .limit) (2 ^ 24) (found limited unitRows tt b r e)));
       product = refl;
-      bound = closed (r .unit) z (partOf (r .gain) z) (levels-at r (found levels rows passes b r e) z h);
+      bound = closed (r .unit) z (partOf (r .gain) z) (levels-at r (found levels unitRows passes b r e) z h);
     }

@@ -16,7 +16,7 @@ use lib.Ieee.Fits.{and-l, and-r, down-pos}
 use Rattle.base.proofs.Computed.{every}
 use Rattle.sample.specs.declared.UnitRow.{UnitRow}
 use Rattle.sample.specs.declared.Scale.the-variants.{Levels}
-use Rattle.sample.specs.Units.{rows, scaleOf}
+use Rattle.sample.specs.Units.{unitRows, scaleOf}
 use Rattle.sample.specs.Bound.{NoNearer, Nearest}
 use Rattle.sample.proofs.Squares.{square, double, most-by, least-by, same-by, less-by}
 use Rattle.sample.proofs.Table.{found}
@@ -153,11 +153,11 @@ central-at u (fin false m e) h =
     record { is-f32 = and-l f (p && q) h; number = and-l p q k; none-nearer = none-nearer u (2 ^ 23 + b % 2 ^ 23) (150 - b / 2 ^ 23) m e (and-r p q k) }
 
 -- ---- the table
-passes : T (every (λ r. central (r .unit) (r .gain)) rows)
+passes : T (every (λ r. central (r .unit) (r .gain)) unitRows)
 unfolding ofBits toBits fits
 passes = tt
 
 -- THE GAIN: of each row
 pub nearest : (b : ℕ) (r : UnitRow) → scaleOf b ≡ Levels r → Nearest (r .unit) (r .gain)
 unfolding scaleOf
-nearest b r e = central-at (r .unit) (r .gain) (found (λ r. central (r .unit) (r .gain)) rows passes b r e)
+nearest b r e = central-at (r .unit) (r .gain) (found (λ r. central (r .unit) (r .gain)) unitRows passes b r e)

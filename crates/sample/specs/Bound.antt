@@ -12,7 +12,7 @@ use Rattle.base.specs.Signs.{negative}
 
 -- "For level I and exact sample a/2^t (a whole, with the sign of I): (2^22−1)²I²2^(2t) ≤ 2^44·u·a² ≤ (2^22+1)²I²2^(2t)";
 -- z is the level I, s the sign and a the size of the sample's whole number
-pub record Within (u : ℕ) (z : ℤ) (s : Bool) (a t : ℕ) : Type 0 where
+pub record WithinBound (u : ℕ) (z : ℤ) (s : Bool) (a t : ℕ) : Type 0 where
   pub sign : s ≡ negative z
   pub least : (2 ^ 22 - 1) ^ 2 * natAbs z ^ 2 * 2 ^ (2 * t) ≤ 2 ^ 44 * u * a ^ 2
   pub most : 2 ^ 44 * u * a ^ 2 ≤ (2 ^ 22 + 1) ^ 2 * natAbs z ^ 2 * 2 ^ (2 * t)
@@ -20,7 +20,7 @@ pub record Within (u : ℕ) (z : ℤ) (s : Bool) (a t : ℕ) : Type 0 where
 -- the float x is some a / 2 ^ t, and however it is written so, that is within the bound
 pub record Close (u : ℕ) (z : ℤ) (x : Float) : Type 0 where
   pub written : (s : Bool) × (a : ℕ) × (t : ℕ) × HasValue x s a (2 ^ t)
-  pub within : (s : Bool) (a t : ℕ) → HasValue x s a (2 ^ t) → Within u z s a t
+  pub within : (s : Bool) (a t : ℕ) → HasValue x s a (2 ^ t) → WithinBound u z s a t
 
 -- "the gain is the f32 nearest 1/√u, shown by whole-number squares". With g = a / 2 ^ t and y = b / 2 ^ t, y is not nearer to 1 / √u than g:
 -- where y is below g, their middle is at most 1 / √u, and where it is above, at least.

@@ -16,8 +16,8 @@ unitRow b u l bits = record { byte = b; unit = u; limit = l; gain = ofBits binar
 
 -- Document 01, Grid: "Units: 1, 2, 4, 10, 20, 42, 84", each its own byte. Refusals, 9: no "level beyond ±8", the same for each of them.
 -- Samples: "the gain is the f32 nearest 1/√u", which `Levelled` of Promise says of the row of every sample.
-abbrev pub rows : List UnitRow
-rows =
+abbrev pub unitRows : List UnitRow
+unitRows =
     unitRow 1 1 8 0x3f80_0000
     ∷ unitRow 2 2 8 0x3f35_04f3
     ∷ unitRow 4 4 8 0x3f00_0000
@@ -33,7 +33,7 @@ seek b [] = Nothing
 seek b (r ∷ rs) = cond (eqb b (r .byte)) (Levels r) (seek b rs)
 
 unfoldable pub scaleOf : ℕ → Scale
-scaleOf b = seek b rows
+scaleOf b = seek b unitRows
 
 -- the gain, and +0 where the byte has no row
 abbrev pub gainOf : Scale → Float

@@ -42,7 +42,7 @@ use Rattle.recovery.proofs.Symbols.{own-turn, own-read}
 use Rattle.build.specs.Senders.{active, ownerSends}
 use Rattle.build.proofs.Some.{and-true}
 use Rattle.build.proofs.Numbered.{sends-port, placed-is, numbered, place-number, index-lt}
-use Rattle.verify.specs.Made.{due}
+use Rattle.verify.specs.Made.{elementDue}
 
 -- ---- a word's bits with the scrambling taken off, scrambled again
 twice : (d y : ℕ) → d < 2 → ((d + y) % 2 + y) % 2 ≡ d
@@ -121,7 +121,7 @@ module _
         (a .0, sends-port room (indexOf w p o (e % T) / 2 % 2) (e / T) (sym (turns (e % T) (e / T)) ∙ a .1))
 
     -- it is the one of the payload's symbols, and of any that are the same
-    sent-due : (d′ : ℕ → Pair) → ((j : ℕ) → j < M → d′ j ≡ d j) → (e : ℕ) → ownerSends w p o e ≡ true → sentBy w p o u d′ e ≡ due w p g e
+    sent-due : (d′ : ℕ → Pair) → ((j : ℕ) → j < M → d′ j ≡ d j) → (e : ℕ) → ownerSends w p o e ≡ true → sentBy w p o u d′ e ≡ elementDue w p g e
     sent-due d′ same e h =
         let a = parts e h in
         let j : ℕ = indexOf w p o (e % T) in
@@ -152,7 +152,7 @@ module _
           eq-eqb _ _ (at-port ∙ sym (own-turn P (j / 2)) ∙ ap (λ (n : ℕ). ownPort P (n / 2 % 2)) (sym at-index)) in
           rw (own, turns (at % T) (at / T), port) refl
 
-      read : Holds (ownerSends w p o) (due w p g) g → S j ≡ d j
+      read : Holds (ownerSends w p o) (elementDue w p g) g → S j ≡ d j
       unfolding symbolIn
       read h =
           let small : Small 7 (d j) = order-symbol Q order (ownerBit w p (payloadIn w p g) o) x j in
@@ -164,12 +164,12 @@ module _
           ∙ own-read P (j / 2) u (j % 2) (d j) (d (beside j)) (omega arith, omega arith)
 
     -- ---- THE LAWS: the grid holds what its own symbols give, and some bits have these, just where it holds the payload's elements
-    pub to-due : ((j : ℕ) → j < M → isSymbol Q (S j) ≡ true) → Holds (ownerSends w p o) (sentBy w p o u S) g → Holds (ownerSends w p o) (due w p g) g
+    pub to-due : ((j : ℕ) → j < M → isSymbol Q (S j) ≡ true) → Holds (ownerSends w p o) (sentBy w p o u S) g → Holds (ownerSends w p o) (elementDue w p g) g
     to-due known h = record { elements = λ e k. h .elements e k ∙ sent-due S (λ j l. sym (symbol-again j l (known j l))) e k }
 
-    pub due-known : Holds (ownerSends w p o) (due w p g) g → (j : ℕ) → j < M → isSymbol Q (S j) ≡ true
+    pub due-known : Holds (ownerSends w p o) (elementDue w p g) g → (j : ℕ) → j < M → isSymbol Q (S j) ≡ true
     unfolding dataSymbol
     due-known h j l = rw (read j l h) (symbol-known Q (binary (scrambled (ownerBit w p (payloadIn w p g) o) x) (Q * j) Q) order)
 
-    pub from-due : Holds (ownerSends w p o) (due w p g) g → Holds (ownerSends w p o) (sentBy w p o u S) g
+    pub from-due : Holds (ownerSends w p o) (elementDue w p g) g → Holds (ownerSends w p o) (sentBy w p o u S) g
     from-due h = record { elements = λ e k. h .elements e k ∙ sym (sent-due S (λ j l. read j l h) e k) }

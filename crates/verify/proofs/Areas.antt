@@ -44,7 +44,7 @@ use Rattle.data_compare.specs.Symbols.{areaPlace, areaSymbol, areaSent, AreaHol
 use Rattle.build.specs.Senders.{active, ownerSends}
 use Rattle.build.proofs.DataValues.{pbch-area, user-area}
 use Rattle.build.proofs.Numbered.{place-lt}
-use Rattle.verify.specs.Made.{due}
+use Rattle.verify.specs.Made.{elementDue}
 use Rattle.verify.proofs.Again.{sentBy, to-due, due-known, from-due}
 
 -- ---- an area whose places are an owner's
@@ -68,22 +68,22 @@ module _
     known-from h j l = rw (symbols j) (h j (rw (← count) l))
 
     module _
-        (to : ((j : ℕ) → j < countOf w p o → isSymbol Q (S j) ≡ true) → Holds (ownerSends w p o) (sentBy w p o u S) g → Holds (ownerSends w p o) (due w p g) g)
-        (known : Holds (ownerSends w p o) (due w p g) g → (j : ℕ) → j < countOf w p o → isSymbol Q (S j) ≡ true)
-        (from : Holds (ownerSends w p o) (due w p g) g → Holds (ownerSends w p o) (sentBy w p o u S) g)
+        (to : ((j : ℕ) → j < countOf w p o → isSymbol Q (S j) ≡ true) → Holds (ownerSends w p o) (sentBy w p o u S) g → Holds (ownerSends w p o) (elementDue w p g) g)
+        (known : Holds (ownerSends w p o) (elementDue w p g) g → (j : ℕ) → j < countOf w p o → isSymbol Q (S j) ≡ true)
+        (from : Holds (ownerSends w p o) (elementDue w p g) g → Holds (ownerSends w p o) (sentBy w p o u S) g)
       where
-        area-to : AreaHolds a Q u g → Holds (ownerSends w p o) (due w p g) g
+        area-to : AreaHolds a Q u g → Holds (ownerSends w p o) (elementDue w p g) g
         area-to h =
             to (known-to (h .known)) (record { elements = λ e k. h .holds .elements e (sending e ∙ k) ∙ sent-is e })
 
-        area-from : Holds (ownerSends w p o) (due w p g) g → AreaHolds a Q u g
+        area-from : Holds (ownerSends w p o) (elementDue w p g) g → AreaHolds a Q u g
         area-from h =
             record {
               known = known-from (known h);
               holds = record { elements = λ e k. from h .elements e (sym (sending e) ∙ k) ∙ sym (sent-is e) };
             }
 
-        area-compared : (r : Seen) → AreaCompared a Q u g r → Compared (ownerSends w p o) (due w p g) g r
+        area-compared : (r : Seen) → AreaCompared a Q u g r → Compared (ownerSends w p o) (elementDue w p g) g r
         unfolding AreaCompared
         area-compared (Weight n) h =
             holds-of (area-to (h .0)) (h .1 ∙ weight-same g (areaSends a) (ownerSends w p o) (length g / 3) (λ e l. sending e))
@@ -129,12 +129,12 @@ module _ (w : List ℕ) (p : Plan) (ok : checkOf w ≡ accepted p) (g : List ℕ
     unfolding areaSent
     pbch-area-sent d e = ap (λ (j : ℕ). placed P (j / 2 % 2) 2 d j (e / T)) (pbch-index w p ok zero-th (e % T))
 
-    pub pbch-known : Holds (ownerSends w p Pbch) (due w p g) g → (j : ℕ) → j < areaCount (pbchArea (p .cell) (p .frame)) → isSymbol 2 (areaSymbol (pbchArea (p .cell) (p .frame)) g j) ≡ true
+    pub pbch-known : Holds (ownerSends w p Pbch) (elementDue w p g) g → (j : ℕ) → j < areaCount (pbchArea (p .cell) (p .frame)) → isSymbol 2 (areaSymbol (pbchArea (p .cell) (p .frame)) g j) ≡ true
     pbch-known h =
         known-from w p g Pbch pbch 2 2 (pbch-count w p ok zero-th) pbch-symbols (λ e. pbch-area w p ok A A room zero-th e) pbch-area-sent
         (due-known w p ok g room Pbch 2 2 pbchScrambling (omega arith) (pbch-occurs w p ok) pbch-sent pbch-bits pbch-turns h)
 
-    pub pbch-seen : (r : Seen) → AreaCompared (pbchArea (p .cell) (p .frame)) 2 2 g r → Compared (ownerSends w p Pbch) (due w p g) g r
+    pub pbch-seen : (r : Seen) → AreaCompared (pbchArea (p .cell) (p .frame)) 2 2 g r → Compared (ownerSends w p Pbch) (elementDue w p g) g r
     pbch-seen =
         area-compared w p g Pbch pbch 2 2 (pbch-count w p ok zero-th) pbch-symbols (λ e. pbch-area w p ok A A room zero-th e) pbch-area-sent
         (to-due w p ok g room Pbch 2 2 pbchScrambling (omega arith) (pbch-occurs w p ok) pbch-sent pbch-bits pbch-turns)
@@ -190,7 +190,7 @@ module _ (w : List ℕ) (p : Plan) (ok : checkOf w ≡ accepted p) (g : List ℕ
         ap (λ (j : ℕ). placed P (j / 2 % 2) (unitOf Q) d j (e / T)) (index-is (e % T) (omega (arith, place-lt w p ok e)))
 
     pub user-known :
-        Holds (ownerSends w p (UserOf i)) (due w p g) g → (j : ℕ) → j < areaCount (userArea (p .cell) (p .frame) (nthUser w p i))
+        Holds (ownerSends w p (UserOf i)) (elementDue w p g) g → (j : ℕ) → j < areaCount (userArea (p .cell) (p .frame) (nthUser w p i))
         → isSymbol (nthUser w p i .order) (areaSymbol (userArea (p .cell) (p .frame) (nthUser w p i)) g j) ≡ true
     user-known h =
         known-from w p g (UserOf i) area Q (unitOf Q) user-count user-symbols (λ e. user-area w p ok A A room i in-i e) user-area-sent
@@ -198,7 +198,7 @@ module _ (w : List ℕ) (p : Plan) (ok : checkOf w ≡ accepted p) (g : List ℕ
 
     pub user-seen :
         (r : Seen) → AreaCompared (userArea (p .cell) (p .frame) (nthUser w p i)) (nthUser w p i .order) (unitOf (nthUser w p i .order)) g r
-        → Compared (ownerSends w p (UserOf i)) (due w p g) g r
+        → Compared (ownerSends w p (UserOf i)) (elementDue w p g) g r
     user-seen =
         area-compared w p g (UserOf i) area Q (unitOf Q) user-count user-symbols (λ e. user-area w p ok A A room i in-i e) user-area-sent
         (to-due w p ok g room (UserOf i) Q (unitOf Q) scrambling (user-order w p ok i in-i) (user-occurs w p ok i in-i) user-sent user-bits user-turns)

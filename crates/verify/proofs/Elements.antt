@@ -15,7 +15,7 @@ use Rattle.subframe.specs.Grid.{gridOf}
 use Rattle.subframe.proofs.Bytes.{byte-of, grid-size, length-by-port}
 use Rattle.recovery.specs.Recovery.{payloadIn}
 use Rattle.recovery.proofs.Symbols.{element-in}
-use Rattle.verify.specs.Made.{due}
+use Rattle.verify.specs.Made.{elementDue}
 
 byte-in : (g : List ℕ) (e b : ℕ) → b < 3 → byteIn (elementIn g e) b ≡ getD g (e * 3 + b) 0
 unfolding elementIn
@@ -25,13 +25,13 @@ byte-in g e (suc (suc zero)) l = let z : 3 * e + 2 ≡ e * 3 + 2 = omega arith i
 byte-in g e (suc (suc (suc b))) l = absurd (omega arith)
 
 module _ (w : List ℕ) (p : Plan) (g : List ℕ) where
-  pub made-element : gridOf w p (payloadIn w p g) ≡ g → (e : ℕ) → e < p .cell .ports * placesOf (p .cell) → elementIn g e ≡ due w p g e
+  pub made-element : gridOf w p (payloadIn w p g) ≡ g → (e : ℕ) → e < p .cell .ports * placesOf (p .cell) → elementIn g e ≡ elementDue w p g e
   made-element m e l =
       ap (λ (x : List ℕ). elementIn x e) (sym m)
-      ∙ element-in (gridOf w p (payloadIn w p g)) e (due w p g e) (λ b r. byte-of w p (payloadIn w p g) e b l r)
+      ∙ element-in (gridOf w p (payloadIn w p g)) e (elementDue w p g e) (λ b r. byte-of w p (payloadIn w p g) e b l r)
 
   pub made-grid :
-      Room (p .cell .ports) (placesOf (p .cell)) g → ((e : ℕ) → e < p .cell .ports * placesOf (p .cell) → elementIn g e ≡ due w p g e)
+      Room (p .cell .ports) (placesOf (p .cell)) g → ((e : ℕ) → e < p .cell .ports * placesOf (p .cell) → elementIn g e ≡ elementDue w p g e)
       → gridOf w p (payloadIn w p g) ≡ g
   made-grid room h =
       let size : length (gridOf w p (payloadIn w p g)) ≡ 3 * (p .cell .ports * placesOf (p .cell)) = grid-size w p (payloadIn w p g) ∙ length-by-port p in

@@ -18,7 +18,7 @@ use Rattle.data.specs.Areas.{areaCount, pbchArea, userArea}
 use Rattle.data.proofs.AreaOwners.{pbch-count}
 use Rattle.data_compare.specs.Symbols.{areaSymbol}
 use Rattle.build.specs.Senders.{ownerSends}
-use Rattle.verify.specs.Made.{due, Given}
+use Rattle.verify.specs.Made.{elementDue, Given}
 use Rattle.verify.proofs.Elements.{made-element}
 use Rattle.verify.proofs.Owners.{pbch-of, user-of, element-in}
 use Rattle.verify.proofs.Areas as areas
@@ -41,11 +41,11 @@ module _ (w : List ℕ) (p : Plan) (g : List ℕ) (given : Given w p g) where
 
   -- ---- the symbols
   module _ (made : gridOf w p (payloadIn w p g) ≡ g) where
-    pbch-holds : Holds (ownerSends w p Pbch) (due w p g) g
+    pbch-holds : Holds (ownerSends w p Pbch) (elementDue w p g) g
     pbch-holds =
         record { elements = λ e k. made-element w p g made e (element-in w p (given .answer) (given .room) Pbch e (pbch-of w p (given .answer) (given .room) e k)) }
 
-    user-holds : (i : ℕ) → Holds (ownerSends w p (UserOf i)) (due w p g) g
+    user-holds : (i : ℕ) → Holds (ownerSends w p (UserOf i)) (elementDue w p g) g
     user-holds i =
         record { elements = λ e k. made-element w p g made e (element-in w p (given .answer) (given .room) (UserOf i) e (user-of w p (given .answer) (given .room) i e k)) }
 

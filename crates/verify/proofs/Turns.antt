@@ -50,7 +50,7 @@ use Rattle.build.proofs.SignalValues.{crs-numbered, pss-numbered, sss-numbered}
 use Rattle.build.proofs.Numbered.{numbered}
 use Rattle.build.proofs.ControlValues.{pcfich-owned, pcfich-numbered, phich-owned}
 use Rattle.build.proofs.Slices.{From, from-first, from-user, from-next}
-use Rattle.verify.specs.Made.{due, Given, Planned, UserSeen}
+use Rattle.verify.specs.Made.{elementDue, Given, Planned, UserSeen}
 use Rattle.verify.proofs.Owners.{
   In,
   Before,
@@ -109,26 +109,26 @@ module _ (w : List ℕ) (p : Plan) {g : List ℕ} (given : Given w p g) where
   ok = given .answer
 
   abbrev E : ℕ → Element
-  E = due w p g
+  E = elementDue w p g
 
   abbrev A : List ℕ
   A = payloadIn w p g
 
   -- ---- reference signals of symbol s
   module _ (s : ℕ) where
-    pub crs-none : Compared (crsPorts p s 0) (due w p g) g (Weight 0)
+    pub crs-none : Compared (crsPorts p s 0) (elementDue w p g) g (Weight 0)
     unfolding crsPorts
     crs-none = turn-none (crsIn p s)
 
-    module _ (q : ℕ) {r : Seen} (so-far : Compared (crsPorts p s q) (due w p g) g r) where
-      pub crs-pass : crsSymbol (p .cell) q s ≡ false → Compared (crsPorts p s (q + 1)) (due w p g) g r
+    module _ (q : ℕ) {r : Seen} (so-far : Compared (crsPorts p s q) (elementDue w p g) g r) where
+      pub crs-pass : crsSymbol (p .cell) q s ≡ false → Compared (crsPorts p s (q + 1)) (elementDue w p g) g r
       unfolding crsPorts crsIn
       crs-pass h = turn-pass (crsIn p s) q so-far (λ e. rw h refl)
 
       pub crs-more :
           {x t : Seen} (y : ℕ) (r₀ : Registers) → y ≡ s → r₀ ≡ pairAt (initOf p (Crs s q)) (firstBit p (Crs s q)) → t ≡ bothOf r x
           → crsSymbol (p .cell) q s ≡ true → q < p .cell .ports
-          → Compared (crsSends (p .cell) y q) (crsSent (p .cell) r₀) g x → Compared (crsPorts p s (q + 1)) (due w p g) g t
+          → Compared (crsSends (p .cell) y q) (crsSent (p .cell) r₀) g x → Compared (crsPorts p s (q + 1)) (elementDue w p g) g t
       unfolding crsPorts crsIn initOf firstBit
       crs-more {x = x} y r₀ ey er et h l c =
           turn-more (crsIn p s) q so-far (λ i e k. ports-apart w p ok (given .room) s i q e k l)
@@ -144,44 +144,44 @@ module _ (w : List ℕ) (p : Plan) {g : List ℕ} (given : Given w p g) where
       pub crs-ready : (y : ℕ) → y ≡ s → SignalIn (p .cell) y q g
       crs-ready y ey = record { cell = valid w p ok .cell; symbol = omega arith; port = in-q; room = given .room }
 
-    pub crs-end : (q : ℕ) {r : Seen} → q ≤ p .cell .ports → p .cell .ports ≤ q → Compared (crsPorts p s q) (due w p g) g r → Compared (crsPorts p s (p .cell .ports)) (due w p g) g r
-    crs-end q {r} a b c = let e : q ≡ p .cell .ports = omega arith in subst (λ (n : ℕ). Compared (crsPorts p s n) (due w p g) g r) e c
+    pub crs-end : (q : ℕ) {r : Seen} → q ≤ p .cell .ports → p .cell .ports ≤ q → Compared (crsPorts p s q) (elementDue w p g) g r → Compared (crsPorts p s (p .cell .ports)) (elementDue w p g) g r
+    crs-end q {r} a b c = let e : q ≡ p .cell .ports = omega arith in subst (λ (n : ℕ). Compared (crsPorts p s n) (elementDue w p g) g r) e c
 
   -- ---- and of the symbols below m
-  pub rows-none : Compared (crsRows p 0) (due w p g) g (Weight 0)
+  pub rows-none : Compared (crsRows p 0) (elementDue w p g) g (Weight 0)
   unfolding crsRows
   rows-none = turn-none (λ (s e : ℕ). crsPorts p s (p .cell .ports) e)
 
   pub rows-more :
-      (m : ℕ) {r x t : Seen} → t ≡ bothOf r x → Compared (crsRows p m) (due w p g) g r → Compared (crsPorts p m (p .cell .ports)) (due w p g) g x
-      → Compared (crsRows p (m + 1)) (due w p g) g t
+      (m : ℕ) {r x t : Seen} → t ≡ bothOf r x → Compared (crsRows p m) (elementDue w p g) g r → Compared (crsPorts p m (p .cell .ports)) (elementDue w p g) g x
+      → Compared (crsRows p (m + 1)) (elementDue w p g) g t
   unfolding crsRows
   rows-more m et so-far c =
       turn-more (λ (s e : ℕ). crsPorts p s (p .cell .ports) e) m so-far (λ i e k. rows-apart w p ok (given .room) i m e k) c (λ e. refl) (λ e k. refl) et
 
-  pub rows-end : (m n : ℕ) {r : Seen} → m ≤ symbols (p .cell) → n ≤ m → n ≡ symbols (p .cell) → Compared (crsRows p m) (due w p g) g r → Compared (crsRows p (symbols (p .cell))) (due w p g) g r
-  rows-end m n {r} a b c h = let e : m ≡ symbols (p .cell) = omega arith in subst (λ (x : ℕ). Compared (crsRows p x) (due w p g) g r) e h
+  pub rows-end : (m n : ℕ) {r : Seen} → m ≤ symbols (p .cell) → n ≤ m → n ≡ symbols (p .cell) → Compared (crsRows p m) (elementDue w p g) g r → Compared (crsRows p (symbols (p .cell))) (elementDue w p g) g r
+  rows-end m n {r} a b c h = let e : m ≡ symbols (p .cell) = omega arith in subst (λ (x : ℕ). Compared (crsRows p x) (elementDue w p g) g r) e h
 
   -- ---- synchronisation
   pub marks-ready : MarkIn (p .cell) g
   marks-ready = record { cell = valid w p ok .cell; room = given .room }
 
-  pub marks-none : marked (p .frame) ≡ false → Compared (marksSend p) (due w p g) g (Weight 0)
+  pub marks-none : marked (p .frame) ≡ false → Compared (marksSend p) (elementDue w p g) g (Weight 0)
   unfolding marksSend
-  marks-none h = same (λ e. rw h refl) (λ e k. refl) (none (due w p g) g)
+  marks-none h = same (λ e. rw h refl) (λ e k. refl) (none (elementDue w p g) g)
 
   pub marks-both :
       {r x t : Seen} → t ≡ bothOf r x → marked (p .frame) ≡ true → Compared (markSends (p .cell) 1) (pssSent (p .cell)) g r
-      → Compared (markSends (p .cell) 2) (sssSent (p .cell) (p .frame)) g x → Compared (marksSend p) (due w p g) g t
+      → Compared (markSends (p .cell) 2) (sssSent (p .cell) (p .frame)) g x → Compared (marksSend p) (elementDue w p g) g t
   unfolding marksSend
   marks-both et m r s =
-      subst (Compared (marksSend p) (due w p g) g) (sym et)
+      subst (Compared (marksSend p) (elementDue w p g) g) (sym et)
       (over (λ e h k. marks-apart w p ok (given .room) m e h k) (same (λ e. refl) (λ e k. pss-numbered w p ok A m e k) r) s (λ e k. sss-numbered w p ok A m e k) (λ e. rw m refl))
 
   -- ---- PBCH
-  pub pbch-none : (p .frame .subframe ≡ 0 → ⊥) → Compared (pbchSends w p) (due w p g) g (Weight 0)
+  pub pbch-none : (p .frame .subframe ≡ 0 → ⊥) → Compared (pbchSends w p) (elementDue w p g) g (Weight 0)
   unfolding pbchSends
-  pbch-none n = same (λ e. rw (ne-eqb (p .frame .subframe) 0 n) refl) (λ e k. refl) (none (due w p g) g)
+  pbch-none n = same (λ e. rw (ne-eqb (p .frame .subframe) 0 n) refl) (λ e k. refl) (none (elementDue w p g) g)
 
   module _ (a : Area) (z : p .frame .subframe ≡ 0) (ea : a ≡ pbchArea (p .cell) (p .frame)) where
     pub pbch-ready : CompareIn a 2 2 g
@@ -189,7 +189,7 @@ module _ (w : List ℕ) (p : Plan) {g : List ℕ} (given : Given w p g) where
         subst (λ (b : Area). CompareIn b 2 2 g) (sym ea)
         (record { area = pbch-in w p ok 2 2 g (omega arith) (omega arith) (given .room); some = omega arith; pairs = pbch-even w p g given z })
 
-    pub pbch-compared : {r : Seen} → AreaCompared a 2 2 g r → Compared (pbchSends w p) (due w p g) g r
+    pub pbch-compared : {r : Seen} → AreaCompared a 2 2 g r → Compared (pbchSends w p) (elementDue w p g) g r
     unfolding pbchSends
     pbch-compared {r} c =
         same (λ e. sym (rw (eq-eqb (p .frame .subframe) 0 z) refl)) (λ e k. refl)
@@ -202,7 +202,7 @@ module _ (w : List ℕ) (p : Plan) {g : List ℕ} (given : Given w p g) where
 
   pub pcfich-compared :
       {r : Seen} (r₀ : Registers) → r₀ ≡ pairAt (initOf p PcfichChannel) (firstBit p PcfichChannel)
-      → Compared (pcfichSends (p .cell)) (pcfichSent (p .cell) (p .frame .cfi) r₀) g r → Compared (ownerSends w p Pcfich) (due w p g) g r
+      → Compared (pcfichSends (p .cell)) (pcfichSent (p .cell) (p .frame .cfi) r₀) g r → Compared (ownerSends w p Pcfich) (elementDue w p g) g r
   unfolding initOf firstBit
   pcfich-compared {r} r₀ er c =
       same (λ e. pcfich-owned w p ok A (given .room) e) (λ e k. pcfich-numbered w p ok A (given .room) e k)
@@ -212,7 +212,7 @@ module _ (w : List ℕ) (p : Plan) {g : List ℕ} (given : Given w p g) where
   module _ (m : ℕ) (in-m : m < unitsOf (p .cell)) where
     unit-due :
         (e : ℕ) → phichSends (p .cell) m e ≡ true
-        → unitSent (p .cell) m (sumsAgain (p .cell) m (pairAt (controlInit (p .cell) (p .frame)) 0) (hisOf w p) g) e ≡ due w p g e
+        → unitSent (p .cell) m (sumsAgain (p .cell) m (pairAt (controlInit (p .cell) (p .frame)) 0) (hisOf w p) g) e ≡ elementDue w p g e
     unit-due e h =
         let b = unit-of w p ok (given .room) m e (sym (phich-owned w p ok A (given .room) m in-m e) ∙ h) in
         unit-value w p ok g m e in-m h (b .port) ∙ sym (numbered w p ok A (Phich m) e (b .owned))
@@ -220,7 +220,7 @@ module _ (w : List ℕ) (p : Plan) {g : List ℕ} (given : Given w p g) where
     pub unit-compared :
         {r : Seen} (x : ℕ) (r₀ : Registers) → x ≡ m → r₀ ≡ pairAt (initOf p (PhichChannel m)) (firstBit p (PhichChannel m))
         → Compared (phichSends (p .cell) x) (unitSent (p .cell) x (sumsAgain (p .cell) x r₀ (hisFrom (drop (p .his .at) w) (p .his .count)) g)) g r
-        → Compared (ownerSends w p (Phich m)) (due w p g) g r
+        → Compared (ownerSends w p (Phich m)) (elementDue w p g) g r
     unfolding initOf firstBit hisOf
     unit-compared {r} x r₀ ex er c =
         same (λ e. phich-owned w p ok A (given .room) m in-m e) unit-due
@@ -234,19 +234,19 @@ module _ (w : List ℕ) (p : Plan) {g : List ℕ} (given : Given w p g) where
     unfolding Among
     unit-starts = (valid w p ok .cell, valid w p ok .frame, in-m)
 
-  pub units-none : Compared (unitsSend w p 0) (due w p g) g (Weight 0)
+  pub units-none : Compared (unitsSend w p 0) (elementDue w p g) g (Weight 0)
   unfolding unitsSend
   units-none = turn-none (λ (i e : ℕ). ownerSends w p (Phich i) e)
 
   pub units-more :
-      (m : ℕ) {r x t : Seen} → t ≡ bothOf r x → Compared (unitsSend w p m) (due w p g) g r → Compared (ownerSends w p (Phich m)) (due w p g) g x
-      → Compared (unitsSend w p (m + 1)) (due w p g) g t
+      (m : ℕ) {r x t : Seen} → t ≡ bothOf r x → Compared (unitsSend w p m) (elementDue w p g) g r → Compared (ownerSends w p (Phich m)) (elementDue w p g) g x
+      → Compared (unitsSend w p (m + 1)) (elementDue w p g) g t
   unfolding unitsSend
   units-more m et so-far c =
       turn-more (λ (i e : ℕ). ownerSends w p (Phich i) e) m so-far (λ i e k. units-apart w p ok (given .room) i m e k) c (λ e. refl) (λ e k. refl) et
 
-  pub units-end : (m n : ℕ) {r : Seen} → m ≤ unitsOf (p .cell) → n ≤ m → n ≡ unitsOf (p .cell) → Compared (unitsSend w p m) (due w p g) g r → Compared (unitsSend w p (unitsOf (p .cell))) (due w p g) g r
-  units-end m n {r} a b c h = let e : m ≡ unitsOf (p .cell) = omega arith in subst (λ (x : ℕ). Compared (unitsSend w p x) (due w p g) g r) e h
+  pub units-end : (m n : ℕ) {r : Seen} → m ≤ unitsOf (p .cell) → n ≤ m → n ≡ unitsOf (p .cell) → Compared (unitsSend w p m) (elementDue w p g) g r → Compared (unitsSend w p (unitsOf (p .cell))) (elementDue w p g) g r
+  units-end m n {r} a b c h = let e : m ≡ unitsOf (p .cell) = omega arith in subst (λ (x : ℕ). Compared (unitsSend w p x) (elementDue w p g) g r) e h
 
   -- ---- a user
   module _ (u : User) (planned : Planned w p u) (a : Area) (unit : ℕ) (ea : a ≡ userArea (p .cell) (p .frame) u) (eu : unit ≡ unitOf (u .order)) where
@@ -282,7 +282,7 @@ module _ (w : List ℕ) (p : Plan) {g : List ℕ} (given : Given w p g) where
   pub record Going (at i : ℕ) (r : Seen) : Type 0 where
     pub most : i ≤ p .users .count
     pub users : From w p at i
-    pub compared : Compared (usersSend w p i) (due w p g) g r
+    pub compared : Compared (usersSend w p i) (elementDue w p g) g r
 
   pub users-first : Going (p .users .at) 0 (Weight 0)
   unfolding usersSend
@@ -312,7 +312,7 @@ module _ (w : List ℕ) (p : Plan) {g : List ℕ} (given : Given w p g) where
               (λ e. refl) (λ e k. refl) et;
         }
 
-  pub users-end : {at i : ℕ} {r : Seen} → Going at i r → p .users .count ≤ i → Compared (usersSend w p (length (usersOf w p))) (due w p g) g r
+  pub users-end : {at i : ℕ} {r : Seen} → Going at i r → p .users .count ≤ i → Compared (usersSend w p (length (usersOf w p))) (elementDue w p g) g r
   users-end {i = i} so h =
       let e : i ≡ length (usersOf w p) = omega (arith, so .most, valid w p ok .users-count) in
       rw (← e) (so .compared)
@@ -321,9 +321,9 @@ module _ (w : List ℕ) (p : Plan) {g : List ℕ} (given : Given w p g) where
   -- those before channel n, then channel n
   joined :
       (n : ℕ) {D₁ D₂ : ℕ → Bool} {r s t : Seen} → ((e : ℕ) → D₁ e ≡ true → Before w p n e) → ((e : ℕ) → D₂ e ≡ true → In w p n e) → t ≡ bothOf r s
-      → Compared D₁ (due w p g) g r → Compared D₂ (due w p g) g s → Compared (λ (e : ℕ). D₂ e || D₁ e) (due w p g) g t
+      → Compared D₁ (elementDue w p g) g r → Compared D₂ (elementDue w p g) g s → Compared (λ (e : ℕ). D₂ e || D₁ e) (elementDue w p g) g t
   joined n {D₁} {D₂} b i et c d =
-      subst (Compared (λ (e : ℕ). D₂ e || D₁ e) (due w p g) g) (sym et)
+      subst (Compared (λ (e : ℕ). D₂ e || D₁ e) (elementDue w p g) g) (sym et)
       (over (λ e h k. apart w p ok (given .room) n e (b e h) (i e k)) c d (λ e k. refl) (λ e. refl))
 
   -- after each channel
@@ -340,19 +340,19 @@ module _ (w : List ℕ) (p : Plan) {g : List ℕ} (given : Given w p g) where
   toUnits e = unitsSend w p (unitsOf (p .cell)) e || toPcfich e
 
   module _ {r s t : Seen} (et : t ≡ bothOf r s) where
-    pub marks-joined : Compared (crsRows p (symbols (p .cell))) (due w p g) g r → Compared (marksSend p) (due w p g) g s → Compared toMarks (due w p g) g t
+    pub marks-joined : Compared (crsRows p (symbols (p .cell))) (elementDue w p g) g r → Compared (marksSend p) (elementDue w p g) g s → Compared toMarks (elementDue w p g) g t
     marks-joined = joined 1 (before-marks w p ok (given .room)) (marks-in w p ok (given .room)) et
 
-    pub pbch-joined : Compared toMarks (due w p g) g r → Compared (pbchSends w p) (due w p g) g s → Compared toPbch (due w p g) g t
+    pub pbch-joined : Compared toMarks (elementDue w p g) g r → Compared (pbchSends w p) (elementDue w p g) g s → Compared toPbch (elementDue w p g) g t
     pbch-joined = joined 2 (before-pbch w p ok (given .room)) (pbch-belongs w p ok (given .room)) et
 
-    pub pcfich-joined : Compared toPbch (due w p g) g r → Compared (ownerSends w p Pcfich) (due w p g) g s → Compared toPcfich (due w p g) g t
+    pub pcfich-joined : Compared toPbch (elementDue w p g) g r → Compared (ownerSends w p Pcfich) (elementDue w p g) g s → Compared toPcfich (elementDue w p g) g t
     pcfich-joined = joined 3 (before-pcfich w p ok (given .room)) (pcfich-in w p ok (given .room)) et
 
-    pub units-joined : Compared toPcfich (due w p g) g r → Compared (unitsSend w p (unitsOf (p .cell))) (due w p g) g s → Compared toUnits (due w p g) g t
+    pub units-joined : Compared toPcfich (elementDue w p g) g r → Compared (unitsSend w p (unitsOf (p .cell))) (elementDue w p g) g s → Compared toUnits (elementDue w p g) g t
     units-joined = joined 4 (before-units w p ok (given .room)) (units-in w p ok (given .room) (unitsOf (p .cell))) et
 
     pub users-joined :
-        Compared toUnits (due w p g) g r → Compared (usersSend w p (length (usersOf w p))) (due w p g) g s → Compared (allSend w p) (due w p g) g t
+        Compared toUnits (elementDue w p g) g r → Compared (usersSend w p (length (usersOf w p))) (elementDue w p g) g s → Compared (allSend w p) (elementDue w p g) g t
     unfolding allSend
     users-joined = joined 5 (before-users w p ok (given .room)) (users-in w p ok (given .room) (length (usersOf w p))) et

@@ -19,7 +19,7 @@ use Rattle.subframe.specs.Grid.{gridOf}
 use Rattle.recovery.specs.Recovery.{payloadIn}
 use Rattle.build.specs.Senders.{allSend}
 use Rattle.build.proofs.Quiet.{quiet}
-use Rattle.verify.specs.Made.{due, Given, Made}
+use Rattle.verify.specs.Made.{elementDue, Given, Made}
 use Rattle.verify.proofs.Elements.{made-element, made-grid}
 use Rattle.verify.proofs.Owners.{all-in}
 
@@ -33,10 +33,10 @@ module _ (w : List ℕ) (p : Plan) (g : List ℕ) (given : Given w p g) where
   whole : length g % 3 ≡ 0
   whole = omega (arith, given .room .size)
 
-  made-holds : gridOf w p (payloadIn w p g) ≡ g → Holds (allSend w p) (due w p g) g
+  made-holds : gridOf w p (payloadIn w p g) ≡ g → Holds (allSend w p) (elementDue w p g) g
   made-holds m = record { elements = λ e k. made-element w p g m e (all-in w p (given .answer) (given .room) e k) }
 
-  module _ {n : ℕ} (c : Compared (allSend w p) (due w p g) g (Weight n)) where
+  module _ {n : ℕ} (c : Compared (allSend w p) (elementDue w p g) g (Weight n)) where
     weight-made : n ≡ nonzeros g → gridOf w p (payloadIn w p g) ≡ g
     weight-made h =
         made-grid w p g (given .room)
@@ -52,19 +52,19 @@ module _ (w : List ℕ) (p : Plan) (g : List ℕ) (given : Given w p g) where
         ∙ silent-rest (allSend w p) g whole
         (λ e l k. let r : e < N = rw (← size) l in made-element w p g m e r ∙ quiet w p (given .answer) (payloadIn w p g) e r k)
 
-  differs-made : Compared (allSend w p) (due w p g) g Differs → gridOf w p (payloadIn w p g) ≡ g → ⊥
+  differs-made : Compared (allSend w p) (elementDue w p g) g Differs → gridOf w p (payloadIn w p g) ≡ g → ⊥
   differs-made c m = c .found (made-holds m)
 
   -- ---- the answer, by what was seen
   pub answer-weight :
-      {s : Seen} {n m : ℕ} → s ≡ Weight n → m ≡ nonzeros g → Compared (allSend w p) (due w p g) g s → Made w p g (eqb n m)
+      {s : Seen} {n m : ℕ} → s ≡ Weight n → m ≡ nonzeros g → Compared (allSend w p) (elementDue w p g) g s → Made w p g (eqb n m)
   answer-weight {n = n} {m = m} es em c =
-      let k : Compared (allSend w p) (due w p g) g (Weight n) = subst (Compared (allSend w p) (due w p g) g) es c in
+      let k : Compared (allSend w p) (elementDue w p g) g (Weight n) = subst (Compared (allSend w p) (elementDue w p g) g) es c in
       record {
         made = λ e. weight-made k (eqb-true n m e ∙ em);
         not-made = λ e h. clash (eq-eqb n m (made-weight k h ∙ sym em)) e;
       }
 
-  pub answer-differs : {s : Seen} → s ≡ Differs → Compared (allSend w p) (due w p g) g s → Made w p g false
+  pub answer-differs : {s : Seen} → s ≡ Differs → Compared (allSend w p) (elementDue w p g) g s → Made w p g false
   answer-differs es c =
-      record { made = λ e. clash e refl; not-made = λ e. differs-made (subst (Compared (allSend w p) (due w p g) g) es c) }
+      record { made = λ e. clash e refl; not-made = λ e. differs-made (subst (Compared (allSend w p) (elementDue w p g) g) es c) }

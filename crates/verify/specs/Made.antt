@@ -21,8 +21,8 @@ use Rattle.recovery.specs.Recovery.{payloadIn}
 use Rattle.build.specs.Senders.{ownerSends}
 
 -- the elements that are due: those of the payload that the grid itself gives
-abbrev pub due : List ℕ → Plan → List ℕ → ℕ → Element
-due w p g = elementNumbered w p (payloadIn w p g)
+abbrev pub elementDue : List ℕ → Plan → List ℕ → ℕ → Element
+elementDue w p g = elementNumbered w p (payloadIn w p g)
 
 -- an accepted plan and a grid of its length
 pub record Given (w : List ℕ) (p : Plan) (g : List ℕ) : Type 0 where
@@ -37,7 +37,7 @@ pub record Planned (w : List ℕ) (p : Plan) (u : User) : Type 0 where
 
 -- its elements are compared
 pub record UserSeen (w : List ℕ) (p : Plan) (u : User) (g : List ℕ) (r : Seen) : Type 0 where
-  pub seen : (i : ℕ) → i < length (usersOf w p) → u ≡ nthUser w p i → Compared (ownerSends w p (UserOf i)) (due w p g) g r
+  pub seen : (i : ℕ) → i < length (usersOf w p) → u ≡ nthUser w p i → Compared (ownerSends w p (UserOf i)) (elementDue w p g) g r
 
 -- the answer
 pub record Made (w : List ℕ) (p : Plan) (g : List ℕ) (r : Bool) : Type 0 where

@@ -13,12 +13,12 @@ ghost use Rattle.layout.specs.Owners.{symbols};
 ghost use Rattle.layout.specs.declared.Owner.the-variants.{Pcfich, Phich};
 ghost use Rattle.compare.specs.Comparing.{Compared};
 ghost use Rattle.build.specs.Senders.{crsPorts, crsRows, marksSend, pbchSends, ownerSends, unitsSend, usersSend, allSend};
-ghost use Rattle.verify.specs.Made.{due, Given, Planned, UserSeen, Made};
+ghost use Rattle.verify.specs.Made.{elementDue, Given, Planned, UserSeen, Made};
 
 // The reference signals of all ports in symbol s.
 fn see_crs_row(plan: &[u8], p: Plan, s: u8, grid: &[u8]) -> Seen
     requires { ⌜ Given (now plan) p (now grid) × (s < symbols (p .cell)) ⌝ }
-    ensures { λ r. ⌜ Compared (crsPorts p s (p .cell .ports)) (due (now (plan .entry)) p (now (grid .entry))) (now (grid .entry)) r ⌝ }
+    ensures { λ r. ⌜ Compared (crsPorts p s (p .cell .ports)) (elementDue (now (plan .entry)) p (now (grid .entry))) (now (grid .entry)) r ⌝ }
 {
     let mut seen = Seen::Weight(0);
     let mut q: u8 = 0;
@@ -38,7 +38,7 @@ fn see_crs_row(plan: &[u8], p: Plan, s: u8, grid: &[u8]) -> Seen
 // The reference signals.
 fn see_crs(plan: &[u8], p: Plan, grid: &[u8]) -> Seen
     requires { ⌜ Given (now plan) p (now grid) ⌝ }
-    ensures { λ r. ⌜ Compared (crsRows p (symbols (p .cell))) (due (now (plan .entry)) p (now (grid .entry))) (now (grid .entry)) r ⌝ }
+    ensures { λ r. ⌜ Compared (crsRows p (symbols (p .cell))) (elementDue (now (plan .entry)) p (now (grid .entry))) (now (grid .entry)) r ⌝ }
 {
     let rows = 2 * layout::slot_length(p.cell);
     let mut seen = Seen::Weight(0);
@@ -53,7 +53,7 @@ fn see_crs(plan: &[u8], p: Plan, grid: &[u8]) -> Seen
 // The synchronisation marks, where the subframe has them.
 fn see_marks(plan: &[u8], p: Plan, grid: &[u8]) -> Seen
     requires { ⌜ Given (now plan) p (now grid) ⌝ }
-    ensures { λ r. ⌜ Compared (marksSend p) (due (now (plan .entry)) p (now (grid .entry))) (now (grid .entry)) r ⌝ }
+    ensures { λ r. ⌜ Compared (marksSend p) (elementDue (now (plan .entry)) p (now (grid .entry))) (now (grid .entry)) r ⌝ }
 {
     if layout::is_marked(p.frame) {
         let primary = signals_compare::compare_pss(p.cell, grid);
@@ -65,7 +65,7 @@ fn see_marks(plan: &[u8], p: Plan, grid: &[u8]) -> Seen
 // PBCH, where the subframe has it.
 fn see_pbch(plan: &[u8], p: Plan, grid: &[u8]) -> Seen
     requires { ⌜ Given (now plan) p (now grid) ⌝ }
-    ensures { λ r. ⌜ Compared (pbchSends (now (plan .entry)) p) (due (now (plan .entry)) p (now (grid .entry))) (now (grid .entry)) r ⌝ }
+    ensures { λ r. ⌜ Compared (pbchSends (now (plan .entry)) p) (elementDue (now (plan .entry)) p (now (grid .entry))) (now (grid .entry)) r ⌝ }
 {
     if p.frame.subframe == 0 {
         return data_compare::compare_area(data::pbch_area(p.cell, p.frame), 2, 2, grid);
@@ -76,7 +76,7 @@ fn see_pbch(plan: &[u8], p: Plan, grid: &[u8]) -> Seen
 // PCFICH.
 fn see_pcfich(plan: &[u8], p: Plan, grid: &[u8]) -> Seen
     requires { ⌜ Given (now plan) p (now grid) ⌝ }
-    ensures { λ r. ⌜ Compared (ownerSends (now (plan .entry)) p Pcfich) (due (now (plan .entry)) p (now (grid .entry))) (now (grid .entry)) r ⌝ }
+    ensures { λ r. ⌜ Compared (ownerSends (now (plan .entry)) p Pcfich) (elementDue (now (plan .entry)) p (now (grid .entry))) (now (grid .entry)) r ⌝ }
 {
     let r = channels::started(p, Channel::Pcfich);
     control_compare::compare_pcfich(r, p.cell, p.frame.cfi, grid)
@@ -85,7 +85,7 @@ fn see_pcfich(plan: &[u8], p: Plan, grid: &[u8]) -> Seen
 // PHICH unit m.
 fn see_unit(plan: &[u8], p: Plan, m: u8, grid: &[u8]) -> Seen
     requires { ⌜ Given (now plan) p (now grid) × (m < unitsOf (p .cell)) ⌝ }
-    ensures { λ r. ⌜ Compared (ownerSends (now (plan .entry)) p (Phich m)) (due (now (plan .entry)) p (now (grid .entry))) (now (grid .entry)) r ⌝ }
+    ensures { λ r. ⌜ Compared (ownerSends (now (plan .entry)) p (Phich m)) (elementDue (now (plan .entry)) p (now (grid .entry))) (now (grid .entry)) r ⌝ }
 {
     let r = channels::started(p, Channel::Phich(m));
     control_compare::compare_phich(r, p.cell, base::wide(m), p.his, plan, grid)
@@ -94,7 +94,7 @@ fn see_unit(plan: &[u8], p: Plan, m: u8, grid: &[u8]) -> Seen
 // PHICH, unit by unit.
 fn see_units(plan: &[u8], p: Plan, grid: &[u8]) -> Seen
     requires { ⌜ Given (now plan) p (now grid) ⌝ }
-    ensures { λ r. ⌜ Compared (unitsSend (now (plan .entry)) p (unitsOf (p .cell))) (due (now (plan .entry)) p (now (grid .entry))) (now (grid .entry)) r ⌝ }
+    ensures { λ r. ⌜ Compared (unitsSend (now (plan .entry)) p (unitsOf (p .cell))) (elementDue (now (plan .entry)) p (now (grid .entry))) (now (grid .entry)) r ⌝ }
 {
     let units = plan::units(p.cell);
     let mut seen = Seen::Weight(0);
@@ -123,7 +123,7 @@ fn see_user(plan: &[u8], p: Plan, u: User, grid: &[u8]) -> Seen
 // The users.
 fn see_users(plan: &[u8], p: Plan, grid: &[u8]) -> Seen
     requires { ⌜ Given (now plan) p (now grid) ⌝ }
-    ensures { λ r. ⌜ Compared (usersSend (now (plan .entry)) p (length (usersOf (now (plan .entry)) p))) (due (now (plan .entry)) p (now (grid .entry))) (now (grid .entry)) r ⌝ }
+    ensures { λ r. ⌜ Compared (usersSend (now (plan .entry)) p (length (usersOf (now (plan .entry)) p))) (elementDue (now (plan .entry)) p (now (grid .entry))) (now (grid .entry)) r ⌝ }
 {
     let mut seen = Seen::Weight(0);
     let mut at = p.users.at;
@@ -139,7 +139,7 @@ fn see_users(plan: &[u8], p: Plan, grid: &[u8]) -> Seen
 // Every channel.
 fn see_all(plan: &[u8], p: Plan, grid: &[u8]) -> Seen
     requires { ⌜ Given (now plan) p (now grid) ⌝ }
-    ensures { λ r. ⌜ Compared (allSend (now (plan .entry)) p) (due (now (plan .entry)) p (now (grid .entry))) (now (grid .entry)) r ⌝ }
+    ensures { λ r. ⌜ Compared (allSend (now (plan .entry)) p) (elementDue (now (plan .entry)) p (now (grid .entry))) (now (grid .entry)) r ⌝ }
 {
     let signals = both(see_crs(plan, p, grid), see_marks(plan, p, grid));
     let fixed = both(signals, see_pbch(plan, p, grid));

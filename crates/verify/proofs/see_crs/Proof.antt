@@ -7,13 +7,13 @@ use Rattle.places.proofs.Numbers.{symbols-most}
 use Rattle.compare.specs.Comparing.{Compared}
 use Rattle.compare.proofs.Comparing.{few}
 use Rattle.build.specs.Senders.{crsRows}
-use Rattle.verify.specs.Made.{due}
+use Rattle.verify.specs.Made.{elementDue}
 use Rattle.verify.proofs.Turns.{rows-none, rows-more, rows-end}
 use Rattle.verify.proofs.see_crs.Statement.{statement}
 use Rattle.verify.proofs.see_crs.Tie as tie
 
 abbrev Inv-loop : tie.InvT-loop
-Inv-loop plan p grid rows seen₀ s₀ seen s = (s ≤ symbols (p .cell)) × Compared (crsRows p s) (due plan p grid) grid seen
+Inv-loop plan p grid rows seen₀ s₀ seen s = (s ≤ symbols (p .cell)) × Compared (crsRows p s) (elementDue plan p grid) grid seen
 
 abbrev μ-loop : tie.MeasureT-loop
 μ-loop plan p grid rows seen₀ s₀ seen s = symbols (p .cell) - s

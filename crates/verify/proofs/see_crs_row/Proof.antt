@@ -6,13 +6,13 @@ use native.Mathlib.Omega.{arith}
 use Rattle.compare.specs.Comparing.{Compared}
 use Rattle.compare.proofs.Comparing.{few}
 use Rattle.build.specs.Senders.{crsPorts}
-use Rattle.verify.specs.Made.{due}
+use Rattle.verify.specs.Made.{elementDue}
 use Rattle.verify.proofs.Turns.{crs-none, crs-pass, crs-more, crs-starts, crs-ready, crs-end}
 use Rattle.verify.proofs.see_crs_row.Statement.{statement}
 use Rattle.verify.proofs.see_crs_row.Tie as tie
 
 abbrev Inv-loop : tie.InvT-loop
-Inv-loop plan p s grid seen₀ q₀ seen q = (q ≤ p .cell .ports) × Compared (crsPorts p s q) (due plan p grid) grid seen
+Inv-loop plan p s grid seen₀ q₀ seen q = (q ≤ p .cell .ports) × Compared (crsPorts p s q) (elementDue plan p grid) grid seen
 
 abbrev μ-loop : tie.MeasureT-loop
 μ-loop plan p s grid seen₀ q₀ seen q = p .cell .ports - q

@@ -6,13 +6,13 @@ use Rattle.places.proofs.Listing.{ranges}
 use Rattle.compare.specs.Comparing.{Compared}
 use Rattle.compare.proofs.Comparing.{few}
 use Rattle.build.specs.Senders.{unitsSend}
-use Rattle.verify.specs.Made.{due}
+use Rattle.verify.specs.Made.{elementDue}
 use Rattle.verify.proofs.Turns.{units-none, units-more, units-end}
 use Rattle.verify.proofs.see_units.Statement.{statement}
 use Rattle.verify.proofs.see_units.Tie as tie
 
 abbrev Inv-loop : tie.InvT-loop
-Inv-loop plan p grid units seen₀ m₀ seen m = (m ≤ unitsOf (p .cell)) × Compared (unitsSend plan p m) (due plan p grid) grid seen
+Inv-loop plan p grid units seen₀ m₀ seen m = (m ≤ unitsOf (p .cell)) × Compared (unitsSend plan p m) (elementDue plan p grid) grid seen
 
 abbrev μ-loop : tie.MeasureT-loop
 μ-loop plan p grid units seen₀ m₀ seen m = unitsOf (p .cell) - m
