@@ -12,7 +12,8 @@
  *     -2   a command is out of order, or any byte stands after END
  *     -3   a field of CELL is out of range
  *     -4   a field of FRAME is out of range
- *     -5   an HI's group is not below the number of PHICH groups, its sequence not below 8 (extended prefix 4), or the pair was used before
+ *     -5   an HI's group is not below ceil(g N / 48), extended prefix twice that (g is N_g in sixths), its sequence not below 8,
+ *          extended prefix 4, or the pair was used before
  *     -6   a field of USER is out of range, or first + count is above the number of blocks
  *     -7   a USER's RNTI or one of its blocks was used before
  *     -8   mapper_owner: s, k or port lies outside the grid
@@ -159,8 +160,9 @@ int64_t mapper_count(const uint8_t *plan, size_t plan_len, size_t kind);
  *   unit, i, j   the element's bytes as they stand in a grid; I and J are i and j as signed bytes
  *
  * mapper_sample_kind answers 0 for silence, 1 for a phase, 2 for a pair.
- * mapper_sample_i answers n of the phase -2 * pi * n / 63; of a pair the bits of the f32 of I / sqrt(unit); 0 for silence.
- * mapper_sample_j answers of a pair the bits of the f32 of J / sqrt(unit); 0 for a phase and for silence.
+ * mapper_sample_i answers n of the phase -2 * pi * n / 63; of a pair the bits of an f32 for I / sqrt(unit); 0 for silence.
+ * mapper_sample_j answers of a pair the bits of an f32 for J / sqrt(unit); 0 for a phase and for silence. That f32 is the level times
+ * the f32 nearest 1 / sqrt(unit), rounded once.
  *
  * Each answers -9 where the bytes are no element: another unit than 0, 1, 2, 4, 10, 20, 42, 63, 84; unit 0 with a value; unit 63 with I not 0
  * to 62 or J not 0; a level beyond 8 either way. A pair's bits are an unsigned 32-bit number, never a NaN's or an infinity's; where

@@ -7,7 +7,7 @@ use Rattle.base.specs.declared.Pair.{Pair}
 use Rattle.gold.specs.Sequence.{binary}
 use Rattle.modulation.specs.Symbols.{symbolOf}
 
--- 6.3.1: "b~(i) = (b(i) + c(i)) mod 2"
+-- 6.3.1 (one codeword), 6.6.1 and 6.7.1: b~(i) = (b(i) + c(i)) mod 2
 unfoldable pub scrambled : (ℕ → ℕ) → (ℕ → ℕ) → ℕ → ℕ
 scrambled b x i = (b i + x i) % 2
 

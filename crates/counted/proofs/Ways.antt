@@ -12,6 +12,7 @@ use Rattle.base.specs.Tables.{table}
 use Rattle.plan.specs.Check.{checkOf, refusalNumber}
 use Rattle.plan.specs.declared.Plan.{Plan}
 use Rattle.plan.specs.declared.Refusal.{Refusal}
+use Rattle.plan.specs.declared.Refusal.the-variants.{Unreadable}
 use Rattle.plan.specs.declared.Checked.{Checked}
 use Rattle.plan.specs.declared.Checked.the-variants.{Plan as accepted, Refused as refused}
 use Rattle.base.specs.Choice.{if_then_else_}
@@ -39,12 +40,12 @@ pub plan-is : (w payload : List ℕ) (p : Plan) (a : Checked) → a ≡ checkOf 
 unfolding countedOf
 plan-is w payload p a e f = rw (sym e ∙ f)
 
-pub plan-refused : (w payload : List ℕ) (r : Refusal) (n : ℕ) (a : Checked) → a ≡ checkOf w → a ≡ refused r → n ≡ refusalNumber r → refusedWith n ≡ countedOf w payload
+pub plan-refused : (w payload : List ℕ) (r : Refusal) (a : Checked) → a ≡ checkOf w → a ≡ refused r → refusedWith (refusalNumber r) ≡ countedOf w payload
 unfolding countedOf
-plan-refused w payload r n a e f en = ap refusedWith en ∙ rw (sym e ∙ f)
+plan-refused w payload r a e f = rw (sym e ∙ f)
 
 -- the input's framing
-pub no-length : (x : List ℕ) → length x < 2 → refusedWith 1 ≡ gridcountOf x
+pub no-length : (x : List ℕ) → length x < 2 → refusedWith (refusalNumber Unreadable) ≡ gridcountOf x
 unfolding gridcountOf
 no-length x h = rw (lt-ltb (length x) 2 h)
 
@@ -52,7 +53,7 @@ module _ (x : List ℕ) (a b : ℕ) (ea : a ≡ getD x 0 0) (eb : b ≡ getD x 1
   end-is : 2 + (a * 256 + b) ≡ planEnd x
   end-is = ap₂ (λ (m n : ℕ). 2 + (m * 256 + n)) ea eb
 
-  pub plan-short : length x < 2 + (a * 256 + b) → refusedWith 1 ≡ gridcountOf x
+  pub plan-short : length x < 2 + (a * 256 + b) → refusedWith (refusalNumber Unreadable) ≡ gridcountOf x
   unfolding gridcountOf
   plan-short h = let l : length x < planEnd x = rw end-is at h in rw (le-ltb (length x) 2 two, lt-ltb (length x) (planEnd x) l)
 

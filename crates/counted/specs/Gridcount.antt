@@ -1,5 +1,5 @@
 -- What the promises cite: gridcount's answer. Document 01, Known elements: "The program gridcount reads a two-byte plan length, plan,
--- payload, builds no grid, and prints one line per owner kind, name and element count (ports not multiplied), or 'refused' and the
+-- payload, builds no grid, and prints one line per owner kind, name and element count (ports not multiplied), or "refused" and the
 -- number: the plan's, 11 or 12; an input without both length bytes, or with a plan shorter than they say, is 1 before any other check."
 use Prim.Native.Nat.{ℕ, _+_, _-_, _*_}
 use mathlib.Core.Bool.{_||_}
@@ -10,7 +10,7 @@ use Rattle.base.specs.Tables.{table}
 use Rattle.plan.specs.Check.{refusalNumber, checkOf, unlessRefused}
 use Rattle.plan.specs.declared.Plan.{Plan}
 use Rattle.plan.specs.declared.Refusal.{Refusal}
-use Rattle.plan.specs.declared.Refusal.the-variants.{PayloadLength, SpareBit}
+use Rattle.plan.specs.declared.Refusal.the-variants.{Unreadable, PayloadLength, SpareBit}
 use Rattle.base.specs.Choice.{if_then_else_}
 use Rattle.counts.specs.Counts.{kinds, kindCount}
 use Rattle.payload.specs.Payload.{payloadLength, spareClear}
@@ -41,5 +41,5 @@ planEnd input = 2 + (getD input 0 0 * 256 + getD input 1 0)
 
 unfoldable pub gridcountOf : List ℕ → Counted
 gridcountOf input =
-    if ltb (length input) 2 || ltb (length input) (planEnd input) then refusedWith 1
+    if ltb (length input) 2 || ltb (length input) (planEnd input) then refusedWith (refusalNumber Unreadable)
     else countedOf (take (planEnd input - 2) (drop 2 input)) (drop (planEnd input) input)

@@ -1,11 +1,12 @@
 // What gridcount answers for an input: the counts of the nine kinds of owners, or a refusal (document 01, Known elements).
 ghost use mathlib.Core.Path.{_≡_};
-ghost use Rattle.plan.specs.Check.{checkOf};
+ghost use Rattle.plan.specs.Check.{refusalNumber, checkOf};
 ghost use Rattle.plan.specs.declared.Checked.the-variants.{Plan as accepted};
 ghost use Rattle.counted.specs.Gridcount.{refusedWith, acceptedWith, countedOf, gridcountOf};
 use base::wide;
 use plan::Checked;
 use plan::Plan;
+use plan::Refusal;
 
 // The refusal's number, or 0 and the counts in the order of the lines: CRS, PSS, SSS, PBCH, PCFICH, PHICH, PDSCH, held, idle.
 pub struct Counted {
@@ -13,11 +14,11 @@ pub struct Counted {
     pub counts: [usize; 9],
 }
 
-fn refused(number: u8) -> Counted
-    ensures { λ r. ⌜ r ≡ refusedWith number ⌝ }
+fn refused(why: Refusal) -> Counted
+    ensures { λ r. ⌜ r ≡ refusedWith (refusalNumber why) ⌝ }
 {
     Counted {
-        refusal: number,
+        refusal: plan::number(why),
         counts: [0; 9],
     }
 }
@@ -28,7 +29,7 @@ fn with_payload(plan: &[u8], p: Plan, payload: &[u8]) -> Counted
     ensures { λ r. ⌜ r ≡ acceptedWith (now (plan .entry)) p (now (payload .entry)) ⌝ }
 {
     if payload.len() != payload::payload_length(plan, p) {
-        return refused(11);
+        return refused(Refusal::PayloadLength);
     }
     if payload::spare_clear(plan, p, payload) {
         let counts = counts::kind_counts(plan, p);
@@ -37,7 +38,7 @@ fn with_payload(plan: &[u8], p: Plan, payload: &[u8]) -> Counted
             counts: counts,
         };
     }
-    refused(12)
+    refused(Refusal::SpareBit)
 }
 
 fn with_plan(plan: &[u8], payload: &[u8]) -> Counted
@@ -45,7 +46,7 @@ fn with_plan(plan: &[u8], payload: &[u8]) -> Counted
 {
     match plan::check(plan) {
         Checked::Plan(p) => with_payload(plan, p, payload),
-        Checked::Refused(r) => refused(plan::number(r)),
+        Checked::Refused(r) => refused(r),
     }
 }
 
@@ -54,11 +55,11 @@ pub fn gridcount(input: &[u8]) -> Counted
     ensures { λ r. ⌜ r ≡ gridcountOf (now (input .entry)) ⌝ }
 {
     if input.len() < 2 {
-        return refused(1);
+        return refused(Refusal::Unreadable);
     }
     let end = 2 + (wide(input[0]) * 256 + wide(input[1]));
     if input.len() < end {
-        return refused(1);
+        return refused(Refusal::Unreadable);
     }
     with_plan(&input[2..end], &input[end..])
 }

@@ -62,26 +62,39 @@ example-sections : sections example examplePlan ≡ 0 ∷ 1 ∷ 4500 ∷ []
 unfolding heads pbchBits computedSections computedBits usersOf row userOf sizeOf entryIn entries userElements rowElements signals taken halves sumTo slotLength inSlot crsSymbol marked controlSymbols
 example-sections = sections-computed example examplePlan example-plan
 
-example-payload : AcceptedPayload example examplePlan zeros
+example-payload : AcceptedPayload example examplePlan (zeros 564)
 unfolding payloadLength spareBits bytesOf sparesFrom spareAt span table bitAt
 example-payload = record { size = rw example-sections refl; spare = rw example-sections (refl, (refl, (refl, (refl, (refl, (refl, (refl, (refl, (refl, (refl, (refl, tt))))))))))) }
+
+-- PBCH has 480 bits, the user 2 × 1830
+broadcast-sections : sections broadcast broadcastPlan ≡ 480 ∷ 0 ∷ 3660 ∷ []
+unfolding heads pbchBits computedSections computedBits usersOf row userOf sizeOf entryIn entries userElements rowElements signals taken halves sumTo slotLength inSlot crsSymbol marked controlSymbols
+broadcast-sections = sections-computed broadcast broadcastPlan broadcast-plan
+
+broadcast-payload : AcceptedPayload broadcast broadcastPlan (zeros 518)
+unfolding payloadLength spareBits bytesOf sparesFrom spareAt span table bitAt
+broadcast-payload = record { size = rw broadcast-sections refl; spare = rw broadcast-sections (refl, (refl, (refl, (refl, tt)))) }
+
+other-payload : AcceptedPayload broadcast broadcastPlan (128 ∷ zeros 517)
+unfolding payloadLength spareBits bytesOf sparesFrom spareAt span table bitAt
+other-payload = record { size = rw broadcast-sections refl; spare = rw broadcast-sections (refl, (refl, (refl, (refl, tt)))) }
 
 grid-bytes : gridLength examplePlan ≡ 7560
 unfolding gridLength slotLength
 grid-bytes = refl
 
 -- the input's parts are the plan and the payload
-example-input : gridcountOf (0 ∷ 0x16 ∷ (example ++ zeros)) ≡ countedOf example zeros
+example-input : gridcountOf (0 ∷ 0x16 ∷ (example ++ zeros 564)) ≡ countedOf example (zeros 564)
 unfolding gridcountOf table
 example-input = refl
 
-example-lines : countedOf example zeros ≡ exampleLines
+example-lines : countedOf example (zeros 564) ≡ exampleLines
 unfolding countedOf acceptedWith
 example-lines =
     rw (
       example-plan,
-      eq-eqb (length zeros) (payloadLength example examplePlan) (example-payload .size),
-      payload-clear example examplePlan zeros example-payload,
+      eq-eqb (length (zeros 564)) (payloadLength example examplePlan) (example-payload .size),
+      payload-clear example examplePlan (zeros 564) example-payload,
       example-counts,
     ) refl
 
@@ -96,4 +109,6 @@ the-example =
       broadcast-plan = broadcast-plan;
       broadcast-pdsch = users-kind broadcast broadcastPlan broadcast-plan ∙ broadcast-users;
       broadcast-held = held-kind broadcast broadcastPlan broadcast-plan ∙ broadcast-holes;
+      broadcast-payload = broadcast-payload;
+      other-payload = other-payload;
     }

@@ -38,11 +38,11 @@ broadcastPlan =
       users = record { at = 12; count = 1 };
     }
 
--- "then 564 zero bytes"
-abbrev pub zeros : List ℕ
-zeros = table 564 (λ (i : ℕ). 0)
+-- "then 564 zero bytes": n of them
+abbrev pub zeros : ℕ → List ℕ
+zeros n = table n (λ (i : ℕ). 0)
 
--- the counts of gridcount's lines: "CRS 120, PSS 0, SSS 0, PBCH 0, PCFICH 16, PHICH 12, PDSCH 2250, held 0, idle 122"
+-- the counts of the lines that it prints: CRS, PSS, SSS, PBCH, PCFICH, PHICH, PDSCH, held, idle
 abbrev pub exampleCounts : List ℕ
 exampleCounts = 120 ∷ 0 ∷ 0 ∷ 0 ∷ 16 ∷ 12 ∷ 2250 ∷ 0 ∷ 122 ∷ []
 
@@ -52,11 +52,14 @@ exampleLines = record { refusal = 0; counts = exampleCounts }
 pub record Example : Type 0 where
   pub plan : checkOf example ≡ accepted examplePlan
   pub counts : table kinds (kindCount example examplePlan) ≡ exampleCounts
-  pub payload : AcceptedPayload example examplePlan zeros
+  pub payload : AcceptedPayload example examplePlan (zeros 564)
   pub grid : gridLength examplePlan ≡ 7560
   -- "Input 00 16, plan .., then 564 zero bytes prints"
-  pub lines : gridcountOf (0 ∷ 0x16 ∷ (example ++ zeros)) ≡ exampleLines
+  pub lines : gridcountOf (0 ∷ 0x16 ∷ (example ++ zeros 564)) ≡ exampleLines
   -- "PDSCH is 1830, held 56"
   pub broadcast-plan : checkOf broadcast ≡ accepted broadcastPlan
   pub broadcast-pdsch : kindCount broadcast broadcastPlan 6 ≡ 1830
   pub broadcast-held : kindCount broadcast broadcastPlan 7 ≡ 56
+  -- two payloads under it, which differ in PBCH's first bit
+  pub broadcast-payload : AcceptedPayload broadcast broadcastPlan (zeros 518)
+  pub other-payload : AcceptedPayload broadcast broadcastPlan (128 ∷ zeros 517)

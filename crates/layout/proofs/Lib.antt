@@ -1,4 +1,5 @@
--- Laws that the proofs cite. For the crates above: OneOwner (theorem A), Asked (the owner query), Few (ranges of an accepted plan), Known.
+-- Laws that the proofs cite. For the crates above: OneOwner (theorem A), Numbers (no two owners have one number), Asked (the owner query), Few
+-- (ranges of an accepted plan).
 -- The rest is about tests and lists, and about each part of the layout in turn.
 pub mod Lists
 pub mod Pilot

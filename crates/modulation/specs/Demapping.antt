@@ -1,4 +1,4 @@
--- For inner contracts only: the bits of a level pair, where it is a constellation point.
+-- For inner contracts, and for read's equation, which `Reads` determines: the bits of a level pair, where it is a constellation point.
 use Prim.Native.Nat.{ℕ, zero, suc, _+_, _*_, _/_, _^_}
 use mathlib.Core.Bool.{Bool, true, false, _&&_}
 use mathlib.Core.List.{List, [], _∷_}

@@ -1,5 +1,5 @@
 -- What the promises cite: sections that follow each other. Document 01, Plan and payload: "Payload sections follow each other, each
--- starting on a byte and filled most significant bit first." A section is given by its number of bits. One of no bits has no byte,
+-- starting on a byte and filled most significant bit first: ..". A section is given by its number of bits. One of no bits has no byte,
 -- so an absent section is one of 0 bits. A bit is given by its position, which is `bitAt`'s: 8 × byte, and 0 for the most significant.
 use Prim.Native.Nat.{ℕ, _+_, _-_, _*_, _/_}
 use mathlib.Core.List.{List, [], _∷_, _++_}

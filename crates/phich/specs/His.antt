@@ -1,4 +1,4 @@
--- For inner contracts and laws only. Document 01, Plan and payload: HIs by their number, and pairs used once.
+-- For inner contracts, laws, and read's equation, which `Reads` determines. Document 01, Plan and payload: HIs by their number, and pairs used once.
 use Prim.Native.Nat.{ℕ}
 use mathlib.Core.Path.{_≡_}
 use mathlib.Core.List.{List, [], _∷_}

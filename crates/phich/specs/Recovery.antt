@@ -1,4 +1,5 @@
--- For inner contracts and laws only. An HI's bit from its unit's sums: the first quad along the HI's own chips, at right angles to all others.
+-- For inner contracts, laws, and read's equation, which `Reads` determines. An HI's bit from its unit's sums: the first quad along the
+-- HI's own chips, at right angles to all others.
 use Prim.Native.Nat.{ℕ, zero, suc}
 use mathlib.Core.List.{List}
 use lib.ListN.{getD}

@@ -1,5 +1,5 @@
 -- What the promises cite: the plan check. Document 01, Refusals: "From the input, first fault from left to right, in a command
--- by number."
+-- by number: ..".
 use Prim.Native.Nat.{ℕ, _+_, _*_}
 use mathlib.Core.Bool.{Bool, true, false, not, cond, _||_}
 use mathlib.Core.List.{List, [], _∷_, _++_}

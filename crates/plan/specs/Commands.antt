@@ -1,5 +1,5 @@
 -- What the promises cite: a plan's bytes as a list of commands. Document 01, Plan and payload: "A plan is commands of one
--- byte with fixed operands, big-endian."
+-- byte with fixed operands, big-endian; ..".
 use Prim.Native.Nat.{ℕ, zero, suc, pred, _+_, _*_}
 use mathlib.Core.Bool.{cond}
 use mathlib.Core.List.{List, [], _∷_}
@@ -19,11 +19,11 @@ byte l i = getD l i 0
 abbrev pub word : List ℕ → ℕ → ℕ
 word l i = byte l i * 256 + byte l (i + 1)
 
--- "10 CELL: identity C u16; blocks N u8; prefix u8; ports P u8; g u8, which is N_g in sixths"
+-- "10 CELL: identity C u16 ..; blocks N u8 ..; prefix u8 ..; ports P u8 ..; g u8 .., which is N_g in sixths"
 unfoldable pub cellOf : List ℕ → Cell
 cellOf l = record { identity = word l 1; blocks = byte l 3; prefix = byte l 4; ports = byte l 5; sixths = byte l 6 }
 
--- "11 FRAME: frame F u16; subframe f u8; CFI u8"
+-- "11 FRAME: frame F u16 ..; subframe f u8 ..; CFI u8 .."
 unfoldable pub frameOf : List ℕ → Frame
 frameOf l = record { number = word l 1; subframe = byte l 3; cfi = byte l 4 }
 
@@ -31,7 +31,7 @@ frameOf l = record { number = word l 1; subframe = byte l 3; cfi = byte l 4 }
 unfoldable pub hiOf : List ℕ → Hi
 hiOf l = record { group = byte l 1; sequence = byte l 2 }
 
--- "30 USER: RNTI u16; modulation Q u8; first block u8; count u8"
+-- "30 USER: RNTI u16 ..; modulation Q u8 ..; first block u8; count u8, .."
 unfoldable pub userOf : List ℕ → User
 userOf l = record { rnti = word l 1; order = byte l 3; first = byte l 4; count = byte l 5 }
 

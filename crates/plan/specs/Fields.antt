@@ -9,27 +9,27 @@ use Rattle.plan.specs.declared.Frame.{Frame}
 use Rattle.plan.specs.declared.Hi.{Hi}
 use Rattle.plan.specs.declared.User.{User}
 
--- "blocks N (15, 25, 50, 75, 100)"
+-- "blocks N u8 (15, 25, 50, 75, 100)"
 abbrev pub widths : List ℕ
 widths = 15 ∷ 25 ∷ 50 ∷ 75 ∷ 100 ∷ []
 
--- "ports P (1, 2, 4)"
+-- "ports P u8 (1, 2, 4)"
 abbrev pub portCounts : List ℕ
 portCounts = 1 ∷ 2 ∷ 4 ∷ []
 
--- "g (1, 3, 6, 12), which is N_g in sixths"
+-- "g u8 (1, 3, 6, 12), which is N_g in sixths"
 abbrev pub sixthCounts : List ℕ
 sixthCounts = 1 ∷ 3 ∷ 6 ∷ 12 ∷ []
 
--- "modulation Q (2, 4, 6 bits)"
+-- "modulation Q u8 (2, 4, 6 bits)"
 abbrev pub orders : List ℕ
 orders = 2 ∷ 4 ∷ 6 ∷ []
 
--- "identity C (0–503); blocks N; prefix (0 normal, 1 extended); ports P; g"
+-- "identity C u16 (0–503); blocks N u8 ..; prefix u8 (0 normal, 1 extended); ports P u8 ..; g u8 .."
 unfoldable pub cellOk : Cell → Bool
 cellOk c = leb (c .identity) 503 && oneOf (c .blocks) widths && leb (c .prefix) 1 && oneOf (c .ports) portCounts && oneOf (c .sixths) sixthCounts
 
--- "frame F (0–1023); subframe f (0–9); CFI (1–3)"
+-- "frame F u16 (0–1023); subframe f u8 (0–9); CFI u8 (1–3)"
 unfoldable pub frameOk : Frame → Bool
 frameOk f = leb (f .number) 1023 && leb (f .subframe) 9 && leb 1 (f .cfi) && leb (f .cfi) 3
 
@@ -51,7 +51,7 @@ hiOk c h = ltb (h .group) (groupsOf c) && ltb (h .sequence) (sequencesOf c)
 unfoldable pub samePair : Hi → Hi → Bool
 samePair h e = eqb (h .group) (e .group) && eqb (h .sequence) (e .sequence)
 
--- "RNTI u16 (1–65535); modulation Q; first block; count, at least 1, first + count ≤ N"
+-- "RNTI u16 (1–65535); modulation Q u8 ..; first block u8; count u8, at least 1, first + count ≤ N"
 unfoldable pub userOk : Cell → User → Bool
 userOk c u = leb 1 (u .rnti) && leb (u .rnti) 65535 && oneOf (u .order) orders && leb 1 (u .count) && leb (u .first + u .count) (c .blocks)
 

@@ -8,6 +8,7 @@ use Rattle.base.specs.Choice.{if_then_else_}
 use Rattle.plan.specs.Answers.{Answer, given, refusedBy}
 use Rattle.plan.specs.Check.{checkOf, refusedAs, unlessRefused}
 use Rattle.plan.specs.declared.Refusal.{Refusal}
+use Rattle.plan.specs.declared.Refusal.the-variants.{NoPayload}
 use Rattle.plan.specs.declared.Plan.{Plan}
 use Rattle.payload.specs.Payload.{unlessLengths}
 use Rattle.subframe.specs.Grid.{gridOf}
@@ -28,7 +29,7 @@ isMade w p grid = same (gridOf w p (payloadIn w p grid)) grid
 -- the plan's refusal, 10, 11, 13, or the count of user elements
 unfoldable pub readOf : List ℕ → List ℕ → List ℕ → Answer
 readOf w grid payload =
-    unlessRefused refusedAs (λ (p : Plan). unlessLengths refusedAs w p grid payload (if isMade w p grid then given (pdschElements w p) else refusedBy 13)) (checkOf w)
+    unlessRefused refusedAs (λ (p : Plan). unlessLengths refusedAs w p grid payload (if isMade w p grid then given (pdschElements w p) else refusedAs NoPayload)) (checkOf w)
 
 -- the grid's payload, or what it was
 unfoldable pub payloadAfter : List ℕ → List ℕ → List ℕ → List ℕ

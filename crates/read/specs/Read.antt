@@ -10,6 +10,7 @@ use Rattle.plan.specs.Lists.{Every}
 use Rattle.plan.specs.Answers.{Answer, given, refusedBy}
 use Rattle.plan.specs.Check.{checkOf, refusedAs}
 use Rattle.plan.specs.declared.Refusal.{Refusal}
+use Rattle.plan.specs.declared.Refusal.the-variants.{NoPayload}
 use Rattle.plan.specs.declared.Plan.{Plan}
 use Rattle.plan.specs.declared.Checked.the-variants.{Plan as accepted, Refused as refused}
 use Rattle.payload.specs.Payload.{gridLength, payloadLength, unlessLengths, AcceptedPayload}
@@ -24,11 +25,11 @@ use Rattle.read.specs.declared.ReadBack.the-variants.{Elements, Refused}
 pub record ReadUnder (w : List ℕ) (p : Plan) (grid before : List ℕ) (a : Answer) (after : List ℕ) : Type 0 where
   -- 10, then 11, then the count of user elements or 13
   pub answer :
-      (a ≡ unlessLengths refusedAs w p grid before (given (pdschElements w p))) ⊎ (a ≡ unlessLengths refusedAs w p grid before (refusedBy 13))
+      (a ≡ unlessLengths refusedAs w p grid before (given (pdschElements w p))) ⊎ (a ≡ unlessLengths refusedAs w p grid before (refusedAs NoPayload))
   -- 13 exactly when no accepted payload makes the grid
   pub none :
       length grid ≡ gridLength p → length before ≡ payloadLength w p
-      → (a ≡ refusedBy 13) ↔ ((payload : List ℕ) → AcceptedPayload w p payload → gridOf w p payload ≡ grid → ⊥)
+      → (a ≡ refusedAs NoPayload) ↔ ((payload : List ℕ) → AcceptedPayload w p payload → gridOf w p payload ≡ grid → ⊥)
   -- the payload returned is accepted, and builds that very grid
   pub returned : (n : ℕ) → a ≡ given n → AcceptedPayload w p after × (gridOf w p after ≡ grid)
   -- what build wrote is read back: `payload` is any accepted one, a list of bytes

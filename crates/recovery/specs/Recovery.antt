@@ -64,7 +64,7 @@ unfoldable pub sectionsOf : (ℕ → ℕ → ℕ) → List ℕ → List ℕ
 sectionsOf bits [] = []
 sectionsOf bits (n ∷ ns) = sectionOf (bits 0) n ++ sectionsOf (λ (k : ℕ). bits (suc k)) ns
 
--- "PBCH when f = 0; one bit per HI in plan order, if there are HIs; per user Q × G bits": bit i of section k
+-- "PBCH when f = 0 ..; one bit per HI in plan order, if there are HIs; per user Q × G bits": bit i of section k
 unfoldable pub sectionBit : List ℕ → Plan → List ℕ → ℕ → ℕ → ℕ
 sectionBit w p g zero = pbchBit w p g
 sectionBit w p g (suc zero) = ackBit w p g

@@ -13,6 +13,6 @@ pssRoot r = getD (25 ∷ 29 ∷ 34 ∷ []) r 0
 unfoldable pub pssT : ℕ → ℕ
 pssT i = cond (leb i 30) (i * (i + 1) / 2) ((i + 1) * (i + 2) / 2)
 
--- document 01, Owners: "I = w×t mod 63"; Grid: "unit 63 means phase −2πI/63"
+-- document 01, Owners: "I = w×t mod 63"; Grid: "Unit 63 means phase −2πI/63"
 unfoldable pub pssPhase : ℕ → ℕ → ℕ
 pssPhase C i = pssRoot (C % 3) * pssT i % 63

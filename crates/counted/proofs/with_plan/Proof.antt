@@ -18,9 +18,6 @@ with-payload-requires c κs = sym (c .before .before .before .check .ensures) �
 enum-known-r : tie.Need-enum-known-r
 enum-known-r c = search needs
 
-number-requires : tie.Need-number-requires
-number-requires c κs = search needs
-
 refused-requires : tie.Need-refused-requires
 refused-requires c κs = search needs
 
@@ -28,7 +25,7 @@ returns : tie.Need-returns
 returns c = c .with-payload .ensures ∙ plan-is (c .before .before .before .before .before .before .before .args .plan .now) (c .before .before .before .before .before .before .before .args .payload .now) _ _ (c .before .before .before .before .check .ensures) (c .before .before .p .given .1)
 
 returns-2 : tie.Need-returns-2
-returns-2 c = c .refused .ensures ∙ plan-refused (c .before .before .before .before .before .before .before .before .args .plan .now) (c .before .before .before .before .before .before .before .before .args .payload .now) _ _ _ (c .before .before .before .before .before .check .ensures) (c .before .before .before .r .given .1) (c .before .number .ensures)
+returns-2 c = c .refused .ensures ∙ plan-refused (c .before .before .before .before .before .before .before .args .plan .now) (c .before .before .before .before .before .before .before .args .payload .now) _ _ (c .before .before .before .before .check .ensures) (c .before .before .r .given .1)
 
 pub with-plan-spec : {M : Type 1} → statement M
 with-plan-spec =
@@ -38,7 +35,6 @@ with-plan-spec =
     enum-known-p
     with-payload-requires
     enum-known-r
-    number-requires
     refused-requires
     returns
     returns-2)
