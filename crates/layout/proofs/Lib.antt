@@ -1,5 +1,5 @@
--- Laws that the proofs cite. For the crates above: OneOwner (theorem A), Asked (the owner query), Few (ranges of an accepted plan), Known.
--- The rest is about tests and lists, and about each part of the layout in turn.
+-- Laws that the proofs cite. For the crates above: OneOwner (theorem A), Asked (the owner query), Few (ranges of an accepted plan), Pilot
+-- (slots and reference signals), Groups and Units (PCFICH's and PHICH's groups), Fixed and Partition (owners by their rules), Lists.
 pub mod Lists
 pub mod Pilot
 pub mod Ring
