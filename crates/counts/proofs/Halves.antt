@@ -100,7 +100,8 @@ halves-are c first count true l =
     let both-ways : sumTo (2 * N) (λ b. one (within a e b && not (central c b))) + sumTo (2 * N) (λ b. one (within a e b && central c b)) ≡ 2 * count =
     sum-add (2 * N) _ _ ∙ sum-same (2 * N) _ (λ b. one (within a e b)) (λ b m. parted (within a e b) (central c b)) ∙ in-range a e (2 * N) ∙ i in
     let shared : sumTo (2 * N) (λ b. one (within a e b && central c b)) ≡ min e (N + 6) - max a (N - 6) =
-    sum-same (2 * N) _ (λ b. one (within (max a (N - 6)) (min e (N + 6)) b)) (λ b m. let q : within a e b && central c b ≡ within (max a (N - 6)) (min e (N + 6)) b = rw (lowered N 6 (N + 6) b) (overlap a e (N - 6) (N + 6) b) in ap one q)
+    sum-same (2 * N) _ (λ b. one (within (max a (N - 6)) (min e (N + 6)) b))
+    (λ b m. let q : within a e b && central c b ≡ within (max a (N - 6)) (min e (N + 6)) b = rw (lowered N 6 (N + 6) b) (overlap a e (N - 6) (N + 6) b) in ap one q)
     ∙ in-range (max a (N - 6)) (min e (N + 6)) (2 * N) ∙ ap (λ (x : ℕ). x - max a (N - 6)) j in
     away _ _ _ (rw (← shared) both-ways)
 halves-are c first count false l =

@@ -24,7 +24,8 @@ use Rattle.plan.proofs.Valid.{valid}
 use Rattle.base.specs.Choice.{if_then_else_, one}
 use Rattle.plan.specs.declared.Cell.{Cell}
 use Rattle.plan.specs.declared.Frame.{Frame}
-use Rattle.layout.specs.Rules.{middle, slotLength, inSlot, crsSymbol, crsShift, standsAt, crsOf, crs, crsBelow, crsOfFour, crsAny, marked, centre, used, pss, sss, inSyncArea, heldBySync, inPbchArea, heldByPbch, held}
+use Rattle.layout.specs.Rules.{slotLength, inSlot, crsSymbol, crsShift, standsAt, crsOf, crs, crsBelow, crsOfFour, crsAny}
+use Rattle.layout.specs.Rules.{marked, middle, centre, used, pss, sss, inSyncArea, heldBySync, inPbchArea, heldByPbch, held}
 use Rattle.layout.specs.Owners.{symbols, carriers, fixedRule, above, owns, owners}
 use Rattle.layout.specs.declared.Mark.the-variants.{Primary, Secondary}
 use Rattle.layout.specs.declared.Owner.{Owner}

@@ -12,8 +12,8 @@ use Rattle.plan.specs.Lists.{Among}
 use Rattle.plan.specs.Fields.{portCounts}
 use Rattle.base.specs.Choice.{one}
 use Rattle.plan.specs.declared.Cell.{Cell}
-use Rattle.layout.specs.Rules.{slotLength, slotOf, inSlot, crsSymbol, crsShift, standsAt, crsOf, crsBelow}
-use Rattle.layout.proofs.Pilot.{slot-length, slot-small}
+use Rattle.layout.specs.Rules.{slotLength, inSlot, crsSymbol, crsShift, standsAt, crsOf, crsBelow}
+use Rattle.layout.proofs.Pilot.{slot-length, Symbol, first, late, even, odd, other, symbol}
 use Rattle.counts.specs.Sums.{sumTo}
 use Rattle.counts.specs.Users.{signals}
 use Rattle.counts.proofs.Logic.{everyWay, by-table}
@@ -62,30 +62,6 @@ module _ (c : Cell) (P s : ℕ) where
   unfolding signals sumTo crsSymbol
   signals-other n0 n3 n1 =
       rw (ne-eqb l 0 n0, ne-eqb (l + 3) L n3, ne-eqb l 1 n1) (simp (and-false))
-
--- ---- what symbol s is to the reference signals
-data Symbol (c : Cell) (s : ℕ) : Type 0 where
-  first : eqb (inSlot c s) 0 ≡ true → eqb (inSlot c s + 3) (slotLength c) ≡ false → eqb (inSlot c s) 1 ≡ false → Symbol c s
-  late : eqb (inSlot c s) 0 ≡ false → eqb (inSlot c s + 3) (slotLength c) ≡ true → eqb (inSlot c s) 1 ≡ false → Symbol c s
-  even : eqb (inSlot c s) 0 ≡ false → eqb (inSlot c s + 3) (slotLength c) ≡ false → eqb (inSlot c s) 1 ≡ true → slotOf c s ≡ 0 → Symbol c s
-  odd : eqb (inSlot c s) 0 ≡ false → eqb (inSlot c s + 3) (slotLength c) ≡ false → eqb (inSlot c s) 1 ≡ true → slotOf c s ≡ 1 → Symbol c s
-  other : eqb (inSlot c s) 0 ≡ false → eqb (inSlot c s + 3) (slotLength c) ≡ false → eqb (inSlot c s) 1 ≡ false → Symbol c s
-
-symbol : (c : Cell) (s : ℕ) → Symbol c s
-symbol c s =
-    let l = inSlot c s in
-    let L = slotLength c in
-    let n = slotOf c s in
-    let big = slot-length c in
-    by-test (eqb l 0)
-    (λ e. let z : l ≡ 0 = eqb-true l 0 e in first e (ne-eqb (l + 3) L (λ q. omega arith)) (ne-eqb l 1 (λ q. omega arith)))
-    (λ e. by-test (eqb (l + 3) L)
-    (λ d. let z : l + 3 ≡ L = eqb-true _ L d in late e d (ne-eqb l 1 (λ q. omega arith)))
-    (λ d. by-test (eqb l 1)
-    (λ w. by-test (eqb n 0)
-    (λ v. even e d w (eqb-true n 0 v))
-    (λ v. odd e d w (let z : (n ≡ 0) → ⊥ = eqb-false n 0 v in omega (arith, slot-small c s))))
-    (λ w. other e d w)))
 
 or-swap : (a b : Bool) → a || b ≡ b || a
 or-swap true true = refl

@@ -24,7 +24,8 @@ use Rattle.plan.specs.declared.Checked.the-variants.{Plan as accepted}
 use Rattle.plan.proofs.Listed.{every-at}
 use Rattle.plan.proofs.Valid.{valid}
 use Rattle.base.specs.Choice.{one}
-use Rattle.layout.specs.Rules.{slotLength, slotOf, crs, crsBelow, crsOfFour, crsAny, centre, used, marked, pss, sss, inSyncArea, heldBySync, inPbchArea, pbch, heldByPbch, held, inGroup, pcfich, phich}
+use Rattle.layout.specs.Rules.{slotLength, slotOf, crs, crsBelow, crsOfFour, crsAny, marked, centre, used, pss, sss, inSyncArea, heldBySync, inPbchArea, pbch, heldByPbch, held}
+use Rattle.layout.specs.Rules.{inGroup, pcfich, phich}
 use Rattle.layout.specs.Owners.{symbols, carriers, controlSymbols, fixedRule, above, free, userHas, userRule, blocksHave, owns}
 use Rattle.layout.specs.declared.Owner.{Owner}
 use Rattle.layout.specs.declared.Owner.the-variants.{Phich, User as UserOf}
@@ -133,7 +134,8 @@ module _ (w : List ℕ) (p : Plan) (ok : Valid w p) (d : User) (i : ℕ) (li : i
     at-place a b e h r k l z =
         let x : k / 6 ≡ h = omega arith in
         let y : k % 6 ≡ r = omega arith in
-        rw (has-at d (usersOf w p) i (slotOf (p .cell) s) k li, blocks-half u (slotOf (p .cell) s) k, le-leb (controlSymbols (p .cell) (p .frame)) s late, late-free (p .cell) (p .frame) s k some, e k, centre-half (p .cell) k, x, y)
+        let n = slotOf (p .cell) s in
+        rw (has-at d (usersOf w p) i n k li, blocks-half u n k, le-leb (controlSymbols (p .cell) (p .frame)) s late, late-free (p .cell) (p .frame) s k some, e k, centre-half (p .cell) k, x, y)
         (ap one (shuffle (within (2 * u .first) (2 * (u .first + u .count)) h) (hits a b (p .cell) r) (taken (p .cell) (p .frame) s && central (p .cell) h)))
 
     late-row : Row ≡ rowElements (p .cell) (p .frame) (u .first) (u .count) s

@@ -1,4 +1,5 @@
 -- For the inner contracts only: a user's count without a look at each place. proofs/UserElements.antt: it is the number of its places.
+-- In document 01's letters: N blocks, P a number of ports, l a symbol's number in its slot.
 use Prim.Native.Nat.{ℕ, _+_, _-_, _*_, min, max}
 use mathlib.Core.Bool.{Bool, _&&_, _||_}
 use mathlib.Core.List.{List}

@@ -74,7 +74,11 @@ module _ (c : Cell) (big : 6 ≤ c .blocks) where
   unfolding below isFormat
   below-step t =
       let q = formatGroup c in
-      let s = sums t (q 0) (q 1) (q 2) (q 3) (format-apart 0 1 (omega arith) (omega arith)) (format-apart 0 2 (omega arith) (omega arith)) (format-apart 0 3 (omega arith) (omega arith)) (format-apart 1 2 (omega arith) (omega arith)) (format-apart 1 3 (omega arith) (omega arith)) (format-apart 2 3 (omega arith) (omega arith)) in
+      let d = format-apart in
+      let s =
+      sums t (q 0) (q 1) (q 2) (q 3)
+      (d 0 1 (omega arith) (omega arith)) (d 0 2 (omega arith) (omega arith)) (d 0 3 (omega arith) (omega arith))
+      (d 1 2 (omega arith) (omega arith)) (d 1 3 (omega arith) (omega arith)) (d 2 3 (omega arith) (omega arith)) in
       omega (arith, s, up (q 0) t, up (q 1) t, up (q 2) t, up (q 3) t)
 
   number-base : number c 0 + below c 0 ≡ 0

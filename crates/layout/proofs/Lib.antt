@@ -1,6 +1,6 @@
 -- Laws that the proofs cite. For the crates above: OneOwner (theorem A), Numbers (no two owners have one number), Asked (the owner query), Few
--- (ranges of an accepted plan).
--- The rest is about tests and lists, and about each part of the layout in turn.
+-- (ranges of an accepted plan), Pilot (slots and reference signals), Groups and Units (PCFICH's and PHICH's groups), Fixed and Partition
+-- (owners by their rules), Lists.
 pub mod Lists
 pub mod Pilot
 pub mod Ring

@@ -10,67 +10,38 @@ use Rattle.plan.specs.declared.Cell.{Cell}
 use Rattle.layout.specs.Rules.{slotLength, slotOf, inSlot, crsSymbol, crsShift, standsAt, crsOf, crsBelow}
 use Rattle.layout.specs.Chain.{pilot, pickPort}
 
--- the symbols of a slot, as the reference signals see them
-data Kind : Type 0 where
-  first late even odd other : Kind
-
-abbrev isFirst : Kind → Bool
-isFirst first = true
-isFirst late = false
-isFirst even = false
-isFirst odd = false
-isFirst other = false
-
-abbrev isLate : Kind → Bool
-isLate first = false
-isLate late = true
-isLate even = false
-isLate odd = false
-isLate other = false
-
-abbrev isSecond : Kind → Bool
-isSecond first = false
-isSecond late = false
-isSecond even = true
-isSecond odd = true
-isSecond other = false
-
-abbrev slotIs : Kind → ℕ → ℕ
-slotIs first n = n
-slotIs late n = n
-slotIs even n = 0
-slotIs odd n = 1
-slotIs other n = n
-
 pub slot-length : (c : Cell) → (6 ≤ slotLength c) × (slotLength c ≤ 7)
 unfolding slotLength
 slot-length c = by-test (eqb (c .prefix) 1) (λ t. rw t (omega arith, omega arith)) (λ t. rw t (omega arith, omega arith))
 
-pub slot-small : (c : Cell) (s : ℕ) → slotOf c s ≤ 1
+slot-small : (c : Cell) (s : ℕ) → slotOf c s ≤ 1
 unfolding slotOf
 slot-small c s = by-test (ltb s (slotLength c)) (λ e. rw e (omega arith)) (λ e. rw e (omega arith))
 
-record Seen (c : Cell) (s : ℕ) (y : Kind) : Type 0 where
-  e0 : eqb (inSlot c s) 0 ≡ isFirst y
-  e3 : eqb (inSlot c s + 3) (slotLength c) ≡ isLate y
-  e1 : eqb (inSlot c s) 1 ≡ isSecond y
-  en : slotOf c s ≡ slotIs y (slotOf c s)
+-- what symbol s is to the reference signals: the first of its slot, the third from its end, the second of the first slot or of the
+-- second, or another
+pub data Symbol (c : Cell) (s : ℕ) : Type 0 where
+  first : eqb (inSlot c s) 0 ≡ true → eqb (inSlot c s + 3) (slotLength c) ≡ false → eqb (inSlot c s) 1 ≡ false → Symbol c s
+  late : eqb (inSlot c s) 0 ≡ false → eqb (inSlot c s + 3) (slotLength c) ≡ true → eqb (inSlot c s) 1 ≡ false → Symbol c s
+  even : eqb (inSlot c s) 0 ≡ false → eqb (inSlot c s + 3) (slotLength c) ≡ false → eqb (inSlot c s) 1 ≡ true → slotOf c s ≡ 0 → Symbol c s
+  odd : eqb (inSlot c s) 0 ≡ false → eqb (inSlot c s + 3) (slotLength c) ≡ false → eqb (inSlot c s) 1 ≡ true → slotOf c s ≡ 1 → Symbol c s
+  other : eqb (inSlot c s) 0 ≡ false → eqb (inSlot c s + 3) (slotLength c) ≡ false → eqb (inSlot c s) 1 ≡ false → Symbol c s
 
-seen : (c : Cell) (s : ℕ) → (y : Kind) × Seen c s y
-seen c s =
+pub symbol : (c : Cell) (s : ℕ) → Symbol c s
+symbol c s =
     let l = inSlot c s in
     let L = slotLength c in
     let n = slotOf c s in
-    let h : 6 ≤ L = slot-length c .0 in
+    let big = slot-length c in
     by-test (eqb l 0)
-    (λ e. let z : l ≡ 0 = eqb-true l 0 e in (first, record { e0 = e; e3 = ne-eqb (l + 3) L (λ q. omega arith); e1 = ne-eqb l 1 (λ q. omega arith); en = refl }))
+    (λ e. let z : l ≡ 0 = eqb-true l 0 e in first e (ne-eqb (l + 3) L (λ q. omega arith)) (ne-eqb l 1 (λ q. omega arith)))
     (λ e. by-test (eqb (l + 3) L)
-    (λ d. let z : l + 3 ≡ L = eqb-true _ L d in (late, record { e0 = e; e3 = d; e1 = ne-eqb l 1 (λ q. omega arith); en = refl }))
+    (λ d. let z : l + 3 ≡ L = eqb-true _ L d in late e d (ne-eqb l 1 (λ q. omega arith)))
     (λ d. by-test (eqb l 1)
     (λ w. by-test (eqb n 0)
-    (λ v. (even, record { e0 = e; e3 = d; e1 = w; en = eqb-true n 0 v }))
-    (λ v. (odd, record { e0 = e; e3 = d; e1 = w; en = let z : (n ≡ 0) → ⊥ = eqb-false n 0 v in omega (arith, slot-small c s) })))
-    (λ w. (other, record { e0 = e; e3 = d; e1 = w; en = refl }))))
+    (λ v. even e d w (eqb-true n 0 v))
+    (λ v. odd e d w (let z : (n ≡ 0) → ⊥ = eqb-false n 0 v in omega (arith, slot-small c s))))
+    (λ w. other e d w)))
 
 -- which of the ports p and q is picked; a and b are never both
 picks01 : (a b : Bool) → a && b ≡ false → (a ≡ eqb (pickPort a b 0 1) 0) × (b ≡ eqb (pickPort a b 0 1) 1) × (false ≡ eqb (pickPort a b 0 1) 2) × (false ≡ eqb (pickPort a b 0 1) 3)
@@ -121,16 +92,16 @@ module _ (c : Cell) (s k : ℕ) where
     x′ : b && a ≡ false
     x′ = and-comm b a ∙ x
 
-    four : (y : Kind) → Seen c s y → Four
+    four : Symbol c s → Four
     unfolding crsOf crsSymbol crsShift pilot
-    four first f = simp (f .e0, f .e1, h0, h3) (picks01 a b x)
-    four late f = let t = picks01 b a x′ in simp (f .e0, f .e3, f .e1, h0, h3) (t .0, t .1, t .2, t .3)
-    four even f = let t = picks23 a b x in simp (f .e0, f .e3, f .e1, f .en, h0, h3) (t .0, t .1, t .2, t .3)
-    four odd f = let t = picks23 b a x′ in simp (f .e0, f .e3, f .e1, f .en, h0, h3, h6) (t .0, t .1, t .2, t .3)
-    four other f = simp (f .e0, f .e3, f .e1) (refl, refl, refl, refl)
+    four (first e d w) = simp (e, w, h0, h3) (picks01 a b x)
+    four (late e d w) = let t = picks01 b a x′ in simp (e, d, w, h0, h3) (t .0, t .1, t .2, t .3)
+    four (even e d w m) = let t = picks23 a b x in simp (e, d, w, m, h0, h3) (t .0, t .1, t .2, t .3)
+    four (odd e d w m) = let t = picks23 b a x′ in simp (e, d, w, m, h0, h3, h6) (t .0, t .1, t .2, t .3)
+    four (other e d w) = simp (e, d, w) (refl, refl, refl, refl)
 
   ports : Four
-  ports = let v = seen c s in four (standsAt c 0 k) (standsAt c 3 k) refl refl turn apart (v .0) (v .1)
+  ports = four (standsAt c 0 k) (standsAt c 3 k) refl refl turn apart (symbol c s)
 
   -- at most one port's reference signal stands at a place, and pilot is that port
   pub crs-is : (p : ℕ) → p < 4 → crsOf c p s k ≡ eqb (pilot c s k) p

@@ -151,9 +151,11 @@ module _ (c : Cell) (pos : 0 < groupsLeft c) (fit : unitsOf c ≤ groupsLeft c /
         on-if P _
         (λ e. unit (past C h n) (ltb-true _ M e) (taken0 _ n (unit-of-past (past C h n) 0 n small (omega arith))))
         (λ e. on-if P _
-        (λ w. let l : 1 * h / 3 ≤ past C h n = leb-true _ _ (and-left (leb (1 * h / 3) (past C h n)) (ltb (past C h n) (1 * h / 3 + M)) w) in let u : past C h n < 1 * h / 3 + M = ltb-true _ _ (and-right (leb (1 * h / 3) (past C h n)) (ltb (past C h n) (1 * h / 3 + M)) w) in
+        (λ w. let l : 1 * h / 3 ≤ past C h n = leb-true _ _ (and-left (leb (1 * h / 3) (past C h n)) (ltb (past C h n) (1 * h / 3 + M)) w) in
+        let u : past C h n < 1 * h / 3 + M = ltb-true _ _ (and-right (leb (1 * h / 3) (past C h n)) (ltb (past C h n) (1 * h / 3 + M)) w) in
         unit (past C h n - 1 * h / 3) (omega arith) (taken1 _ n (unit-of-past (past C h n - 1 * h / 3) 1 n small (omega arith))))
         (λ w. on-if P _
-        (λ v. let l : 2 * h / 3 ≤ past C h n = leb-true _ _ (and-left (leb (2 * h / 3) (past C h n)) (ltb (past C h n) (2 * h / 3 + M)) v) in let u : past C h n < 2 * h / 3 + M = ltb-true _ _ (and-right (leb (2 * h / 3) (past C h n)) (ltb (past C h n) (2 * h / 3 + M)) v) in
+        (λ v. let l : 2 * h / 3 ≤ past C h n = leb-true _ _ (and-left (leb (2 * h / 3) (past C h n)) (ltb (past C h n) (2 * h / 3 + M)) v) in
+        let u : past C h n < 2 * h / 3 + M = ltb-true _ _ (and-right (leb (2 * h / 3) (past C h n)) (ltb (past C h n) (2 * h / 3 + M)) v) in
         unit (past C h n - 2 * h / 3) (omega arith) (taken2 _ n (unit-of-past (past C h n - 2 * h / 3) 2 n small (omega arith))))
         (λ v. idle)))

@@ -199,7 +199,8 @@ module _ (w : List ℕ) (at k i : ℕ) where
     user-found zero l t n = absurd (not-suc-le-zero l)
     user-found (suc m) l t n = rw (row-next userOf w at m, ← eu, ← er n, t) refl
 
-    pub user-passed : (m : ℕ) → 0 < m → r ≡ false → (to : ℕ) → to ≡ nextOf w at → (j : ℕ) → j ≡ i + 1 → (n : ℕ) → userFrom j (usersFrom (drop to w) (m - 1)) n k ≡ userFrom i (usersFrom (drop at w) m) n k
+    pub user-passed : (m : ℕ) → 0 < m → r ≡ false → (to : ℕ) → to ≡ nextOf w at → (j : ℕ) → j ≡ i + 1
+        → (n : ℕ) → userFrom j (usersFrom (drop to w) (m - 1)) n k ≡ userFrom i (usersFrom (drop at w) m) n k
     unfolding userFrom
     user-passed zero l t to et j ej n = absurd (not-suc-le-zero l)
     user-passed (suc m) l t to et j ej n = rw (sub-one, ej, row-next userOf w at m, ← eu, ← er n, t, ← et) refl

@@ -43,9 +43,9 @@ crsOf c p s k = crsSymbol c p s && standsAt c (crsShift c p s) k
 unfoldable pub crs : Cell → ℕ → ℕ → ℕ → Bool
 crs c p s k = ltb p (c .ports) && crsOf c p s k
 
--- the positions of the ports below n: "CRS positions for four ports", and those of the cell's own ports
+-- the positions of the ports below q: "CRS positions for four ports", and those of the cell's own ports
 unfoldable pub crsBelow : Cell → ℕ → ℕ → ℕ → Bool
-crsBelow c n s k = (ltb 0 n && crsOf c 0 s k) || (ltb 1 n && crsOf c 1 s k) || (ltb 2 n && crsOf c 2 s k) || (ltb 3 n && crsOf c 3 s k)
+crsBelow c q s k = (ltb 0 q && crsOf c 0 s k) || (ltb 1 q && crsOf c 1 s k) || (ltb 2 q && crsOf c 2 s k) || (ltb 3 q && crsOf c 3 s k)
 
 abbrev pub crsOfFour : Cell → ℕ → ℕ → Bool
 crsOfFour c s k = crsBelow c 4 s k

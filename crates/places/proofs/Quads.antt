@@ -6,7 +6,8 @@ use mathlib.Core.Logic.{_↔_}
 use mathlib.Core.Bool.{Bool, true, false, not, _&&_, and-true, and-false}
 use native.Mathlib.Omega.{arith}
 use lib.Dec.{T, eqb, ltb, eqb→eq}
-use borrow.Author.Tests.{eq-eqb, ne-eqb, eqb-true}
+use lib.Ieee.Bits.{is-true}
+use borrow.Author.Tests.{eq-eqb, ne-eqb, eqb-true, ltb-true}
 use Rattle.base.specs.Choice.{one}
 use Rattle.base.specs.Counts.{cnt, nth, which, Listed}
 use Rattle.base.proofs.Computed.{allBelow, below-at}
@@ -128,19 +129,15 @@ offsets : T (allBelow (λ (v : ℕ). allBelow (offsetIs v) 4) 3)
 unfolding cnt offset
 offsets = tt
 
-T-true : (b : Bool) → T b → b ≡ true
-T-true true t = refl
-T-true false t = absurd t
-
 pub place-is : (c : Cell) (t j : ℕ) → t < 2 * c .blocks → j < 4 → quadPlace c 0 t j ≡ 6 * t + (3 * (j / 2) + j % 2 + one (ltb (c .identity % 3) (j % 2 + 1)))
 unfolding quadPlace offset
 place-is c t j in-t h =
     let v = c .identity % 3 in
     let r = offset v j in
     let a = eqb (cnt (keeps v) r) j in
-    let e = T-true (offsetIs v j) (below-at (offsetIs v) 4 (below-at (λ (v : ℕ). allBelow (offsetIs v) 4) 3 offsets v (omega arith)) j h) in
+    let e = is-true (offsetIs v j) (below-at (offsetIs v) 4 (below-at (λ (v : ℕ). allBelow (offsetIs v) 4) 3 offsets v (omega arith)) j h) in
     let ab = and-left (a && keeps v r) (ltb r 6) e in
-    let l : r < 6 = borrow.Author.Tests.ltb-true r 6 (and-right (a && keeps v r) (ltb r 6) e) in
+    let l : r < 6 = ltb-true r 6 (and-right (a && keeps v r) (ltb r 6) e) in
     let own : groupHas c 0 t (6 * t + r) ≡ true = in-six c t in-t r l ∙ and-right a (keeps v r) ab in
     let count : cnt (groupHas c 0 t) (6 * t + r) ≡ j = up-to c t in-t r (omega arith) ∙ eqb-true _ _ (and-left a (keeps v r) ab) in
     ap (nth (groupHas c 0 t) (carriers c)) (sym count) ∙ nth-of (groupHas c 0 t) (carriers c) (6 * t + r) own (omega arith)

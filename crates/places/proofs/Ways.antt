@@ -25,7 +25,8 @@ pub step-sum :
     → r ≡ one (ltb t (n + 1 + (w + x + y + z))) → r ≡ stepOf a b c d n t
 step-sum a b c d n t ew ex ey ez er = cc
 
-module _ (c : Cell) (m i : ℕ) (big : 6 ≤ c .blocks) {w x y z n : ℕ} (ew : w ≡ formatGroup c 0) (ex : x ≡ formatGroup c 1) (ey : y ≡ formatGroup c 2) (ez : z ≡ formatGroup c 3) (en : n ≡ unitNumber c m i) where
+module _ (c : Cell) (m i : ℕ) (big : 6 ≤ c .blocks) {w x y z n : ℕ}
+    (ew : w ≡ formatGroup c 0) (ex : x ≡ formatGroup c 1) (ey : y ≡ formatGroup c 2) (ez : z ≡ formatGroup c 3) (en : n ≡ unitNumber c m i) where
   pub unit-sum :
       {a b d e : ℕ} → a ≡ stepOf w x y z n w → b ≡ stepOf w x y z n x → d ≡ stepOf w x y z n y → e ≡ stepOf w x y z n z
       → n + (a + b + d + e) ≡ unitGroup c m i
