@@ -1,6 +1,7 @@
 -- `channels::filled` meets its contract: a case for each channel. Assumes nothing.
 use Rattle.plan.specs.Rows.{hisOf}
-use Rattle.channels.proofs.Filling.{crs-in, pbch-wide, pbch-in, pcfich-in, phich-in, user-in, crs-after, pbch-after, pcfich-after, phich-after, user-after, of-crs, of-pbch, of-pcfich, of-phich, of-user}
+use Rattle.channels.proofs.Filling.{crs-in, pbch-wide, pbch-in, pcfich-in, phich-in, user-in, of-crs, of-pbch, of-pcfich, of-phich, of-user}
+use Rattle.channels.proofs.Filling.{crs-after, pbch-after, pcfich-after, phich-after, user-after}
 use borrow.Author.Needs.{needs}
 use Rattle.channels.proofs.filled.Statement.{statement}
 use Rattle.channels.proofs.filled.Tie as tie
@@ -57,32 +58,54 @@ same-length : tie.Need-same-length
 same-length c = search needs
 
 returns : tie.Need-returns
-returns c = (of-crs _ _ _ _ _ _ _ _ _ _ (c .before .before .before .before .before .before .ch .given .1) (c .before .before .before .before .wide .ensures) (c .before .before .fill-crs .ensures .0), crs-after _ _ _ _ (c .before .before .before .before .before .before .before .before .before .before .before .before .before .before .pre) _ _ _ (c .before .before .before .before .before .before .ch .given .1) (c .before .before .fill-crs .ensures .1))
+returns c =
+    let s = c .before .before .before .before .before .before .before .before .before .before .before .before .before .before in
+    let is = c .before .before .before .before .before .before .ch .given .1 in
+    let h = c .before .before .fill-crs .ensures in
+    (of-crs _ _ _ _ _ _ _ _ _ _ is (c .before .before .before .before .wide .ensures) (h .0), crs-after _ _ _ _ (s .pre) _ _ _ is (h .1))
 
 same-length-2 : tie.Need-same-length-2
 same-length-2 c = search needs
 
 returns-2 : tie.Need-returns-2
-returns-2 c = (of-pbch _ _ _ _ _ _ _ _ (c .before .before .before .before .before .enum-told .given .1) (c .before .before .before .before .pbch-area .ensures) (c .before .before .fill-area .ensures .0), pbch-after _ _ _ _ (c .before .before .before .before .before .before .before .before .before .before .before .before .before .pre) _ _ (c .before .before .before .before .before .enum-told .given .1) (c .before .before .before .before .pbch-area .ensures) (c .before .before .fill-area .ensures .1))
+returns-2 c =
+    let s = c .before .before .before .before .before .before .before .before .before .before .before .before .before in
+    let is = c .before .before .before .before .before .enum-told .given .1 in
+    let a = c .before .before .before .before .pbch-area .ensures in
+    let h = c .before .before .fill-area .ensures in
+    (of-pbch _ _ _ _ _ _ _ _ is a (h .0), pbch-after _ _ _ _ (s .pre) _ _ is a (h .1))
 
 same-length-3 : tie.Need-same-length-3
 same-length-3 c = search needs
 
 returns-3 : tie.Need-returns-3
-returns-3 c = (of-pcfich _ _ _ _ _ _ _ (c .before .before .before .before .enum-told2 .given .1) (c .before .before .fill-pcfich .ensures .0), pcfich-after _ _ _ _ (c .before .before .before .before .before .before .before .before .before .before .before .before .pre) _ (c .before .before .before .before .enum-told2 .given .1) (c .before .before .fill-pcfich .ensures .1))
+returns-3 c =
+    let s = c .before .before .before .before .before .before .before .before .before .before .before .before in
+    let is = c .before .before .before .before .enum-told2 .given .1 in
+    let h = c .before .before .fill-pcfich .ensures in
+    (of-pcfich _ _ _ _ _ _ _ is (h .0), pcfich-after _ _ _ _ (s .pre) _ is (h .1))
 
 same-length-4 : tie.Need-same-length-4
 same-length-4 c = search needs
 
 returns-4 : tie.Need-returns-4
 unfolding hisOf
-returns-4 c = (of-phich _ _ _ _ _ _ _ _ _ (c .before .before .before .before .before .before .ch2 .given .1) (c .before .before .before .before .wide2 .ensures) (c .before .before .fill-phich .ensures .0), phich-after _ _ _ _ (c .before .before .before .before .before .before .before .before .before .before .before .before .before .before .pre) _ _ (c .before .before .before .before .before .before .ch2 .given .1) (c .before .before .fill-phich .ensures .1))
+returns-4 c =
+    let s = c .before .before .before .before .before .before .before .before .before .before .before .before .before .before in
+    let is = c .before .before .before .before .before .before .ch2 .given .1 in
+    let h = c .before .before .fill-phich .ensures in
+    (of-phich _ _ _ _ _ _ _ _ _ is (c .before .before .before .before .wide2 .ensures) (h .0), phich-after _ _ _ _ (s .pre) _ _ is (h .1))
 
 same-length-5 : tie.Need-same-length-5
 same-length-5 c = search needs
 
 returns-5 : tie.Need-returns-5
-returns-5 c = (of-user _ _ _ _ _ _ _ _ _ _ (c .before .before .before .before .before .before .before .before .ch3 .given .1) (c .before .before .before .before .before .before .user-area .ensures) (c .before .before .before .before .unit .ensures) (c .before .before .fill-area2 .ensures .0), user-after _ _ _ _ (c .before .before .before .before .before .before .before .before .before .before .before .before .before .before .before .before .pre) _ _ _ (c .before .before .before .before .before .before .before .before .ch3 .given .1) (c .before .before .before .before .before .before .user-area .ensures) (c .before .before .fill-area2 .ensures .1))
+returns-5 c =
+    let s = c .before .before .before .before .before .before .before .before .before .before .before .before .before .before .before .before in
+    let is = c .before .before .before .before .before .before .before .before .ch3 .given .1 in
+    let a = c .before .before .before .before .before .before .user-area .ensures in
+    let h = c .before .before .fill-area2 .ensures in
+    (of-user _ _ _ _ _ _ _ _ _ _ is a (c .before .before .before .before .unit .ensures) (h .0), user-after _ _ _ _ (s .pre) _ _ _ is a (h .1))
 
 pub filled-spec : {M : Type 1} → statement M
 filled-spec =

@@ -33,7 +33,11 @@ same-length c = search needs
 returns : tie.Need-returns
 returns c =
     let s = c .before .before .before .before .before .before .before .before .before .before .before in
-    (unit-done (s .pre) (c .before .before .before .before .before .before .spread-length .ensures) (c .before .before .before .before .before .before .before .word .result) (s .args .bits .now) (c .before .before .before .before .before .unit-sums .ensures) (s .args .r) (c .before .before .before .before .before .before .before .word .ensures) (c .before .before .before .put-unit .ensures), after-three (s .args .cell) (s .args .r) (c .before .before .before .before .before .before .spread-length .ensures) (c .skip .ensures))
+    let l = c .before .before .before .before .before .before .spread-length .ensures in
+    let w = c .before .before .before .before .before .before .before .word in (
+      unit-done (s .pre) l (w .result) (s .args .bits .now) (c .before .before .before .before .before .unit-sums .ensures) (s .args .r) (w .ensures) (c .before .before .before .put-unit .ensures),
+      after-three (s .args .cell) (s .args .r) l (c .skip .ensures),
+    )
 
 pub fill-phich-spec : {M : Type 1} → statement M
 fill-phich-spec =

@@ -59,8 +59,10 @@ same-length c = c .before .before .before .before .loop .inv .size ∙ sym (c .b
 
 returns : tie.Need-returns Inv-loop μ-loop
 returns c =
-    let s = c .before .before .before .before .before .before .before .before .before in
-    (read-finish (s .pre) (s .args .r) (c .before .before .before .before .loop .inv) (c .before .before .if1 .left), after-three (s .args .cell) (s .args .r) (c .before .spread-length .ensures) (c .skip .ensures))
+    let s = c .before .before .before .before .before .before .before .before .before in (
+      read-finish (s .pre) (s .args .r) (c .before .before .before .before .loop .inv) (c .before .before .if1 .left),
+      after-three (s .args .cell) (s .args .r) (c .before .spread-length .ensures) (c .skip .ensures),
+    )
 
 pub read-his-spec : {M : Type 1} → statement M
 read-his-spec =

@@ -36,17 +36,20 @@ loop-again c = (omega arith, area-step (c .before .before .before .before .befor
 ended-requires : tie.Need-ended-requires Inv-loop μ-loop
 ended-requires c κs =
     let s = c .before .before .before .before .before in
-    area-given (c .before .loop .s) (c .before .loop .inv .1) (c .loop-test .left) (area-starts (s .args .r) (c .before .before .begun .result) (s .pre) (c .before .before .begun .ensures))
+    let from = area-starts (s .args .r) (c .before .before .begun .result) (s .pre) (c .before .before .begun .ensures) in
+    area-given (c .before .loop .s) (c .before .loop .inv .1) (c .loop-test .left) from
 
 same-length : tie.Need-same-length Inv-loop μ-loop
 same-length c =
     let s = c .before .before .before .before .before .before in
-    same-size (begun-from (area-starts (s .args .r) (c .before .before .before .begun .result) (s .pre) (c .before .before .before .begun .ensures))) (c .before .before .loop .inv .1)
+    let from = area-starts (s .args .r) (c .before .before .before .begun .result) (s .pre) (c .before .before .before .begun .ensures) in
+    same-size (begun-from from) (c .before .before .loop .inv .1)
 
 returns : tie.Need-returns Inv-loop μ-loop
 returns c =
     let s = c .before .before .before .before .before .before in
-    area-done (c .before .before .loop .s) (c .before .before .loop .inv .1) (c .before .loop-test .left) (area-starts (s .args .r) (c .before .before .before .begun .result) (s .pre) (c .before .before .before .begun .ensures)) (c .ended .ensures)
+    let from = area-starts (s .args .r) (c .before .before .before .begun .result) (s .pre) (c .before .before .before .begun .ensures) in
+    area-done (c .before .before .loop .s) (c .before .before .loop .inv .1) (c .before .loop-test .left) from (c .ended .ensures)
 
 pub fill-area-spec : {M : Type 1} → statement M
 fill-area-spec =
