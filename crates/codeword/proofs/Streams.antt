@@ -6,13 +6,13 @@ use native.Mathlib.Nat.{mul-add, mul-one, mul-assoc, mul-left-comm, mod-eq-of-lt
 use native.Mathlib.Omega.{arith}
 use lib.ListN.{getD}
 use lib.Bits.{bitXor}
-use lib.Pow.{high, low, field, mod-mod-pow}
+use lib.Pow.{field, mod-mod-pow}
 use Rattle.base.specs.declared.Pair.{Pair}
 use Rattle.base.specs.Bits.{bitAt}
 use Rattle.gold.specs.declared.Registers.{Registers}
 use Rattle.gold.specs.Sequence.{binary}
 use Rattle.gold.specs.Steps.{after, outputOf, wordOf}
-use Rattle.gold.proofs.Binary.{binary-same, binary-split, binary-lt}
+use Rattle.gold.proofs.Binary.{binary-same, binary-split, binary-lt, binary-high, binary-low}
 use Rattle.gold.proofs.Window.{halve}
 use Rattle.gold.proofs.Laws.{after-none, after-after}
 use Rattle.modulation.specs.Symbols.{Order, evens, odds, level, symbolOf}
@@ -141,25 +141,18 @@ unfolding symbolOf
 symbol-low q w = ap (λ (bs : List ℕ). record { re = level (evens bs); im = level (odds bs) }) (word-low q q w (omega arith))
 
 module _ (x : ℕ → ℕ) (bit : (i : ℕ) → x i < 2) where
-  -- a word's first part, and its second
-  binary-high : (k m n : ℕ) → binary x k (m + n) / 2 ^ n ≡ binary x k m
-  binary-high k m n = ap (λ (z : ℕ). z / 2 ^ n) (binary-split x k m n) ∙ high (binary x k m) n (binary-lt x bit (k + m) n)
-
-  binary-low : (k m n : ℕ) → binary x k (m + n) % 2 ^ n ≡ binary x (k + m) n
-  binary-low k m n = ap (λ (z : ℕ). z % 2 ^ n) (binary-split x k m n) ∙ low (binary x k m) n (binary-lt x bit (k + m) n)
-
   module _ (q m k w : ℕ) (held : w % 2 ^ (q + q + m) ≡ binary x k (q + q + m)) where
     both : w / 2 ^ m % 2 ^ (q + q) ≡ binary x k (q + q)
-    both = sym (field w (q + q) m) ∙ ap (λ (z : ℕ). z / 2 ^ m) held ∙ binary-high k (q + q) m
+    both = sym (field w (q + q) m) ∙ ap (λ (z : ℕ). z / 2 ^ m) held ∙ binary-high x bit k (q + q) m
 
     first-word : w / 2 ^ m / 2 ^ q % 2 ^ q ≡ binary x k q
-    first-word = sym (field (w / 2 ^ m) q q) ∙ ap (λ (z : ℕ). z / 2 ^ q) both ∙ binary-high k q q
+    first-word = sym (field (w / 2 ^ m) q q) ∙ ap (λ (z : ℕ). z / 2 ^ q) both ∙ binary-high x bit k q q
 
     second-word : w / 2 ^ m % 2 ^ q ≡ binary x (k + q) q
-    second-word = sym (mod-mod-pow (w / 2 ^ m) q q) ∙ ap (λ (z : ℕ). z % 2 ^ q) both ∙ binary-low k q q
+    second-word = sym (mod-mod-pow (w / 2 ^ m) q q) ∙ ap (λ (z : ℕ). z % 2 ^ q) both ∙ binary-low x bit k q q
 
     rest-word : w % 2 ^ m ≡ binary x (k + (q + q)) m
-    rest-word = sym (mod-mod-pow w (q + q) m) ∙ ap (λ (z : ℕ). z % 2 ^ m) held ∙ binary-low k (q + q) m
+    rest-word = sym (mod-mod-pow w (q + q) m) ∙ ap (λ (z : ℕ). z % 2 ^ m) held ∙ binary-low x bit k (q + q) m
 
 -- where the symbols 2i and 2i + 1 and the pair i + 1 begin
 first-place : (q i : ℕ) → 2 * q * i ≡ q * (2 * i)

@@ -4,7 +4,7 @@ ghost use mathlib.Core.Path.{_≡_};
 ghost use Prim.Native.Nat.{ℕ, _≤_, _-_, _/_, _%_, _^_};
 ghost use Rattle.gold.specs.Sequence.{binary, start2, pairAt};
 ghost use Rattle.gold.specs.Steps.{after, wordOf};
-ghost use Rattle.gold.specs.Window.{window, feed1, feed2};
+ghost use Rattle.gold.specs.Window.{window, sums, offsets1, offsets2};
 
 // The register pair of document 01: the next 31 values of x1 and of x2.
 pub struct Registers {
@@ -21,14 +21,14 @@ fn widened(x: u32, y: u32) -> u64
 
 // The sums x1(n+3) + x1(n), 28 of them at once.
 fn fed1(x: u32) -> u32
-    ensures { λ y. ⌜ y ≡ feed1 x ⌝ }
+    ensures { λ y. ⌜ y ≡ sums x 3 offsets1 ⌝ }
 {
     x ^ x / 8
 }
 
 // The sums x2(n+3) + x2(n+2) + x2(n+1) + x2(n), 28 of them at once.
 fn fed2(x: u32) -> u32
-    ensures { λ y. ⌜ y ≡ feed2 x ⌝ }
+    ensures { λ y. ⌜ y ≡ sums x 3 offsets2 ⌝ }
 {
     x ^ x / 2 ^ x / 4 ^ x / 8
 }
@@ -99,15 +99,19 @@ fn mirrored(c: u32) -> u32
     x
 }
 
-// The pair at c(0), 1600 steps on from the start of x1 and x2. Bit 31 of c_init does not count.
+// The pair at c(0), 1600 steps on from the start of x1 and x2. The values of x1 there are always the same, and x2(n+1600) is the sum of nine
+// of the values from x2(n) on. Bit 31 of c_init does not count.
 fn start(c_init: u32) -> Registers
     ensures { λ r. ⌜ r ≡ pairAt «c_init» 0 ⌝ }
 {
-    let first = Registers {
-        x1: 1073741824,
-        x2: mirrored(c_init),
-    };
-    skip(first, 1600)
+    let b = mirrored(c_init);
+    let z = widened(b, fed2(b));
+    let near = z / 134217728 ^ z / 67108864 ^ z / 33554432 ^ z / 1048576;
+    let all = near ^ z / 65536 ^ z / 4096 ^ z / 512 ^ z / 256 ^ z / 32;
+    Registers {
+        x1: 17631549,
+        x2: (all % 2147483648) as u32,
+    }
 }
 
 // The pair at c(first).
