@@ -1,4 +1,5 @@
 -- Laws that the proofs cite: the answers by cases, and that an i64 holds their numbers.
+mod Distinct
 mod Numbers
 mod Counting
 mod Samples

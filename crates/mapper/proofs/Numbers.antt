@@ -1,7 +1,6 @@
 -- The calls' answers by the cases of the code, and as numbers for C. Assumes nothing.
 use Prim.Native.Nat.{ℕ, _^_, _<_}
 use mathlib.Core.Path.{_≡_, refl, sym, ap, _∙_, subst}
-use mathlib.Core.Bool.{Bool, true, false}
 use mathlib.Core.List.{List}
 use native.Mathlib.Omega.{arith}
 use lib.IntN.{ℤ, pos, negℤ, _-ℤ_}
@@ -11,17 +10,13 @@ use mir.Val.{SFits, toZ, ofZ}
 use mir.Facts.{toZ-ofZ, toZ-pos}
 use Rattle.base.proofs.Fits.{fits-abs, abs-neg, sub-zero}
 use Rattle.plan.specs.Answers.{Answer, given, refusedBy}
-use Rattle.plan.specs.Check.{checkOf, refusedAs, unlessRefused}
+use Rattle.plan.specs.Check.{checkOf, refusedAs}
 use Rattle.plan.specs.declared.Plan.{Plan}
 use Rattle.plan.specs.declared.Refusal.{Refusal}
-use Rattle.plan.specs.declared.Refusal.the-variants.{Outside}
 use Rattle.plan.specs.declared.Checked.{Checked}
 use Rattle.plan.specs.declared.Checked.the-variants.{Plan as accepted, Refused as refused}
-use Rattle.base.specs.Choice.{if_then_else_}
-use Rattle.layout.specs.Owners.{ownerNumber, ownerOf}
-use Rattle.layout.specs.Query.{inGrid, ownerQueryOf, ownerAnswer}
+use Rattle.layout.specs.Query.{ownerQueryOf, ownerAnswer}
 use Rattle.layout.specs.declared.OwnerAnswer.{OwnerAnswer}
-use Rattle.layout.specs.declared.OwnerAnswer.the-variants.{Is as owned, Refused as unowned}
 use Rattle.read.specs.Read.{Reads}
 use Rattle.mapper.specs.Calls.{answerWith, checkAnswerOf, ownerAnswerOf, checkedAnswer, numberAnswer, inC}
 use Rattle.mapper.specs.Sizes.{Small}
@@ -39,28 +34,11 @@ module _ (w : List ℕ) (a : Checked) (e : a ≡ checkOf w) where
 
   -- the answer's number is that of the bytes
   pub check-numbers : checkedAnswer a ≡ checkAnswerOf w
-  unfolding checkAnswerOf
-  check-numbers = pick a ∙ ap (answerWith (λ p. 0)) e
-    where
-      pick : (x : Checked) → checkedAnswer x ≡ answerWith (λ p. 0) x
-      pick (accepted p) = refl
-      pick (refused r) = refl
+  check-numbers = ap checkedAnswer e
 
 -- ---- the owner's number
-module _ (w : List ℕ) (s k port : ℕ) where
-  pub owner-numbers : (r : OwnerAnswer) → r ≡ ownerQueryOf w s k port → ownerAnswer r ≡ ownerAnswerOf w s k port
-  unfolding ownerQueryOf ownerAnswerOf
-  owner-numbers r e = ap ownerAnswer e ∙ pick (checkOf w)
-    where
-      choose : (p : Plan) (t : Bool) → ownerAnswer (if t then owned (ownerOf w p s k) else unowned Outside) ≡ (if t then given (ownerNumber (ownerOf w p s k)) else refusedAs Outside)
-      choose p true = refl
-      choose p false = refl
-
-      pick : (a : Checked)
-          → ownerAnswer (unlessRefused unowned (λ (p : Plan). if inGrid (p .cell) s k port then owned (ownerOf w p s k) else unowned Outside) a)
-          ≡ unlessRefused refusedAs (λ (p : Plan). if inGrid (p .cell) s k port then given (ownerNumber (ownerOf w p s k)) else refusedAs Outside) a
-      pick (accepted p) = choose p (inGrid (p .cell) s k port)
-      pick (refused r) = refl
+pub owner-numbers : (w : List ℕ) (s k port : ℕ) (r : OwnerAnswer) → r ≡ ownerQueryOf w s k port → ownerAnswer r ≡ ownerAnswerOf w s k port
+owner-numbers w s k port r e = ap ownerAnswer e
 
 -- ---- what read promises of its answer, it promises of its equation's
 pub reads-of : {w grid before after : List ℕ} {a b : Answer} → a ≡ b → Reads w grid before a after → Reads w grid before b after

@@ -1,18 +1,15 @@
 -- The numbers of a sample by the cases of the code; its f32 are no NaN. Assumes nothing.
 use Prim.Native.Nat.{ℕ, zero, suc, _≤_}
 use mathlib.Core.Path.{_≡_, refl, sym, ap, _∙_}
-use mathlib.Core.Bool.{Bool, true, false, not, cond}
+use mathlib.Core.Bool.{not}
 use mathlib.Core.List.{[], _∷_}
 use lib.Dec.{T}
 use lib.IntN.{ℤ}
 use lib.ListN.{getD, List·getD-eq-default}
 use lib.Ieee.{Float, nan, inf, fin, binary32, isNan, toBits}
-use Rattle.base.specs.Choice.{if_then_else_}
 use Rattle.plan.specs.Answers.{given}
 use Rattle.plan.specs.Check.{refusedAs}
 use Rattle.plan.specs.declared.Refusal.the-variants.{NoElement}
-use Rattle.sample.specs.Refusal.{noElement}
-use Rattle.sample.specs.Answer.{meaningOf}
 use Rattle.sample.specs.Bound.{Close}
 use Rattle.sample.specs.Promise.{Sampled}
 use Rattle.sample.specs.declared.Point.{Point}
@@ -28,11 +25,6 @@ no-nan u z nan h = absurd (h .written .3)
 no-nan u z (inf s) h = tt
 no-nan u z (fin s m e) h = tt
 
--- the answer's numbers are those of the three bytes
-either : (t : Bool) (s : Sample) (n : ℕ) → sampleAnswer n (cond t noSample (element s)) ≡ (if t then refusedAs NoElement else given (getD (sampleNumbers s) n 0))
-either true s n = refl
-either false s n = refl
-
 zeros : (n : ℕ) → getD (sampleNumbers Silence) n 0 ≡ 0
 zeros zero = refl
 zeros (suc zero) = refl
@@ -44,8 +36,9 @@ pub no-fourth : (a b c n : ℕ) → 3 ≤ n → 0 ≡ getD (a ∷ b ∷ c ∷ []
 no-fourth a b c n h = sym (List·getD-eq-default (a ∷ b ∷ c ∷ []) 0 h)
 
 module _ (b i j : ℕ) (r : SampleAnswer) (sampled : Sampled b i j r) where
+  -- the answer's numbers are those of the three bytes
   pub sample-numbers : (n : ℕ) → sampleAnswer n r ≡ sampleAnswerOf n b i j
-  sample-numbers n = ap (sampleAnswer n) (sampled .answer) ∙ either (noElement b i j) (meaningOf b i j) n
+  sample-numbers n = ap (sampleAnswer n) (sampled .answer)
 
   pub is-refused : (n : ℕ) → r ≡ noSample → sampleAnswerOf n b i j ≡ refusedAs NoElement
   is-refused n e = sym (sample-numbers n) ∙ ap (sampleAnswer n) e

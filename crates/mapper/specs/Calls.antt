@@ -8,17 +8,15 @@ use lib.IntN.{ℤ, pos, negℤ}
 use lib.ListN.{getD}
 use Rattle.plan.specs.Answers.{Answer, given}
 use Rattle.plan.specs.Check.{checkOf, refusedAs, unlessRefused}
-use Rattle.plan.specs.declared.Refusal.the-variants.{Outside, NoElement}
+use Rattle.plan.specs.declared.Refusal.the-variants.{NoElement}
 use Rattle.plan.specs.declared.Plan.{Plan}
 use Rattle.plan.specs.declared.Checked.{Checked}
 use Rattle.plan.specs.declared.Checked.the-variants.{Plan as accepted, Refused as refused}
 use Rattle.base.specs.Choice.{if_then_else_}
-use Rattle.layout.specs.Owners.{ownerNumber, ownerOf}
-use Rattle.layout.specs.Query.{inGrid}
+use Rattle.layout.specs.Query.{ownerQueryOf, ownerAnswer}
 use Rattle.counts.specs.Counts.{kinds, kindCount}
 use Rattle.payload.specs.Payload.{gridLength, payloadLength}
-use Rattle.sample.specs.Refusal.{noElement}
-use Rattle.sample.specs.Answer.{meaningOf}
+use Rattle.sample.specs.Answer.{sampleOf}
 use Rattle.sample.specs.declared.Sample.{Sample}
 use Rattle.sample.specs.declared.Sample.the-variants.{Silence, Phase, At}
 use Rattle.sample.specs.declared.SampleAnswer.{SampleAnswer}
@@ -29,10 +27,6 @@ use Rattle.mapper.specs.declared.Number.the-variants.{Is, Refused}
 -- ---- a number of an accepted plan, or the plan's refusal
 abbrev pub answerWith : (Plan → ℕ) → Checked → Answer
 answerWith f a = unlessRefused refusedAs (λ (p : Plan). given (f p)) a
-
--- an accepted plan is 0
-unfoldable pub checkAnswerOf : List ℕ → Answer
-checkAnswerOf w = answerWith (λ p. 0) (checkOf w)
 
 -- "grid not 36×N×S×P bytes"
 unfoldable pub gridLengthOf : List ℕ → Answer
@@ -49,22 +43,13 @@ kindElements w kind p = if ltb kind kinds then kindCount w p kind else 0
 unfoldable pub kindCountOf : List ℕ → ℕ → Answer
 kindCountOf w kind = answerWith (kindElements w kind) (checkOf w)
 
--- ---- the owner's number, or the plan's refusal, then 8
-unfoldable pub ownerAnswerOf : List ℕ → ℕ → ℕ → ℕ → Answer
-ownerAnswerOf w s k port =
-    unlessRefused refusedAs (λ (p : Plan). if inGrid (p .cell) s k port then given (ownerNumber (ownerOf w p s k)) else refusedAs Outside) (checkOf w)
-
 -- ---- a sample's three numbers: its kind (0 silence, 1 phase, 2 a pair of f32), the phase or the bits of the f32 of I, the bits of the f32 of J
 abbrev pub sampleNumbers : Sample → List ℕ
 sampleNumbers Silence = 0 ∷ 0 ∷ 0 ∷ []
 sampleNumbers (Phase x) = 1 ∷ x ∷ 0 ∷ []
 sampleNumbers (At p) = 2 ∷ toBits binary32 (p .re) ∷ toBits binary32 (p .im) ∷ []
 
--- number n of the sample of three bytes, from 0 on, or refusal 9
-abbrev pub sampleAnswerOf : ℕ → ℕ → ℕ → ℕ → Answer
-sampleAnswerOf n b i j = if noElement b i j then refusedAs NoElement else given (getD (sampleNumbers (meaningOf b i j)) n 0)
-
--- ---- the numbers of the calls' enums
+-- ---- the numbers of the calls' enums: an accepted plan is 0
 abbrev pub checkedAnswer : Checked → Answer
 checkedAnswer (accepted p) = given 0
 checkedAnswer (refused r) = refusedAs r
@@ -76,6 +61,16 @@ numberAnswer (Refused r) = refusedAs r
 abbrev pub sampleAnswer : ℕ → SampleAnswer → Answer
 sampleAnswer n (element s) = given (getD (sampleNumbers s) n 0)
 sampleAnswer n noSample = refusedAs NoElement
+
+-- ---- and of the calls, by the input: the plan check's, the owner query's, number n of a sample's three
+abbrev pub checkAnswerOf : List ℕ → Answer
+checkAnswerOf w = checkedAnswer (checkOf w)
+
+abbrev pub ownerAnswerOf : List ℕ → ℕ → ℕ → ℕ → Answer
+ownerAnswerOf w s k port = ownerAnswer (ownerQueryOf w s k port)
+
+abbrev pub sampleAnswerOf : ℕ → ℕ → ℕ → ℕ → Answer
+sampleAnswerOf n b i j = sampleAnswer n (sampleOf b i j)
 
 -- ---- for C: the number itself, or minus the refusal's
 unfoldable pub inC : Answer → ℤ
