@@ -22,13 +22,12 @@ enum {
     MAX_CALLS = 20000
 };
 
-/* Reading may take this much of building's time. */
-static const double READ_LIMIT = 1.5;
-
+/* Fields that a row leaves out are 0: identity 101 then, the normal prefix, subframe 1. */
 struct scenario {
     const char *name;
-    unsigned blocks, ports, bits, users;
-    bool all_his;
+    unsigned blocks, ports, bits, users, his;
+    unsigned identity;
+    bool extended, subframe_0;
 };
 
 struct input {
@@ -51,6 +50,11 @@ struct calls {
 
 struct times {
     double least, median;           /* microseconds */
+};
+
+/* The library's least times of a case. */
+struct least {
+    double build, read;
 };
 
 static struct input input;
@@ -78,16 +82,14 @@ static void append(struct input *in, const uint8_t *bytes, size_t n)
     in->plan_len += n;
 }
 
-/* Normal prefix, subframe 1, CFI 1; the blocks shared out evenly. None of these sections has spare bits, so any bytes are a payload. */
+/* CFI 1; the blocks shared out evenly. Where bytes that look like data would set a spare bit, the payload is zeros. */
 static void make(struct input *in, const struct scenario *c)
 {
-    uint8_t groups = (12 * c->blocks + 47) / 48;
     in->plan_len = 0;
-    append(in, (uint8_t[]){0x10, 0, 101, c->blocks, 0, c->ports, c->all_his ? 12 : 1}, 7);
-    append(in, (uint8_t[]){0x11, 0, 0, 1, 1}, 5);
-    for (uint8_t group = 0; c->all_his && group < groups; group++)
-        for (uint8_t sequence = 0; sequence < 8; sequence++)
-            append(in, (uint8_t[]){0x20, group, sequence}, 3);
+    append(in, (uint8_t[]){0x10, 0, c->identity ? c->identity : 101, c->blocks, c->extended, c->ports, c->his ? 12 : 1}, 7);
+    append(in, (uint8_t[]){0x11, 0, 0, !c->subframe_0, 1}, 5);
+    for (unsigned i = 0; i < c->his; i++)
+        append(in, (uint8_t[]){0x20, i / 8, i % 8}, 3);
     for (unsigned i = 0; i < c->users; i++) {
         unsigned first = i * c->blocks / c->users, end = (i + 1) * c->blocks / c->users;
         append(in, (uint8_t[]){0x30, 0x12 + i, 0x34 + i, c->bits, first, end - first}, 6);
@@ -99,6 +101,8 @@ static void make(struct input *in, const struct scenario *c)
     in->payload_len = payload_len;
     in->grid_len = grid_len;
     fill(in->payload, in->payload_len);
+    if (plain_build(in->plan, in->plan_len, in->payload, in->payload_len, sides[1].grid, in->grid_len) == -12)
+        memset(in->payload, 0, in->payload_len);
 }
 
 static int64_t build(struct side *side)
@@ -168,75 +172,68 @@ static void measure(struct calls *c)
     }
 }
 
-static uint32_t round_time(const struct calls *c, int i)
-{
-    return c->build[0][i] + c->build[1][i] + c->read[0][i] + c->read[1][i];
-}
-
-/* The library's read over its build: the median over the quickest tenth of the rounds. The calls of a round follow each other, and the
-   quickest rounds are those that nothing else on the machine slowed. */
-static double read_per_build(const struct calls *c)
-{
-    static uint32_t list[MAX_CALLS];
-    for (int i = 0; i < c->n; i++)
-        list[i] = round_time(c, i);
-    qsort(list, c->n, sizeof *list, ascending);
-    uint32_t slowest = list[c->n / 10];
-    int n = 0;
-    for (int i = 0; i < c->n; i++)
-        if (round_time(c, i) <= slowest)
-            list[n++] = 10000.0 * c->read[0][i] / c->build[0][i];
-    qsort(list, n, sizeof *list, ascending);
-    return list[n / 2] / 1e4;
-}
-
 static void heading(const char *title)
 {
-    printf("\n%-30s|%16s %12s      |%16s %12s      |       |\n", title, "build: library", "plain", "read: library", "plain");
+    printf("\n%-30s|%16s %12s      |%16s %12s      |\n", title, "build: library", "plain", "read: library", "plain");
     for (int i = 0; i < 2; i++)
         printf("%-*s| %6s%7s %6s%6s%6s ", i ? 0 : 30, "", "least", "med.", "least", "med.", "x");
-    printf("|%6s |%6s\n", "rd/bd", "calls");
+    printf("|%6s\n", "calls");
 }
 
-static void columns(uint32_t *library, uint32_t *plain, int n)
+/* Answers with the library's least time. */
+static double columns(uint32_t *library, uint32_t *plain, int n)
 {
     struct times l = times_of(library, n), p = times_of(plain, n);
     printf("| %6.1f%7.1f %6.1f%6.1f%6.2f ", l.least, l.median, p.least, p.median, l.least / p.least);
+    return l.least;
 }
 
-/* Answers with the library's read over its build. */
-static double row(const char *name, struct calls *c)
+static struct least row(const char *name, struct calls *c)
 {
-    double per_build = read_per_build(c);
+    struct least l;
     printf("%-30s", name);
-    columns(c->build[0], c->build[1], c->n);
-    columns(c->read[0], c->read[1], c->n);
-    printf("|%6.2f |%6d\n", per_build, c->n);
-    return per_build;
+    l.build = columns(c->build[0], c->build[1], c->n);
+    l.read = columns(c->read[0], c->read[1], c->n);
+    printf("|%6d\n", c->n);
+    return l;
 }
 
-/* Name, blocks, ports, bits of a symbol, users, all HIs. A name alone heads a table. */
+/* Name, blocks, ports, bits of a symbol, users, HIs. A name alone heads a table; one whose rows' names are
+   numbers shows growth. */
 static const struct scenario ROWS[] = {
-    {"Cases", 0, 0, 0, 0, false},
-    {"1 user 64QAM, N 100, P 4", 100, 4, 6, 1, false},
-    {"100 users 64QAM, N 100, P 4", 100, 4, 6, 100, false},
-    {"1 user QPSK, N 100, P 1", 100, 1, 2, 1, false},
-    {"15 users 64QAM, N 15, P 4", 15, 4, 6, 15, false},
-    {"200 HIs, no user, N 100, P 4", 100, 4, 6, 0, true},
-    {"Width: 1 user 64QAM, P 2", 0, 0, 0, 0, false},
-    {"N 15", 15, 2, 6, 1, false},
-    {"N 25", 25, 2, 6, 1, false},
-    {"N 50", 50, 2, 6, 1, false},
-    {"N 75", 75, 2, 6, 1, false},
-    {"N 100", 100, 2, 6, 1, false},
-    {"Users: 64QAM, N 100, P 4", 0, 0, 0, 0, false},
-    {"1 user", 100, 4, 6, 1, false},
-    {"2 users", 100, 4, 6, 2, false},
-    {"5 users", 100, 4, 6, 5, false},
-    {"10 users", 100, 4, 6, 10, false},
-    {"25 users", 100, 4, 6, 25, false},
-    {"50 users", 100, 4, 6, 50, false},
-    {"100 users", 100, 4, 6, 100, false},
+    {"Cases", 0},
+    {"1 user 64QAM, N 100, P 4", 100, 4, 6, 1},
+    {"100 users 64QAM, N 100, P 4", 100, 4, 6, 100},
+    {"1 user QPSK, N 100, P 1", 100, 1, 2, 1},
+    {"15 users 64QAM, N 15, P 4", 15, 4, 6, 15},
+    {"200 HIs, no user, N 100, P 4", 100, 4, 6, 0, 200},
+    {"64QAM, P 4, C mod 3 = 0", 100, 4, 6, 1, .identity = 102},
+    {"64QAM, P 4, C mod 3 = 1", 100, 4, 6, 1, .identity = 100},
+    {"64QAM, P 4, C mod 3 = 2", 100, 4, 6, 1, .identity = 101},
+    {"64QAM, P 4, subframe 0", 100, 4, 6, 1, .subframe_0 = true},
+    {"64QAM, P 4, extended prefix", 100, 4, 6, 1, .extended = true},
+    {"16QAM, N 100, P 2", 100, 2, 4, 1},
+    {"64QAM, N 100, P 1", 100, 1, 6, 1},
+    {"no user, N 15, P 1", 15, 1, 6, 0},
+    {"Width: 1 user 64QAM, P 2", 0},
+    {"15", 15, 2, 6, 1},
+    {"25", 25, 2, 6, 1},
+    {"50", 50, 2, 6, 1},
+    {"75", 75, 2, 6, 1},
+    {"100", 100, 2, 6, 1},
+    {"Users: 64QAM, N 100, P 4", 0},
+    {"1", 100, 4, 6, 1},
+    {"2", 100, 4, 6, 2},
+    {"5", 100, 4, 6, 5},
+    {"10", 100, 4, 6, 10},
+    {"25", 100, 4, 6, 25},
+    {"50", 100, 4, 6, 50},
+    {"100", 100, 4, 6, 100},
+    {"HIs: no user, N 100, P 4", 0},
+    {"25", 100, 4, 6, 0, 25},
+    {"50", 100, 4, 6, 0, 50},
+    {"100", 100, 4, 6, 0, 100},
+    {"200", 100, 4, 6, 0, 200},
 };
 enum { ALL_ROWS = sizeof ROWS / sizeof ROWS[0] };
 
@@ -255,25 +252,36 @@ static void measure_all(void)
     }
 }
 
+/* How time grows from the smallest of a table to the others: what one more of its kind adds, in nanoseconds, from a row to the next. Steady
+   numbers are linear growth. */
+static void growth(const int *sizes, const struct least *l, int n)
+{
+    printf("one more adds, ns: build");
+    for (int i = 1; i < n; i++)
+        printf(" %.0f", 1e3 * (l[i].build - l[i - 1].build) / (sizes[i] - sizes[i - 1]));
+    printf("; read");
+    for (int i = 1; i < n; i++)
+        printf(" %.0f", 1e3 * (l[i].read - l[i - 1].read) / (sizes[i] - sizes[i - 1]));
+    printf("\n");
+}
+
 int main(void)
 {
-    double most = 0;
-    const char *name = "";
+    static int sizes[ALL_ROWS];
+    static struct least l[ALL_ROWS];
+    int n = 0;
     measure_all();
-    printf("\nMicroseconds of the quickest call and of the median one. x: the library's quickest over the plain mapper's; rd/bd: the\n"
-           "library's read over its build.\n");
+    printf("\nMicroseconds of the quickest call and of the median one. x: the library's quickest over the plain mapper's.\n");
     for (int i = 0; i < ALL_ROWS; i++) {
         if (ROWS[i].blocks == 0) {
             heading(ROWS[i].name);
-        } else {
-            double per_build = row(ROWS[i].name, &calls[i]);
-            if (per_build > most) {
-                most = per_build;
-                name = ROWS[i].name;
-            }
+            n = 0;
+            continue;
         }
+        sizes[n] = atoi(ROWS[i].name);
+        l[n++] = row(ROWS[i].name, &calls[i]);
+        bool last = i + 1 == ALL_ROWS || ROWS[i + 1].blocks == 0;
+        if (last && strchr(ROWS[i].name, ' ') == NULL)
+            growth(sizes, l, n);
     }
-    printf("\nThe library's read takes at most %.2f of its build (%s); %s the limit of %.1f.\n", most, name,
-           most <= READ_LIMIT ? "within" : "OVER", READ_LIMIT);
-    return most > READ_LIMIT;
 }
