@@ -1,12 +1,16 @@
 -- The first cause of a command, by the tests that the code makes in turn. Assumes nothing.
-use Prim.Native.Nat.{ℕ, _+_, _≤_, _<_}
+use Prim.Native.Nat.{ℕ, _+_, _-_, _≤_, _<_}
 use mathlib.Core.Path.{_≡_, refl, sym, ap, _∙_}
-use mathlib.Core.Bool.{Bool, true, false, not, _&&_, _||_}
+use mathlib.Core.Bool.{Bool, true, false, _&&_}
 use mathlib.Core.List.{List, [], _∷_}
-use lib.Dec.{leb, ltb, eqb}
+use lib.Dec.{ltb, eqb}
+use lib.ListN.{drop}
 use borrow.Author.Tests.{eq-eqb, ne-eqb, lt-ltb, le-ltb, le-leb, lt-leb}
 use Rattle.plan.specs.Lists.{oneOf, noneOf}
-use Rattle.plan.specs.Commands.{byte, entries}
+use Rattle.plan.specs.Commands.{byte, hiOf, userOf, entries}
+use Rattle.plan.specs.Rows.{nextOf}
+use Rattle.plan.proofs.Listed.{none-or}
+use Rattle.plan.proofs.RowLaws.{scan-found, scan-passed, scan-left}
 use Rattle.plan.specs.Fields.{widths, portCounts, sixthCounts, orders, groupsOf, sequencesOf, samePair, clash}
 use Rattle.plan.specs.Check.{due}
 use Rattle.plan.specs.declared.Cell.{Cell}
@@ -15,6 +19,9 @@ use Rattle.plan.specs.declared.Hi.{Hi}
 use Rattle.plan.specs.declared.User.{User}
 use Rattle.plan.specs.declared.Command.{Command}
 use Rattle.explain.specs.Finding.{demand, cellCause, frameCause, hiCause, sameRnti, sharesBlock, userCause, brokenCause, inOrder, fieldCause, causeAt}
+use Rattle.explain.specs.Steps.{sharesAt, freshOf}
+use Rattle.explain.specs.declared.Asked.{Asked}
+use Rattle.explain.specs.declared.Asked.the-variants.{Pair, Rnti as AskRnti, Block}
 use Rattle.explain.specs.declared.Cause.{Cause}
 use Rattle.explain.specs.declared.Cause.the-variants.{Unknown, CutOff, OutOfOrder, AfterEnd, Identity, Blocks, Prefix, Ports, Sixths, FrameNumber, Subframe, Cfi, Group, Sequence, PairUsed, Rnti, Modulation, Count, LastBlock, RntiUsed, BlockUsed}
 use Rattle.explain.specs.declared.Reason.{Reason}
@@ -109,28 +116,53 @@ module _ (c : Cell) (hs : List Hi) (h : Hi) (g : ℕ) (eg : g ≡ groupsOf c) wh
       unfolding hiCause
       hi-fine f = simp (← eg, lt-ltb _ _ k, ← eq, lt-ltb _ _ l, ← ep, f)
 
--- ---- USER, after the USERs us
-pub rnti-same : (u v : User) → u .rnti ≡ v .rnti → true ≡ sameRnti u v
+-- ---- a look through the commands before
+module _ (h e : Hi) where
+  pub pair-groups : h .group ≡ e .group → eqb (h .sequence) (e .sequence) ≡ samePair h e
+  unfolding samePair
+  pair-groups p = rw (eq-eqb (h .group) (e .group) p) refl
+
+  pub pair-other : (h .group ≡ e .group → ⊥) → false ≡ samePair h e
+  unfolding samePair
+  pair-other p = rw (ne-eqb (h .group) (e .group) p) refl
+
+module _ (u v : User) where
+  pub blocks-meet : u .first < v .first + v .count → ltb (v .first) (u .first + u .count) ≡ sharesBlock u v
+  unfolding sharesBlock
+  blocks-meet h = rw (lt-ltb (u .first) (v .first + v .count) h) refl
+
+  pub blocks-apart : v .first + v .count ≤ u .first → false ≡ sharesBlock u v
+  unfolding sharesBlock
+  blocks-apart h = rw (le-ltb (u .first) (v .first + v .count) h) refl
+
+pub rnti-test : (u v : User) (l : List ℕ) → v ≡ userOf l → eqb (u .rnti) (v .rnti) ≡ sameRnti u (userOf l)
 unfolding sameRnti
-rnti-same u v e = sym (eq-eqb (u .rnti) (v .rnti) e)
+rnti-test u v l e = ap (λ (x : User). eqb (u .rnti) (x .rnti)) e
 
-pub rnti-other : (u v : User) → (u .rnti ≡ v .rnti → ⊥) → false ≡ sameRnti u v
-unfolding sameRnti
-rnti-other u v e = sym (ne-eqb (u .rnti) (v .rnti) e)
+module _ (a : Asked) {b : Asked} (k : a ≡ b) (l : List ℕ) where
+  pub asked-as : {r : Bool} → r ≡ sharesAt b l → r ≡ sharesAt a l
+  asked-as e = e ∙ ap (λ (x : Asked). sharesAt x l) (sym k)
 
--- a clash is an RNTI or a block in common: no clash is neither
-none-both : (a b s t : Bool) → not (a || b) && (s && t) ≡ (not a && s) && (not b && t)
-none-both true b s t = refl
-none-both false true true t = refl
-none-both false true false t = refl
-none-both false false s t = refl
+module _ (w : List ℕ) (at n : ℕ) (l : 0 < n) where
+  pub fresh-found : (a : Asked) (r : Bool) → r ≡ sharesAt a (drop at w) → r ≡ true → false ≡ freshOf a (drop at w) n
+  fresh-found (Pair h) r e t = scan-found hiOf (samePair h) w at _ refl r e n l t
+  fresh-found (AskRnti u) r e t = scan-found userOf (sameRnti u) w at _ refl r e n l t
+  fresh-found (Block u) r e t = scan-found userOf (sharesBlock u) w at _ refl r e n l t
 
+  pub fresh-passed : (a : Asked) (r : Bool) → r ≡ sharesAt a (drop at w) → r ≡ false → (to : ℕ) → to ≡ nextOf w at → freshOf a (drop to w) (n - 1) ≡ freshOf a (drop at w) n
+  fresh-passed (Pair h) r e t to q = scan-passed hiOf (samePair h) w at _ refl r e n l t to q
+  fresh-passed (AskRnti u) r e t to q = scan-passed userOf (sameRnti u) w at _ refl r e n l t to q
+  fresh-passed (Block u) r e t to q = scan-passed userOf (sharesBlock u) w at _ refl r e n l t to q
+
+pub fresh-left : (w : List ℕ) (at n : ℕ) → n ≤ 0 → (a : Asked) → true ≡ freshOf a (drop at w) n
+fresh-left w at n l (Pair h) = scan-left hiOf (samePair h) w at n l
+fresh-left w at n l (AskRnti u) = scan-left userOf (sameRnti u) w at n l
+fresh-left w at n l (Block u) = scan-left userOf (sharesBlock u) w at n l
+
+-- ---- USER, after the USERs us. A clash is an RNTI or a block in common: no clash is neither
 pub none-clash : (u : User) (us : List User) → noneOf (clash u) us ≡ noneOf (sameRnti u) us && noneOf (sharesBlock u) us
-unfolding noneOf clash sameRnti sharesBlock
-none-clash u [] = refl
-none-clash u (v ∷ us) =
-    rw (none-clash u us)
-    (none-both (eqb (u .rnti) (v .rnti)) (ltb (u .first) (v .first + v .count) && ltb (v .first) (u .first + u .count)) (noneOf (sameRnti u) us) (noneOf (sharesBlock u) us))
+unfolding clash sameRnti sharesBlock
+none-clash u us = none-or (sameRnti u) (sharesBlock u) us
 
 module _ (c : Cell) (us : List User) (u : User) where
   pub user-rnti : u .rnti < 1 → Is Rnti ≡ userCause c us u
@@ -157,18 +189,14 @@ module _ (c : Cell) (us : List User) (u : User) where
           unfolding userCause
           user-rnti-used f = simp (le-leb _ _ h, le-leb _ _ m, ← eo, to, le-leb _ _ k, le-leb _ _ l, ← ep, f)
 
-          -- the code looks for a clash: with no RNTI in common that is a block in common
-          module _ (tp : p ≡ true) (q : Bool) (eq : q ≡ noneOf (clash u) us) where
-            blocks-new : q ≡ noneOf (sharesBlock u) us
-            blocks-new = eq ∙ none-clash u us ∙ rw (← ep, tp) refl
-
+          module _ (tp : p ≡ true) (q : Bool) (eq : q ≡ noneOf (sharesBlock u) us) where
             pub user-block-used : q ≡ false → Is BlockUsed ≡ userCause c us u
             unfolding userCause
-            user-block-used f = simp (le-leb _ _ h, le-leb _ _ m, ← eo, to, le-leb _ _ k, le-leb _ _ l, ← ep, tp, ← blocks-new, f)
+            user-block-used f = simp (le-leb _ _ h, le-leb _ _ m, ← eo, to, le-leb _ _ k, le-leb _ _ l, ← ep, tp, ← eq, f)
 
             pub user-fine : q ≡ true → Nothing ≡ userCause c us u
             unfolding userCause
-            user-fine f = simp (le-leb _ _ h, le-leb _ _ m, ← eo, to, le-leb _ _ k, le-leb _ _ l, ← ep, tp, ← blocks-new, f)
+            user-fine f = simp (le-leb _ _ h, le-leb _ _ m, ← eo, to, le-leb _ _ k, le-leb _ _ l, ← ep, tp, ← eq, f)
 
 -- ---- a command that cannot be read
 module _ (l : List ℕ) (b : ℕ) (eb : b ≡ byte l 0) (t : Bool) (et : t ≡ oneOf b (0x10 ∷ 0x11 ∷ 0x20 ∷ 0x30 ∷ 0x00 ∷ [])) where

@@ -1,13 +1,15 @@
 -- The first fault of an HI and of a USER, by the tests that the code makes in turn. Assumes nothing.
 use Prim.Native.Nat.{ℕ}
 use mathlib.Core.Path.{_≡_, refl}
-use mathlib.Core.Bool.{Bool, true, false}
+use mathlib.Core.Bool.{Bool, true, false, not}
 use mathlib.Core.List.{List}
 use lib.Dec.{eqb}
-use borrow.Author.Tests.{eq-eqb, ne-eqb, eqb-true}
-use Rattle.plan.specs.Lists.{noneOf}
+use borrow.Author.Tests.{eqb-true}
+use Rattle.plan.specs.Lists.{oneOf, noneOf}
 use Rattle.plan.specs.Fields.{hiOk, samePair, userOk, clash}
 use Rattle.plan.specs.Check.{need, hiFault, userFault}
+use Rattle.plan.specs.Sets.{inWords, meet}
+use Rattle.plan.specs.Loops.{pairOf, newHi, userFaultBy}
 use Rattle.plan.specs.declared.Cell.{Cell}
 use Rattle.plan.specs.declared.Hi.{Hi}
 use Rattle.plan.specs.declared.User.{User}
@@ -25,26 +27,42 @@ pub need-next : (t : Bool) (r : Refusal) (f : Fault) → Nothing ≡ need t r f 
 need-next true r f e = e
 need-next false r f e = cc
 
+-- ---- by the tables, as the code tests them
+module _ (c : Cell) (pairs : List ℕ) (h : Hi) (o : Bool) (eo : o ≡ hiOk c h) where
+  pub hi-bad : o ≡ false → false ≡ newHi c pairs h
+  unfolding newHi
+  hi-bad f = rw (← eo, f) refl
+
+  pub hi-tested : o ≡ true → (k : ℕ) → k ≡ pairOf h → (p : Bool) → p ≡ inWords pairs k → not p ≡ newHi c pairs h
+  unfolding newHi
+  hi-tested t k ek p ep = rw (← eo, t, ← ek, ← ep) refl
+
+module _ (c : Cell) (rntis blocks own : List ℕ) (u : User) (o : Bool) (eo : o ≡ userOk c u) where
+  abbrev It : Fault
+  It = userFaultBy c rntis blocks own u
+
+  pub user-bad : o ≡ false → Is UserField ≡ It
+  unfolding userFaultBy
+  user-bad f = rw (← eo, f) refl
+
+  module _ (to : o ≡ true) (p : Bool) (ep : p ≡ oneOf (u .rnti) rntis) where
+    pub user-used : p ≡ true → Is Used ≡ It
+    unfolding userFaultBy
+    user-used t = rw (← eo, to, ← ep, t) refl
+
+    module _ (np : p ≡ false) (q : Bool) (eq : q ≡ meet blocks own) where
+      pub user-met : q ≡ true → Is Used ≡ It
+      unfolding userFaultBy
+      user-met t = rw (← eo, to, ← ep, np, ← eq, t) refl
+
+      pub user-fine : q ≡ false → Nothing ≡ It
+      unfolding userFaultBy
+      user-fine f = rw (← eo, to, ← ep, np, ← eq, f) refl
+
+-- ---- by the lists of those before
 module _ (c : Cell) (hs : List Hi) (h : Hi) (m : ℕ) where
   abbrev Its : Fault
   Its = need (eqb m 0) Order (hiFault c hs h)
-
-  pub hi-late : (m ≡ 0 → ⊥) → Is Order ≡ Its
-  hi-late k = rw (ne-eqb m 0 k) refl
-
-  module _ (k : m ≡ 0) (o : Bool) (eo : o ≡ hiOk c h) where
-    pub hi-bad : o ≡ false → Is HiField ≡ Its
-    unfolding hiFault
-    hi-bad f = rw (eq-eqb m 0 k, ← eo, f) refl
-
-    module _ (to : o ≡ true) (p : Bool) (ep : p ≡ noneOf (samePair h) hs) where
-      pub hi-used : p ≡ false → Is HiField ≡ Its
-      unfolding hiFault
-      hi-used f = rw (eq-eqb m 0 k, ← eo, to, ← ep, f) refl
-
-      pub hi-fine : p ≡ true → Nothing ≡ Its
-      unfolding hiFault
-      hi-fine f = rw (eq-eqb m 0 k, ← eo, to, ← ep, f) refl
 
   -- an HI without a fault stands before every USER, is in range and new
   module _ (q : Nothing ≡ Its) where
@@ -60,20 +78,6 @@ module _ (c : Cell) (hs : List Hi) (h : Hi) (m : ℕ) where
     hi-new = need-nothing (noneOf (samePair h) hs) HiField _ (need-next (hiOk c h) HiField _ (need-next (eqb m 0) Order _ q))
 
 module _ (c : Cell) (us : List User) (u : User) where
-  module _ (o : Bool) (eo : o ≡ userOk c u) where
-    pub user-bad : o ≡ false → Is UserField ≡ userFault c us u
-    unfolding userFault
-    user-bad f = rw (← eo, f) refl
-
-    module _ (to : o ≡ true) (p : Bool) (ep : p ≡ noneOf (clash u) us) where
-      pub user-used : p ≡ false → Is Used ≡ userFault c us u
-      unfolding userFault
-      user-used f = rw (← eo, to, ← ep, f) refl
-
-      pub user-fine : p ≡ true → Nothing ≡ userFault c us u
-      unfolding userFault
-      user-fine f = rw (← eo, to, ← ep, f) refl
-
   module _ (q : Nothing ≡ userFault c us u) where
     pub user-in-range : userOk c u ≡ true
     unfolding userFault

@@ -4,10 +4,10 @@ use mathlib.Core.Path.{_≡_, refl}
 use mathlib.Core.Bool.{Bool, true, false}
 use native.Mathlib.Nat.{mul-le-mul}
 use native.Mathlib.Omega.{arith}
-use lib.Dec.{leb, ltb, eqb}
+use lib.Dec.{leb, ltb}
 use borrow.Author.Tests.{eq-eqb, ne-eqb, lt-ltb, le-ltb, le-leb, lt-leb}
 use Rattle.plan.specs.Lists.{oneOf}
-use Rattle.plan.specs.Fields.{widths, portCounts, sixthCounts, orders, cellOk, frameOk, unitsOf, groupsOf, sequencesOf, hiOk, samePair, userOk, clash}
+use Rattle.plan.specs.Fields.{widths, portCounts, sixthCounts, orders, cellOk, frameOk, unitsOf, groupsOf, sequencesOf, hiOk, userOk}
 use Rattle.plan.specs.declared.Cell.{Cell}
 use Rattle.plan.specs.declared.Frame.{Frame}
 use Rattle.plan.specs.declared.Hi.{Hi}
@@ -88,15 +88,6 @@ module _ (c : Cell) (h : Hi) (g : ℕ) (eg : g ≡ groupsOf c) where
   unfolding hiOk
   hi-within k q eq = simp (← eg, lt-ltb _ _ k, ← eq)
 
-module _ (h e : Hi) where
-  pub pair-groups : h .group ≡ e .group → eqb (h .sequence) (e .sequence) ≡ samePair h e
-  unfolding samePair
-  pair-groups p = rw (eq-eqb (h .group) (e .group) p) refl
-
-  pub pair-other : (h .group ≡ e .group → ⊥) → false ≡ samePair h e
-  unfolding samePair
-  pair-other p = rw (ne-eqb (h .group) (e .group) p) refl
-
 module _ (c : Cell) (u : User) where
   pub user-rnti : u .rnti < 1 → false ≡ userOk c u
   unfolding userOk
@@ -115,16 +106,3 @@ module _ (c : Cell) (u : User) where
       pub user-blocks : 1 ≤ u .count → leb (u .first + u .count) (c .blocks) ≡ userOk c u
       unfolding userOk
       user-blocks k = simp (le-leb _ _ h, le-leb _ _ m, ← eo, to, le-leb _ _ k)
-
-module _ (u v : User) where
-  pub clash-rnti : u .rnti ≡ v .rnti → true ≡ clash u v
-  unfolding clash
-  clash-rnti e = rw (eq-eqb (u .rnti) (v .rnti) e) refl
-
-  pub clash-blocks : (u .rnti ≡ v .rnti → ⊥) → u .first < v .first + v .count → ltb (v .first) (u .first + u .count) ≡ clash u v
-  unfolding clash
-  clash-blocks h k = simp (ne-eqb _ _ h, lt-ltb _ _ k)
-
-  pub clash-not : (u .rnti ≡ v .rnti → ⊥) → v .first + v .count ≤ u .first → false ≡ clash u v
-  unfolding clash
-  clash-not h k = simp (ne-eqb _ _ h, le-ltb _ _ k)

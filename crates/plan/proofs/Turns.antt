@@ -1,9 +1,10 @@
 -- One turn of the check: what the run over the commands at a position is, by the command there and its fault. Assumes nothing.
 use Prim.Native.Nat.{ℕ, _+_, _-_, _*_, _≤_, _<_}
-use mathlib.Core.Path.{_≡_, refl, sym, ap, ap₂, _∙_}
+use mathlib.Core.Path.{_≡_, refl, sym, ap, ap₂, _∙_, subst}
 use mathlib.Core.Bool.{Bool, true, false, cond}
 use mathlib.Core.List.{List, [], _∷_, _++_}
 use native.Mathlib.Omega.{arith}
+use mathlib.Core.Logic.{inl, inr}
 use types.Run.{OneOf}
 use denote.Enum.Declared.{tagOf}
 use lib.Dec.{eqb}
@@ -13,8 +14,8 @@ use borrow.Author.Tests.{eq-eqb, ne-eqb}
 use Rattle.plan.specs.Lists.{oneOf}
 use Rattle.plan.specs.Commands.{hiOf, userOf, sizeOf, commandOf, commandsAfter, commands}
 use Rattle.plan.specs.Check.{State, need, due, hiFault, userFault, fault, stateAfter, planOf, unless, run}
-use Rattle.plan.specs.Rows.{past, nextOf, hisFrom, usersFrom}
-use Rattle.plan.specs.Loops.{bodyState}
+use Rattle.plan.specs.Rows.{row, past, nextOf, hisFrom, usersFrom}
+use Rattle.plan.specs.Loops.{bodyState, EndDue}
 use Rattle.plan.specs.declared.Cell.{Cell}
 use Rattle.plan.specs.declared.Frame.{Frame}
 use Rattle.plan.specs.declared.Hi.{Hi}
@@ -92,6 +93,10 @@ standing-first w start h =
       room = h;
     }
 
+pub on-no-lists : (w : List ℕ) (start : ℕ) (F : List Hi → List User → Type 0) → F [] [] → F (hisFrom (drop start w) 0) (usersFrom (drop start w) 0)
+unfolding row
+on-no-lists w start F x = x
+
 module _ (w : List ℕ) (c : Cell) (f : Frame) (start n mid m at : ℕ) where
   abbrev here : List ℕ
   here = drop at w
@@ -145,10 +150,14 @@ module _ (w : List ℕ) (c : Cell) (f : Frame) (start n mid m at : ℕ) where
               room = omega (arith, hi-room, hi-next, et);
             }
 
-        pub more-his : hisFrom (drop start w) n ++ (h ∷ []) ≡ hisFrom (drop start w) (n + 1)
+        more-his : hisFrom (drop start w) n ++ (h ∷ []) ≡ hisFrom (drop start w) (n + 1)
         more-his =
             ap (λ (x : Hi). hisFrom (drop start w) n ++ (x ∷ [])) (told here (hi h) e .0 ∙ ap hiOf (at-mid ∙ g .his-end))
             ∙ sym (row-more hiOf n (drop start w))
+
+        -- what holds of the HIs with this one, and of the USERs, of which there are none
+        pub on-more-his : (F : List Hi → List User → Type 0) → F (hisFrom (drop start w) n ++ (h ∷ [])) (usersFrom (drop mid w) m) → F (hisFrom (drop start w) (n + 1)) (usersFrom (drop (mid + 3) w) m)
+        on-more-his F x = subst (λ (hs : List Hi). F hs (usersFrom (drop (mid + 3) w) m)) more-his (subst (F (hisFrom (drop start w) n ++ (h ∷ []))) (row-none userOf (drop mid w) (drop (mid + 3) w) m none) x)
 
         after-hi : stateAfter St (hi h) ≡ bodyState w c f start (n + 1) (mid + 3) m
         unfolding stateAfter bodyState
@@ -190,10 +199,13 @@ module _ (w : List ℕ) (c : Cell) (f : Frame) (start n mid m at : ℕ) where
               room = omega (arith, user-next, et, told here (user u) e .1, told here (user u) e .2, length-drop at w);
             }
 
-        pub more-users : usersFrom (drop mid w) m ++ (u ∷ []) ≡ usersFrom (drop mid w) (m + 1)
+        more-users : usersFrom (drop mid w) m ++ (u ∷ []) ≡ usersFrom (drop mid w) (m + 1)
         more-users =
             ap (λ (x : User). usersFrom (drop mid w) m ++ (x ∷ [])) (told here (user u) e .0 ∙ ap userOf (g .users-end))
             ∙ sym (row-more userOf m (drop mid w))
+
+        pub on-more-users : (F : List User → Type 0) → F (usersFrom (drop mid w) m ++ (u ∷ [])) → F (usersFrom (drop mid w) (m + 1))
+        on-more-users F x = subst F more-users x
 
         after-user : stateAfter St (user u) ≡ bodyState w c f start n mid (m + 1)
         unfolding stateAfter bodyState
@@ -213,7 +225,7 @@ module _ (w : List ℕ) (c : Cell) (f : Frame) (start n mid m at : ℕ) where
     unfolding bodyState fault
     end-turn = run-at St here end e (omega (arith, told here end e .2)) ∙ rw (stage-due, told here end e .1, drop-drop) refl
 
-  -- ---- a second CELL or FRAME; a broken command
+  -- ---- a second CELL or FRAME; a command that is not END, where END is due; a broken command
   pub late-body : (x : Command) → commandOf here ≡ x → OneOf (0 ∷ 1 ∷ []) (tagOf the-type x) → run St (commands here) ≡ refused Order
   unfolding bodyState fault oneOf
   late-body (cell y) e h = refused-at St here (cell y) Order e (omega (arith, told here (cell y) e .2)) (rw stage-first refl)
@@ -222,6 +234,15 @@ module _ (w : List ℕ) (c : Cell) (f : Frame) (start n mid m at : ℕ) where
   late-body (user y) e h = absurd (not-in (0 ∷ 1 ∷ []) 3 h refl)
   late-body end e h = absurd (not-in (0 ∷ 1 ∷ []) 4 h refl)
   late-body broken e h = absurd (not-in (0 ∷ 1 ∷ []) 5 h refl)
+
+  pub end-late : EndDue w m at → (x : Command) → commandOf here ≡ x → OneOf (0 ∷ 1 ∷ 2 ∷ 3 ∷ []) (tagOf the-type x) → run St (commands here) ≡ refused Order
+  unfolding oneOf
+  end-late d (cell y) e h = late-body (cell y) e (inl refl)
+  end-late d (frame y) e h = late-body (frame y) e (inr refl)
+  end-late d (hi y) e h = hi-refused y e Order (rw (ne-eqb m 0 (λ z. d .no-hi z y e)) refl)
+  end-late d (user y) e h = absurd (d .no-user y e)
+  end-late d end e h = absurd (not-in (0 ∷ 1 ∷ 2 ∷ 3 ∷ []) 4 h refl)
+  end-late d broken e h = absurd (not-in (0 ∷ 1 ∷ 2 ∷ 3 ∷ []) 5 h refl)
 
   pub body-broken : commandOf here ≡ broken → run St (commands here) ≡ refused Unreadable
   unfolding bodyState
@@ -250,33 +271,18 @@ module _ (w : List ℕ) (c : Cell) (f : Frame) (his users : Row) (to : ℕ) wher
   last e h =
       rw (drop-of-length-le w h, row-length hiOf (drop (his .at) w) (his .count), row-length userOf (drop (users .at) w) (users .count), ← e) refl
 
--- ---- the loop: where it stands, and that the run from there is the whole run
-pub record Going (w : List ℕ) (c : Cell) (f : Frame) (start n mid m at : ℕ) : Type 0 where
+-- ---- a loop: where it stands, and that the run from there is the whole run
+pub record Going (w : List ℕ) (c : Cell) (f : Frame) (start n mid m at : ℕ) (whole : Checked) : Type 0 where
   pub standing : Standing w start n mid m at
-  pub same : run (bodyState w c f start n mid m) (commands (drop at w)) ≡ run (bodyState w c f start 0 start 0) (commands (drop start w))
+  pub same : run (bodyState w c f start n mid m) (commands (drop at w)) ≡ whole
 
-abbrev Whole : List ℕ → Cell → Frame → ℕ → Checked
-Whole w c f start = run (bodyState w c f start 0 start 0) (commands (drop start w))
-
-pub going-first : (w : List ℕ) (c : Cell) (f : Frame) (start : ℕ) → start ≤ length w → Going w c f start 0 start 0 start
-going-first w c f start h = record { standing = standing-first w start h; same = refl }
-
-module _ {w : List ℕ} {c : Cell} {f : Frame} {start n mid m at : ℕ} (g : Going w c f start n mid m at) where
+module _ {w : List ℕ} {c : Cell} {f : Frame} {start n mid m at : ℕ} {whole : Checked} (g : Going w c f start n mid m at whole) where
   -- at an HI
   module _ {h : Hi} (e : commandOf (drop at w) ≡ hi h) where
-    pub hi-fits : (n + 1 ≤ length w) × (mid + 3 ≤ length w)
-    hi-fits =
-        let s = g .standing in
-        let r : at + 3 ≤ length w = hi-room w c f start n mid m at h e s in
-        (omega (arith, s .mid-at, s .behind), omega (arith, s .behind))
-
-    pub hi-less : {to : ℕ} → to ≡ nextOf w at → length w - to < length w - at
-    hi-less et = omega (arith, hi-next w c f start n mid m at h e, hi-room w c f start n mid m at h e (g .standing))
-
-    pub hi-out : {r : Refusal} → Is r ≡ need (eqb m 0) Order (hiFault c (hisFrom (drop start w) n) h) → refused r ≡ Whole w c f start
+    pub hi-out : {r : Refusal} → Is r ≡ need (eqb m 0) Order (hiFault c (hisFrom (drop start w) n) h) → refused r ≡ whole
     hi-out {r} q = sym (hi-refused w c f start n mid m at h e r q) ∙ g .same
 
-    pub hi-again : {to : ℕ} → Nothing ≡ need (eqb m 0) Order (hiFault c (hisFrom (drop start w) n) h) → to ≡ nextOf w at → Going w c f start (n + 1) (mid + 3) m to
+    pub hi-again : {to : ℕ} → Nothing ≡ need (eqb m 0) Order (hiFault c (hisFrom (drop start w) n) h) → to ≡ nextOf w at → Going w c f start (n + 1) (mid + 3) m to whole
     hi-again {to} q et =
         record {
           standing = standing-hi w c f start n mid m at h e (g .standing) q to et;
@@ -292,25 +298,12 @@ module _ {w : List ℕ} {c : Cell} {f : Frame} {start n mid m at : ℕ} (g : Goi
     user-less et =
         omega (arith, user-next w c f start n mid m at u e, user-room w c f start n mid m at u e (g .standing), told (drop at w) (user u) e .1)
 
-    pub user-out : {r : Refusal} → Is r ≡ userFault c (usersFrom (drop mid w) m) u → refused r ≡ Whole w c f start
+    pub user-out : {r : Refusal} → Is r ≡ userFault c (usersFrom (drop mid w) m) u → refused r ≡ whole
     user-out {r} q = sym (user-refused w c f start n mid m at u e r q) ∙ g .same
 
-    pub user-again : {to : ℕ} → Nothing ≡ userFault c (usersFrom (drop mid w) m) u → to ≡ nextOf w at → Going w c f start n mid (m + 1) to
+    pub user-again : {to : ℕ} → Nothing ≡ userFault c (usersFrom (drop mid w) m) u → to ≡ nextOf w at → Going w c f start n mid (m + 1) to whole
     user-again {to} q et =
         record {
           standing = standing-user w c f start n mid m at u e (g .standing) to et;
           same = sym (user-turn w c f start n mid m at u e (g .standing) to et q) ∙ g .same;
         }
-
-  -- at END, and at what ends the check
-  pub end-fits : commandOf (drop at w) ≡ end → at + 1 ≤ length w
-  end-fits e = omega (arith, end-room w c f start n mid m at e)
-
-  pub end-out : commandOf (drop at w) ≡ end → {a : Checked} → a ≡ run (stateAfter (bodyState w c f start n mid m) end) (commands (drop (at + 1) w)) → a ≡ Whole w c f start
-  end-out e q = q ∙ sym (end-turn w c f start n mid m at e) ∙ g .same
-
-  pub broken-out : commandOf (drop at w) ≡ broken → refused Unreadable ≡ Whole w c f start
-  broken-out e = sym (body-broken w c f start n mid m at e) ∙ g .same
-
-  pub late-out : {x : Command} → commandOf (drop at w) ≡ x → OneOf (0 ∷ 1 ∷ []) (tagOf the-type x) → refused Order ≡ Whole w c f start
-  late-out {x} e k = sym (late-body w c f start n mid m at x e k) ∙ g .same

@@ -1,13 +1,28 @@
--- For the loops only: the states that the code goes through, where the bytes have what they hold.
-use Prim.Native.Nat.{ℕ}
-use mathlib.Core.Bool.{cond}
+-- For the loops only: the states that the code goes through, where the bytes have what they hold; and the faults by the sets of what was used before.
+use Prim.Native.Nat.{ℕ, _+_, _*_, _≤_}
+use mathlib.Core.Path.{_≡_}
+use mathlib.Core.Bool.{Bool, cond, not, _&&_, _||_}
 use mathlib.Core.List.{List, []}
-use lib.Dec.{eqb}
-use lib.ListN.{drop}
-use Rattle.plan.specs.Check.{State, begin}
-use Rattle.plan.specs.Rows.{hisFrom, usersFrom}
+use lib.Dec.{leb, eqb}
+use lib.ListN.{length, drop}
+use Rattle.plan.specs.Lists.{oneOf}
+use Rattle.plan.specs.Commands.{byte, entryFor, commandOf, commands}
+use Rattle.plan.specs.Fields.{hiOk, userOk}
+use Rattle.plan.specs.Check.{State, begin, need, run}
+use Rattle.plan.specs.Rows.{past, hisFrom, usersFrom}
+use Rattle.plan.specs.Sets.{inWords, meet}
 use Rattle.plan.specs.declared.Cell.{Cell}
 use Rattle.plan.specs.declared.Frame.{Frame}
+use Rattle.plan.specs.declared.Hi.{Hi}
+use Rattle.plan.specs.declared.User.{User}
+use Rattle.plan.specs.declared.Command.the-variants.{Hi as hi, User as user}
+use Rattle.plan.specs.declared.Refusal.the-variants.{UserField, Used}
+use Rattle.plan.specs.declared.Fault.{Fault}
+use Rattle.plan.specs.declared.Fault.the-variants.{Nothing}
+use Rattle.plan.specs.declared.Counted.{Counted}
+use Rattle.plan.specs.declared.Counted.the-variants.{Count, Refused as faulty}
+use Rattle.plan.specs.declared.Checked.{Checked}
+use Rattle.plan.specs.declared.Checked.the-variants.{Refused as refused}
 
 -- after CELL, where FRAME stands at position at
 unfoldable pub celled : Cell → ℕ → State
@@ -24,3 +39,37 @@ bodyState w c f start n mid m =
       his = hisFrom (drop start w) n;
       users = usersFrom (drop mid w) m;
     }
+
+-- the command with the byte code is whole at the front of the bytes l
+unfoldable pub standsAt : ℕ → List ℕ → Bool
+standsAt code l = leb (entryFor code .size) (length l) && eqb (byte l 0) code
+
+-- an HI's pair as one number: a sequence is below 8
+abbrev pub pairOf : Hi → ℕ
+pairOf h = h .group * 8 + h .sequence
+
+-- no fault of an HI, by the set of the pairs before; the fault of a USER, by the RNTIs and the set of the blocks before, and the set of its own
+unfoldable pub newHi : Cell → List ℕ → Hi → Bool
+newHi c pairs h = hiOk c h && not (inWords pairs (pairOf h))
+
+unfoldable pub userFaultBy : Cell → List ℕ → List ℕ → List ℕ → User → Fault
+userFaultBy c rntis blocks own u = need (userOk c u) UserField (need (not (oneOf (u .rnti) rntis || meet blocks own)) Used Nothing)
+
+-- n HIs from position start on, up to position mid: no HI follows
+pub record HisPast (w : List ℕ) (start n mid : ℕ) : Type 0 where
+  pub his-end : drop mid w ≡ past (drop start w) n
+  pub room : mid ≤ length w
+  pub no-hi : (h : Hi) → commandOf (drop mid w) ≡ hi h → ⊥
+
+abbrev pub bodyRun : List ℕ → Cell → Frame → ℕ → Checked
+bodyRun w c f start = run (bodyState w c f start 0 start 0) (commands (drop start w))
+
+abbrev pub HisRead : List ℕ → Cell → ℕ → Counted → Type 0
+HisRead w c start (Count n) =
+    HisPast w start n (start + 3 * n) × ((f : Frame) → run (bodyState w c f start n (start + 3 * n) 0) (commands (drop (start + 3 * n) w)) ≡ bodyRun w c f start)
+HisRead w c start (faulty r) = (f : Frame) → refused r ≡ bodyRun w c f start
+
+-- after m USERs, where no USER follows, nor an HI that would be in its place
+pub record EndDue (w : List ℕ) (m at : ℕ) : Type 0 where
+  pub no-hi : m ≡ 0 → (h : Hi) → commandOf (drop at w) ≡ hi h → ⊥
+  pub no-user : (u : User) → commandOf (drop at w) ≡ user u → ⊥

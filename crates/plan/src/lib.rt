@@ -1,17 +1,16 @@
 // The plan check (document 01, Plan and payload; Refusals 1 to 7): reads a plan's commands from left to right and answers
 // with the plan, or with the first refusal.
 ghost use mathlib.Core.Path.{_≡_};
-ghost use Prim.Native.Nat.{_+_, _*_, _≤_, _<_};
+ghost use Prim.Native.Nat.{_+_, _-_, _*_, _^_, _≤_, _<_};
 ghost use lib.ListN.{length, drop};
-ghost use lib.Dec.{eqb};
-ghost use Rattle.plan.specs.Lists.{oneOf, noneOf};
+ghost use mathlib.Core.Bool.{true};
+ghost use Rattle.plan.specs.Lists.{oneOf};
 ghost use Rattle.plan.specs.Commands.{byte, cellOf, frameOf, hiOf, userOf, entryFor, commandOf, commands};
-ghost use Rattle.plan.specs.Fields.{cellOk, frameOk, unitsOf, groupsOf, sequencesOf, hiOk, samePair, userOk, clash};
-ghost use Rattle.plan.specs.Check.{refusalNumber, need, hiFault, userFault, stateAfter, run, checkOf};
-ghost use Rattle.plan.specs.Rows.{nextOf, hisFrom, usersFrom};
-ghost use Rattle.plan.specs.Loops.{celled, bodyState};
-ghost use Rattle.plan.specs.declared.Refusal.the-variants.{Order as outOfOrder};
-ghost use Rattle.plan.specs.declared.Command.the-variants.{End as endCommand};
+ghost use Rattle.plan.specs.Fields.{cellOk, frameOk, unitsOf, groupsOf, sequencesOf, hiOk, userOk};
+ghost use Rattle.plan.specs.Check.{refusalNumber, run, checkOf};
+ghost use Rattle.plan.specs.Rows.{nextOf};
+ghost use Rattle.plan.specs.Sets.{inWords, added, onesOf, runOf, meet, joined};
+ghost use Rattle.plan.specs.Loops.{celled, bodyState, standsAt, pairOf, newHi, userFaultBy, HisPast, HisRead, EndDue};
 
 // 10 CELL: the identity C, the width in blocks N, the prefix (1 extended), the antenna ports P, and N_g in sixths.
 pub struct Cell {
@@ -86,6 +85,12 @@ pub struct Plan {
     pub frame: Frame,
     pub his: Row,
     pub users: Row,
+}
+
+// How many commands of one kind stand in a row, or the first fault of one.
+pub enum Counted {
+    Count(usize),
+    Refused(Refusal),
 }
 
 pub enum Checked {
@@ -349,97 +354,160 @@ fn user_ok(c: Cell, u: User) -> bool
     }
 }
 
-fn same_pair(h: Hi, e: Hi) -> bool
-    ensures { λ r. ⌜ r ≡ samePair h e ⌝ }
+// Sets of numbers, in words of 64: n is in a set where bit n % 64 of its word n / 64 is 1.
+fn bit(k: usize) -> u64
+    requires { ⌜ k < 64 ⌝ }
+    ensures { λ r. ⌜ r ≡ 2 ^ k ⌝ }
 {
-    if h.group == e.group {
-        h.sequence == e.sequence
-    } else {
-        false
+    1 << k
+}
+
+// Puts n into a set; a number past the set's words is not put.
+fn add(set: &mut [u64], n: usize)
+    ensures { λ r. ⌜ now (set .exit) ≡ added (now (set .entry)) n ⌝ }
+{
+    let w = n / 64;
+    if w < set.len() {
+        set[w] = set[w] | bit(n % 64);
     }
 }
 
-// Whether two users share an RNTI or a block.
-fn clashes(u: User, v: User) -> bool
-    ensures { λ r. ⌜ r ≡ clash u v ⌝ }
+// Whether n is in a set.
+fn has(set: &[u64], n: usize) -> bool
+    ensures { λ r. ⌜ r ≡ inWords (now (set .entry)) n ⌝ }
 {
-    if u.rnti == v.rnti {
+    let w = n / 64;
+    if w < set.len() {
+        let k = n % 64;
+        return (set[w] >> k) % 2 == 1;
+    }
+    false
+}
+
+// The word of the n lowest bits.
+fn ones(n: usize) -> u64
+    ensures { λ r. ⌜ r ≡ onesOf n ⌝ }
+{
+    if n < 64 {
+        bit(n) - 1
+    } else {
+        0xffff_ffff_ffff_ffff
+    }
+}
+
+// n - 64, or 0.
+fn over(n: usize) -> usize
+    ensures { λ r. ⌜ r ≡ n - 64 ⌝ }
+{
+    if n < 64 { 0 } else { n - 64 }
+}
+
+// The set of the count numbers from first on, those below 128.
+fn run_of(first: u8, count: u8) -> [u64; 2]
+    ensures { λ r. ⌜ r ≡ runOf first count ⌝ }
+{
+    let from = base::wide(first);
+    let to = from + base::wide(count);
+    [ones(to) ^ ones(from), ones(over(to)) ^ ones(over(from))]
+}
+
+// Whether two sets have a number in common.
+fn meets(a: &[u64; 2], b: &[u64; 2]) -> bool
+    ensures { λ r. ⌜ r ≡ meet (now (a .entry)) (now (b .entry)) ⌝ }
+{
+    if a[0] & b[0] != 0 {
         return true;
     }
-    if (u.first as usize) < (v.first as usize) + (v.count as usize) {
-        (v.first as usize) < (u.first as usize) + (u.count as usize)
+    a[1] & b[1] != 0
+}
+
+// The numbers of either set.
+fn join(a: &[u64; 2], b: &[u64; 2]) -> [u64; 2]
+    ensures { λ r. ⌜ r ≡ joined (now (a .entry)) (now (b .entry)) ⌝ }
+{
+    [a[0] | b[0], a[1] | b[1]]
+}
+
+// Whether an RNTI is in a table, with no early exit, so that several places are looked at together.
+fn has_rnti(table: &[u16], rnti: u16) -> bool
+    ensures { λ r. ⌜ r ≡ oneOf rnti (now (table .entry)) ⌝ }
+{
+    let mut found = false;
+    let mut i: usize = 0;
+    while i < table.len() {
+        found = found | (rnti == table[i]);
+        i = i + 1;
+    }
+    found
+}
+
+// Whether the command with the byte code stands whole at a position.
+fn stands(plan: &[u8], at: usize, code: u8) -> bool
+    requires { ⌜ at ≤ length (now plan) ⌝ }
+    ensures { λ r. ⌜ r ≡ standsAt code (drop at (now (plan .entry))) ⌝ }
+{
+    if plan.len() - at < size_of(code) {
+        return false;
+    }
+    byte_at(plan, at, 0) == code
+}
+
+// An HI's pair as one number.
+fn pair_of(h: Hi) -> usize
+    ensures { λ r. ⌜ r ≡ pairOf h ⌝ }
+{
+    (h.group as usize) * 8 + (h.sequence as usize)
+}
+
+// Whether an HI has no fault, after HIs with the pairs.
+fn new_hi(cell: Cell, pairs: &[u64; 7], h: Hi) -> bool
+    ensures { λ r. ⌜ r ≡ newHi cell (now (pairs .entry)) h ⌝ }
+{
+    if hi_ok(cell, h) {
+        !has(pairs, pair_of(h))
     } else {
         false
     }
 }
 
-// Whether the pair h is none of the count HIs from position start on.
-pub fn fresh_pair(plan: &[u8], start: usize, count: usize, h: Hi) -> bool
-    ensures { λ r. ⌜ r ≡ noneOf (samePair h) (hisFrom (drop start (now (plan .entry))) count) ⌝ }
+// The HIs from position start on: how many, or the first fault.
+fn his_from(plan: &[u8], cell: Cell, start: usize) -> Counted
+    requires { ⌜ (start ≤ length (now plan)) × (cellOk cell ≡ true) ⌝ }
+    ensures { λ r. ⌜ HisRead (now (plan .entry)) cell start r ⌝ }
 {
+    let mut pairs = [0u64; 7];
+    let mut count: usize = 0;
     let mut at = start;
-    let mut left = count;
-    while 0 < left {
-        if same_pair(h, hi_at(plan, at)) {
-            return false;
+    while stands(plan, at, 0x20) {
+        let h = hi_at(plan, at);
+        if !new_hi(cell, &pairs, h) {
+            return Counted::Refused(Refusal::HiField);
         }
-        at = next_at(plan, at);
-        left = left - 1;
+        add(&mut pairs, pair_of(h));
+        count = count + 1;
+        at = at + 3;
     }
-    true
+    Counted::Count(count)
 }
 
-// Whether u shares nothing with the count USERs from position start on.
-pub fn fresh_user(plan: &[u8], start: usize, count: usize, u: User) -> bool
-    ensures { λ r. ⌜ r ≡ noneOf (clash u) (usersFrom (drop start (now (plan .entry))) count) ⌝ }
-{
-    let mut at = start;
-    let mut left = count;
-    while left > 0 {
-        if clashes(u, user_at(plan, at)) {
-            return false;
-        }
-        at = next_at(plan, at);
-        left = left - 1;
-    }
-    true
-}
-
-// The first fault of an HI after FRAME, count HIs from position start on, and users USERs.
-fn hi_fault(plan: &[u8], cell: Cell, start: usize, count: usize, users: usize, h: Hi) -> Fault
-    ensures { λ r. ⌜ r ≡ need (eqb users 0) outOfOrder (hiFault cell (hisFrom (drop start (now (plan .entry))) count) h) ⌝ }
-{
-    if users != 0 {
-        return Fault::Is(Refusal::Order);
-    }
-    if hi_ok(cell, h) {
-        if fresh_pair(plan, start, count, h) {
-            Fault::Nothing
-        } else {
-            Fault::Is(Refusal::HiField)
-        }
-    } else {
-        Fault::Is(Refusal::HiField)
-    }
-}
-
-// The first fault of a USER after count USERs from position start on.
-fn user_fault(plan: &[u8], cell: Cell, start: usize, count: usize, u: User) -> Fault
-    ensures { λ r. ⌜ r ≡ userFault cell (usersFrom (drop start (now (plan .entry))) count) u ⌝ }
+// The first fault of a USER with its own blocks, after USERs with the RNTIs and the blocks.
+fn user_fault(cell: Cell, rntis: &[u16; 104], blocks: &[u64; 2], own: &[u64; 2], u: User) -> Fault
+    ensures { λ r. ⌜ r ≡ userFaultBy cell (now (rntis .entry)) (now (blocks .entry)) (now (own .entry)) u ⌝ }
 {
     if user_ok(cell, u) {
-        if fresh_user(plan, start, count, u) {
-            Fault::Nothing
-        } else {
-            Fault::Is(Refusal::Used)
+        if has_rnti(rntis, u.rnti) {
+            return Fault::Is(Refusal::Used);
         }
+        if meets(blocks, own) {
+            return Fault::Is(Refusal::Used);
+        }
+        Fault::Nothing
     } else {
         Fault::Is(Refusal::UserField)
     }
 }
 
-// After END, whose byte stands before position next: the plan, unless a byte follows. The HIs stand from position start on, the USERs from
-// position mid on.
+// After his HIs from position start on and users USERs from position mid on: END is due at position at, and nothing after it.
 fn finish(
     plan: &[u8],
     cell: Cell,
@@ -448,63 +516,74 @@ fn finish(
     his: usize,
     mid: usize,
     users: usize,
-    next: usize,
+    at: usize,
 ) -> Checked
-    requires { ⌜ mid ≡ start + 3 * his ⌝ }
-    ensures { λ r. ⌜ r ≡ run (stateAfter (bodyState (now (plan .entry)) cell frame start his mid users) endCommand) (commands (drop next (now (plan .entry)))) ⌝ }
+    requires { ⌜ (mid ≡ start + 3 * his) × EndDue (now plan) users at ⌝ }
+    ensures { λ r. ⌜ r ≡ run (bodyState (now (plan .entry)) cell frame start his mid users) (commands (drop at (now (plan .entry)))) ⌝ }
 {
-    if next < plan.len() {
-        return Checked::Refused(Refusal::Order);
+    match command_at(plan, at) {
+        Command::End => {
+            if at + 1 < plan.len() {
+                return Checked::Refused(Refusal::Order);
+            }
+            Checked::Plan(Plan {
+                cell: cell,
+                frame: frame,
+                his: Row {
+                    at: start,
+                    count: his,
+                },
+                users: Row {
+                    at: mid,
+                    count: users,
+                },
+            })
+        }
+        Command::Broken => Checked::Refused(Refusal::Unreadable),
+        _ => Checked::Refused(Refusal::Order),
     }
-    Checked::Plan(Plan {
-        cell: cell,
-        frame: frame,
-        his: Row {
-            at: start,
-            count: his,
-        },
-        users: Row {
-            at: mid,
-            count: users,
-        },
-    })
 }
 
-// The commands after FRAME: HIs, USERs and END, from position start on. The USERs stand from position mid on.
+// The commands after his HIs from position start on: USERs and END.
+fn users_from(plan: &[u8], cell: Cell, frame: Frame, start: usize, his: usize) -> Checked
+    requires { ⌜ (HisPast (now plan) start his (start + 3 * his)) × (cellOk cell ≡ true) ⌝ }
+    ensures { λ r. ⌜ r ≡ run (bodyState (now (plan .entry)) cell frame start his (start + 3 * his) 0) (commands (drop (start + 3 * his) (now (plan .entry)))) ⌝ }
+{
+    let mid = start + 3 * his;
+    let mut rntis = [0u16; 104];
+    let mut blocks = [0u64; 2];
+    let mut users: usize = 0;
+    let mut at = mid;
+    while stands(plan, at, 0x30) {
+        let u = user_at(plan, at);
+        let own = run_of(u.first, u.count);
+        match user_fault(cell, &rntis, &blocks, &own, u) {
+            Fault::Nothing => {
+                rntis[users] = u.rnti;
+                blocks = join(&blocks, &own);
+                users = users + 1;
+                at = next_at(plan, at);
+            }
+            Fault::Is(r) => return Checked::Refused(r),
+        }
+    }
+    finish(plan, cell, frame, start, his, mid, users, at)
+}
+
+// The commands after FRAME: HIs, USERs and END, from position start on.
 fn body(plan: &[u8], cell: Cell, frame: Frame, start: usize) -> Checked
-    requires { ⌜ start ≤ length (now plan) ⌝ }
+    requires { ⌜ (start ≤ length (now plan)) × (cellOk cell ≡ true) ⌝ }
     ensures { λ r. ⌜ r ≡ run (bodyState (now (plan .entry)) cell frame start 0 start 0) (commands (drop start (now (plan .entry)))) ⌝ }
 {
-    let mut his: usize = 0;
-    let mut mid = start;
-    let mut users: usize = 0;
-    let mut at = start;
-    loop {
-        match command_at(plan, at) {
-            Command::Hi(h) => match hi_fault(plan, cell, start, his, users, h) {
-                Fault::Nothing => {
-                    his = his + 1;
-                    mid = mid + 3;
-                    at = next_at(plan, at);
-                }
-                Fault::Is(r) => return Checked::Refused(r),
-            },
-            Command::User(u) => match user_fault(plan, cell, mid, users, u) {
-                Fault::Nothing => {
-                    users = users + 1;
-                    at = next_at(plan, at);
-                }
-                Fault::Is(r) => return Checked::Refused(r),
-            },
-            Command::End => return finish(plan, cell, frame, start, his, mid, users, at + 1),
-            Command::Broken => return Checked::Refused(Refusal::Unreadable),
-            _ => return Checked::Refused(Refusal::Order),
-        }
+    match his_from(plan, cell, start) {
+        Counted::Count(his) => users_from(plan, cell, frame, start, his),
+        Counted::Refused(r) => Checked::Refused(r),
     }
 }
 
 // The commands after CELL, from position at on.
 fn after_cell(plan: &[u8], c: Cell, at: usize) -> Checked
+    requires { ⌜ cellOk c ≡ true ⌝ }
     ensures { λ r. ⌜ r ≡ run (celled c at) (commands (drop at (now (plan .entry)))) ⌝ }
 {
     match command_at(plan, at) {
