@@ -1,16 +1,15 @@
 -- The first cause of a command, by the tests that the code makes in turn. Assumes nothing.
-use Prim.Native.Nat.{ℕ, _+_, _-_, _≤_, _<_}
+use Prim.Native.Nat.{ℕ, zero, suc, _+_, _≤_, _<_}
 use mathlib.Core.Path.{_≡_, refl, sym, ap, _∙_}
-use mathlib.Core.Bool.{Bool, true, false, _&&_}
+use mathlib.Core.Bool.{Bool, true, false, not, _&&_}
 use mathlib.Core.List.{List, [], _∷_}
 use lib.Dec.{ltb, eqb}
 use lib.ListN.{drop}
 use borrow.Author.Tests.{eq-eqb, ne-eqb, lt-ltb, le-ltb, le-leb, lt-leb}
 use Rattle.plan.specs.Lists.{oneOf, noneOf}
-use Rattle.plan.specs.Commands.{byte, hiOf, userOf, entries}
-use Rattle.plan.specs.Rows.{nextOf}
+use Rattle.plan.specs.Commands.{byte, hiOf, userOf, sizeOf, entries}
+use Rattle.plan.specs.Rows.{row}
 use Rattle.plan.proofs.Listed.{none-or}
-use Rattle.plan.proofs.RowLaws.{scan-found, scan-passed, scan-left}
 use Rattle.plan.specs.Fields.{widths, portCounts, sixthCounts, orders, groupsOf, sequencesOf, samePair, clash}
 use Rattle.plan.specs.Check.{due}
 use Rattle.plan.specs.declared.Cell.{Cell}
@@ -117,47 +116,19 @@ module _ (c : Cell) (hs : List Hi) (h : Hi) (g : ℕ) (eg : g ≡ groupsOf c) wh
       hi-fine f = simp (← eg, lt-ltb _ _ k, ← eq, lt-ltb _ _ l, ← ep, f)
 
 -- ---- a look through the commands before
-module _ (h e : Hi) where
-  pub pair-groups : h .group ≡ e .group → eqb (h .sequence) (e .sequence) ≡ samePair h e
-  unfolding samePair
-  pair-groups p = rw (eq-eqb (h .group) (e .group) p) refl
+pub asked-as : (a : Asked) {b : Asked} → a ≡ b → (l : List ℕ) {r : Bool} → r ≡ sharesAt b l → r ≡ sharesAt a l
+asked-as a k l e = e ∙ ap (λ (x : Asked). sharesAt x l) (sym k)
 
-  pub pair-other : (h .group ≡ e .group → ⊥) → false ≡ samePair h e
-  unfolding samePair
-  pair-other p = rw (ne-eqb (h .group) (e .group) p) refl
+-- a test of the commands that the bytes begin with is one of the bytes
+row-test : {A : Type 0} (read : List ℕ → A) (f : A → Bool) (l : List ℕ) (n : ℕ) → noneOf (λ (x : List ℕ). f (read x)) (row (λ (x : List ℕ). x) l n) ≡ noneOf f (row read l n)
+unfolding row noneOf
+row-test read f l zero = refl
+row-test read f l (suc n) = ap (λ (t : Bool). not (f (read l)) && t) (row-test read f (drop (sizeOf l) l) n)
 
-module _ (u v : User) where
-  pub blocks-meet : u .first < v .first + v .count → ltb (v .first) (u .first + u .count) ≡ sharesBlock u v
-  unfolding sharesBlock
-  blocks-meet h = rw (lt-ltb (u .first) (v .first + v .count) h) refl
-
-  pub blocks-apart : v .first + v .count ≤ u .first → false ≡ sharesBlock u v
-  unfolding sharesBlock
-  blocks-apart h = rw (le-ltb (u .first) (v .first + v .count) h) refl
-
-pub rnti-test : (u v : User) (l : List ℕ) → v ≡ userOf l → eqb (u .rnti) (v .rnti) ≡ sameRnti u (userOf l)
-unfolding sameRnti
-rnti-test u v l e = ap (λ (x : User). eqb (u .rnti) (x .rnti)) e
-
-module _ (a : Asked) {b : Asked} (k : a ≡ b) (l : List ℕ) where
-  pub asked-as : {r : Bool} → r ≡ sharesAt b l → r ≡ sharesAt a l
-  asked-as e = e ∙ ap (λ (x : Asked). sharesAt x l) (sym k)
-
-module _ (w : List ℕ) (at n : ℕ) (l : 0 < n) where
-  pub fresh-found : (a : Asked) (r : Bool) → r ≡ sharesAt a (drop at w) → r ≡ true → false ≡ freshOf a (drop at w) n
-  fresh-found (Pair h) r e t = scan-found hiOf (samePair h) w at _ refl r e n l t
-  fresh-found (AskRnti u) r e t = scan-found userOf (sameRnti u) w at _ refl r e n l t
-  fresh-found (Block u) r e t = scan-found userOf (sharesBlock u) w at _ refl r e n l t
-
-  pub fresh-passed : (a : Asked) (r : Bool) → r ≡ sharesAt a (drop at w) → r ≡ false → (to : ℕ) → to ≡ nextOf w at → freshOf a (drop to w) (n - 1) ≡ freshOf a (drop at w) n
-  fresh-passed (Pair h) r e t to q = scan-passed hiOf (samePair h) w at _ refl r e n l t to q
-  fresh-passed (AskRnti u) r e t to q = scan-passed userOf (sameRnti u) w at _ refl r e n l t to q
-  fresh-passed (Block u) r e t to q = scan-passed userOf (sharesBlock u) w at _ refl r e n l t to q
-
-pub fresh-left : (w : List ℕ) (at n : ℕ) → n ≤ 0 → (a : Asked) → true ≡ freshOf a (drop at w) n
-fresh-left w at n l (Pair h) = scan-left hiOf (samePair h) w at n l
-fresh-left w at n l (AskRnti u) = scan-left userOf (sameRnti u) w at n l
-fresh-left w at n l (Block u) = scan-left userOf (sharesBlock u) w at n l
+pub fresh-is : (a : Asked) (l : List ℕ) (n : ℕ) → noneOf (sharesAt a) (row (λ (x : List ℕ). x) l n) ≡ freshOf a l n
+fresh-is (Pair h) l n = row-test hiOf (samePair h) l n
+fresh-is (AskRnti u) l n = row-test userOf (sameRnti u) l n
+fresh-is (Block u) l n = row-test userOf (sharesBlock u) l n
 
 -- ---- USER, after the USERs us. A clash is an RNTI or a block in common: no clash is neither
 pub none-clash : (u : User) (us : List User) → noneOf (clash u) us ≡ noneOf (sameRnti u) us && noneOf (sharesBlock u) us

@@ -36,7 +36,7 @@ stepTo to k (user u) = record { stage = 3; cell = k .cell; start = k .start; his
 stepTo to k end = record { stage = 4; cell = k .cell; start = k .start; his = k .his; mid = k .mid; users = k .users; number = k .number + 1; at = to }
 stepTo to k broken = record { stage = k .stage; cell = k .cell; start = k .start; his = k .his; mid = k .mid; users = k .users; number = k .number + 1; at = to }
 
--- what is asked of the commands before: of the one that the bytes l begin with, and of the n from there on
+-- what is asked of the commands before: of the one that the bytes l begin with, and that none of the n from there on has it
 abbrev pub sharesAt : Asked → List ℕ → Bool
 sharesAt (Pair h) l = samePair h (hiOf l)
 sharesAt (Rnti u) l = sameRnti u (userOf l)

@@ -2,11 +2,12 @@
 // fields that has the fault.
 ghost use mathlib.Core.Path.{_≡_};
 ghost use Prim.Native.Nat.{_+_, _<_};
+ghost use mathlib.Core.Bool.{_&&_};
+ghost use lib.Dec.{eqb, ltb};
 ghost use lib.ListN.{drop};
-ghost use Rattle.plan.specs.Fields.{samePair};
 ghost use Rattle.plan.specs.Check.{due as dueOf};
 ghost use Rattle.plan.specs.Rows.{nextOf, hisFrom, usersFrom};
-ghost use Rattle.explain.specs.Finding.{causeRefusal, cellCause, frameCause, hiCause, sharesBlock, userCause, brokenCause, inOrder, fieldCause, causeAt, refusedAt, findingOf};
+ghost use Rattle.explain.specs.Finding.{causeRefusal, cellCause, frameCause, hiCause, userCause, brokenCause, inOrder, fieldCause, causeAt, refusedAt, findingOf};
 ghost use Rattle.explain.specs.Steps.{beginning, stepTo, sharesAt, freshOf};
 use plan::Cell;
 use plan::Command;
@@ -158,24 +159,16 @@ fn frame_cause(f: Frame) -> Reason
 }
 
 fn same_pair(h: Hi, e: Hi) -> bool
-    ensures { λ r. ⌜ r ≡ samePair h e ⌝ }
+    ensures { λ r. ⌜ r ≡ (eqb (h .group) (e .group) && eqb (h .sequence) (e .sequence)) ⌝ }
 {
-    if h.group == e.group {
-        h.sequence == e.sequence
-    } else {
-        false
-    }
+    (h.group == e.group) & (h.sequence == e.sequence)
 }
 
 // Whether two users have a block in common.
 fn shares_block(u: User, v: User) -> bool
-    ensures { λ r. ⌜ r ≡ sharesBlock u v ⌝ }
+    ensures { λ r. ⌜ r ≡ (ltb (u .first) (v .first + v .count) && ltb (v .first) (u .first + u .count)) ⌝ }
 {
-    if (u.first as usize) < (v.first as usize) + (v.count as usize) {
-        (v.first as usize) < (u.first as usize) + (u.count as usize)
-    } else {
-        false
-    }
+    ((u.first as usize) < (v.first as usize) + (v.count as usize)) & ((v.first as usize) < (u.first as usize) + (u.count as usize))
 }
 
 // Whether the command at a position has what is asked for.

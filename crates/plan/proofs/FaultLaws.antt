@@ -1,22 +1,20 @@
--- The first fault of an HI and of a USER, by the tests that the code makes in turn. Assumes nothing.
+-- What an HI or a USER without a fault has passed. Assumes nothing.
 use Prim.Native.Nat.{ℕ}
 use mathlib.Core.Path.{_≡_, refl}
-use mathlib.Core.Bool.{Bool, true, false, not}
+use mathlib.Core.Bool.{Bool, true, false}
 use mathlib.Core.List.{List}
 use lib.Dec.{eqb}
 use borrow.Author.Tests.{eqb-true}
-use Rattle.plan.specs.Lists.{oneOf, noneOf}
+use Rattle.plan.specs.Lists.{noneOf}
 use Rattle.plan.specs.Fields.{hiOk, samePair, userOk, clash}
 use Rattle.plan.specs.Check.{need, hiFault, userFault}
-use Rattle.plan.specs.Sets.{inWords, meet}
-use Rattle.plan.specs.Loops.{pairOf, newHi, userFaultBy}
 use Rattle.plan.specs.declared.Cell.{Cell}
 use Rattle.plan.specs.declared.Hi.{Hi}
 use Rattle.plan.specs.declared.User.{User}
 use Rattle.plan.specs.declared.Refusal.{Refusal}
 use Rattle.plan.specs.declared.Refusal.the-variants.{Order, HiField, UserField, Used}
 use Rattle.plan.specs.declared.Fault.{Fault}
-use Rattle.plan.specs.declared.Fault.the-variants.{Nothing, Is}
+use Rattle.plan.specs.declared.Fault.the-variants.{Nothing}
 
 -- no fault: the test held, and there is none after it
 pub need-nothing : (t : Bool) (r : Refusal) (f : Fault) → Nothing ≡ need t r f → t ≡ true
@@ -27,39 +25,6 @@ pub need-next : (t : Bool) (r : Refusal) (f : Fault) → Nothing ≡ need t r f 
 need-next true r f e = e
 need-next false r f e = cc
 
--- ---- by the tables, as the code tests them
-module _ (c : Cell) (pairs : List ℕ) (h : Hi) (o : Bool) (eo : o ≡ hiOk c h) where
-  pub hi-bad : o ≡ false → false ≡ newHi c pairs h
-  unfolding newHi
-  hi-bad f = rw (← eo, f) refl
-
-  pub hi-tested : o ≡ true → (k : ℕ) → k ≡ pairOf h → (p : Bool) → p ≡ inWords pairs k → not p ≡ newHi c pairs h
-  unfolding newHi
-  hi-tested t k ek p ep = rw (← eo, t, ← ek, ← ep) refl
-
-module _ (c : Cell) (rntis blocks own : List ℕ) (u : User) (o : Bool) (eo : o ≡ userOk c u) where
-  abbrev It : Fault
-  It = userFaultBy c rntis blocks own u
-
-  pub user-bad : o ≡ false → Is UserField ≡ It
-  unfolding userFaultBy
-  user-bad f = rw (← eo, f) refl
-
-  module _ (to : o ≡ true) (p : Bool) (ep : p ≡ oneOf (u .rnti) rntis) where
-    pub user-used : p ≡ true → Is Used ≡ It
-    unfolding userFaultBy
-    user-used t = rw (← eo, to, ← ep, t) refl
-
-    module _ (np : p ≡ false) (q : Bool) (eq : q ≡ meet blocks own) where
-      pub user-met : q ≡ true → Is Used ≡ It
-      unfolding userFaultBy
-      user-met t = rw (← eo, to, ← ep, np, ← eq, t) refl
-
-      pub user-fine : q ≡ false → Nothing ≡ It
-      unfolding userFaultBy
-      user-fine f = rw (← eo, to, ← ep, np, ← eq, f) refl
-
--- ---- by the lists of those before
 module _ (c : Cell) (hs : List Hi) (h : Hi) (m : ℕ) where
   abbrev Its : Fault
   Its = need (eqb m 0) Order (hiFault c hs h)

@@ -7,15 +7,12 @@ pub mod Reading
 pub mod RowLaws
 mod FieldLaws
 mod FaultLaws
-mod Marks
-mod Words
-mod Runs
 mod Turns
 mod Kept
 mod Opening
 pub mod Valid
 pub mod Counts
-mod Seen
+mod Before
 mod Phases
 pub mod Known
 pub mod Answers

@@ -1,11 +1,10 @@
 -- Facts of each element of a list and of each two: one more at the end, from a test, and at an index. Assumes nothing.
 use Prim.Native.Nat.{ℕ, zero, suc, _<_}
 use mathlib.Core.Path.{_≡_, refl, sym}
-use mathlib.Core.Bool.{Bool, true, false, not, cond, _&&_, _||_}
+use mathlib.Core.Bool.{Bool, true, false, not, cond, _&&_, _||_, and-true, and-assoc}
 use mathlib.Core.List.{List, [], _∷_, _++_}
 use native.Mathlib.Nat.{not-suc-le-zero, le-of-suc-le-suc}
 use borrow.Author.Tests.{not-true}
-use Rattle.base.proofs.Tests.{by-test, clash}
 use lib.ListN.{length, getD}
 use Rattle.plan.specs.Lists.{noneOf, Every, Apart}
 
@@ -60,20 +59,12 @@ module _ {A : Type 0} where
   apart-at R d (a ∷ xs) zero (suc j) h k l = every-at (R a) d xs j (h .0) (le-of-suc-le-suc l)
   apart-at R d (a ∷ xs) (suc i) (suc j) h k l = apart-at R d xs i j (h .1) (le-of-suc-le-suc k) (le-of-suc-le-suc l)
 
--- ---- no element passes a test: one more at the end, either of two tests, an equal test; and an element that passes
-and-last : (a b c : Bool) → a && b && c ≡ a && (b && c)
-and-last true b c = refl
-and-last false b c = refl
-
+-- ---- no element passes a test: one more at the end, either of two tests
 module _ {A : Type 0} where
   pub none-snoc : (f : A → Bool) (xs : List A) (x : A) → noneOf f (xs ++ (x ∷ [])) ≡ noneOf f xs && not (f x)
   unfolding noneOf
   none-snoc f [] x = and-true (not (f x))
-    where
-      and-true : (a : Bool) → a && true ≡ a
-      and-true true = refl
-      and-true false = refl
-  none-snoc f (a ∷ xs) x = rw (none-snoc f xs x) (sym (and-last (not (f a)) (noneOf f xs) (not (f x))))
+  none-snoc f (a ∷ xs) x = rw (none-snoc f xs x) (sym (and-assoc (not (f a)) (noneOf f xs) (not (f x))))
 
   pub none-or : (f g : A → Bool) (xs : List A) → noneOf (λ (x : A). f x || g x) xs ≡ noneOf f xs && noneOf g xs
   unfolding noneOf
@@ -85,29 +76,3 @@ module _ {A : Type 0} where
       by false true true d = refl
       by false true false d = refl
       by false false c d = refl
-
-  pub none-same : (P : A → Type 0) (f g : A → Bool) → ((x : A) → P x → f x ≡ g x) → (xs : List A) → Every P xs → noneOf f xs ≡ noneOf g xs
-  unfolding noneOf
-  none-same P f g h [] p = refl
-  none-same P f g h (a ∷ xs) p = rw (h a (p .0), none-same P f g h xs (p .1)) refl
-
-  -- an element that passes
-  pub record Picked (P : A → Type 0) (f : A → Bool) (xs : List A) : Type 0 where
-    pub one : A
-    pub its : P one
-    pub passes : f one ≡ true
-    pub there : (g : A → Bool) → g one ≡ true → noneOf g xs ≡ false
-
-  pub pick : (P : A → Type 0) (f : A → Bool) (xs : List A) → Every P xs → noneOf f xs ≡ false → Picked P f xs
-  unfolding noneOf
-  pick P f [] p e = clash {b = true} refl e
-  pick P f (a ∷ xs) p e =
-      by-test (f a)
-      (λ t. record { one = a; its = p .0; passes = t; there = λ g q. rw q refl })
-      (λ t.
-      let r = pick P f xs (p .1) (rw t at e) in
-      record { one = r .one; its = r .its; passes = r .passes; there = λ g q. rw (r .there g q) (and-false (not (g a))) })
-    where
-      and-false : (b : Bool) → b && false ≡ false
-      and-false true = refl
-      and-false false = refl

@@ -1,7 +1,7 @@
 -- Bytes, sizes and commands at a position of the plan, by the tests that the code makes. Assumes nothing.
 use Prim.Native.Nat.{ℕ, _+_, _-_, _*_, _≤_, _<_}
 use mathlib.Core.Path.{_≡_, refl, sym, ap, _∙_}
-use mathlib.Core.Bool.{true, false, false≢true}
+use mathlib.Core.Bool.{Bool, true, false, false≢true}
 use mathlib.Core.List.{List}
 use native.Mathlib.Omega.{arith}
 use lib.Dec.{leb, eqb}
@@ -164,13 +164,13 @@ module _ (l : List ℕ) where
       read-of l code (entryFor code .size) (sym (eqb-true (byte l 0) code (and-right (leb (entryFor code .size) (length l)) _ t))) refl
       (leb-true (entryFor code .size) (length l) (and-left _ (eqb (byte l 0) code) t))
 
-  pub stands-hi : standsAt 0x20 l ≡ true → commandOf l ≡ hi (hiOf l)
+  pub stands-hi : {b : Bool} → b ≡ standsAt 0x20 l → b ≡ true → {h : Hi} → h ≡ hiOf l → commandOf l ≡ hi h
   unfolding entries entryIn
-  stands-hi t = sym (stands-is 0x20 t)
+  stands-hi e t eh = sym (stands-is 0x20 (sym e ∙ t)) ∙ ap hi (sym eh)
 
-  pub stands-user : standsAt 0x30 l ≡ true → commandOf l ≡ user (userOf l)
+  pub stands-user : {b : Bool} → b ≡ standsAt 0x30 l → b ≡ true → {u : User} → u ≡ userOf l → commandOf l ≡ user u
   unfolding entries entryIn
-  stands-user t = sym (stands-is 0x30 t)
+  stands-user e t eu = sym (stands-is 0x30 (sym e ∙ t)) ∙ ap user (sym eu)
 
   pub no-hi-stands : standsAt 0x20 l ≡ false → (h : Hi) → commandOf l ≡ hi h → ⊥
   unfolding standsAt entries entryIn

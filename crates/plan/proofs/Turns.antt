@@ -27,7 +27,6 @@ use Rattle.plan.specs.declared.Refusal.{Refusal}
 use Rattle.plan.specs.declared.Refusal.the-variants.{Unreadable, Order}
 use Rattle.plan.specs.declared.Fault.{Fault}
 use Rattle.plan.specs.declared.Fault.the-variants.{Nothing, Is}
-use Rattle.plan.specs.declared.Checked.{Checked}
 use Rattle.plan.specs.declared.Checked.the-variants.{Plan as accepted, Refused as refused}
 use Rattle.plan.proofs.Command.{the-type}
 use Rattle.plan.proofs.OneOf.{not-in}
@@ -270,40 +269,3 @@ module _ (w : List ℕ) (c : Cell) (f : Frame) (his users : Row) (to : ℕ) wher
   unfolding run commandsAfter planOf bodyState stateAfter
   last e h =
       rw (drop-of-length-le w h, row-length hiOf (drop (his .at) w) (his .count), row-length userOf (drop (users .at) w) (users .count), ← e) refl
-
--- ---- a loop: where it stands, and that the run from there is the whole run
-pub record Going (w : List ℕ) (c : Cell) (f : Frame) (start n mid m at : ℕ) (whole : Checked) : Type 0 where
-  pub standing : Standing w start n mid m at
-  pub same : run (bodyState w c f start n mid m) (commands (drop at w)) ≡ whole
-
-module _ {w : List ℕ} {c : Cell} {f : Frame} {start n mid m at : ℕ} {whole : Checked} (g : Going w c f start n mid m at whole) where
-  -- at an HI
-  module _ {h : Hi} (e : commandOf (drop at w) ≡ hi h) where
-    pub hi-out : {r : Refusal} → Is r ≡ need (eqb m 0) Order (hiFault c (hisFrom (drop start w) n) h) → refused r ≡ whole
-    hi-out {r} q = sym (hi-refused w c f start n mid m at h e r q) ∙ g .same
-
-    pub hi-again : {to : ℕ} → Nothing ≡ need (eqb m 0) Order (hiFault c (hisFrom (drop start w) n) h) → to ≡ nextOf w at → Going w c f start (n + 1) (mid + 3) m to whole
-    hi-again {to} q et =
-        record {
-          standing = standing-hi w c f start n mid m at h e (g .standing) q to et;
-          same = sym (hi-turn w c f start n mid m at h e (g .standing) q to et) ∙ g .same;
-        }
-
-  -- at a USER
-  module _ {u : User} (e : commandOf (drop at w) ≡ user u) where
-    pub user-fits : m + 1 ≤ length w
-    user-fits = omega (arith, g .standing .behind, user-room w c f start n mid m at u e (g .standing))
-
-    pub user-less : {to : ℕ} → to ≡ nextOf w at → length w - to < length w - at
-    user-less et =
-        omega (arith, user-next w c f start n mid m at u e, user-room w c f start n mid m at u e (g .standing), told (drop at w) (user u) e .1)
-
-    pub user-out : {r : Refusal} → Is r ≡ userFault c (usersFrom (drop mid w) m) u → refused r ≡ whole
-    user-out {r} q = sym (user-refused w c f start n mid m at u e r q) ∙ g .same
-
-    pub user-again : {to : ℕ} → Nothing ≡ userFault c (usersFrom (drop mid w) m) u → to ≡ nextOf w at → Going w c f start n mid (m + 1) to whole
-    user-again {to} q et =
-        record {
-          standing = standing-user w c f start n mid m at u e (g .standing) to et;
-          same = sym (user-turn w c f start n mid m at u e (g .standing) to et q) ∙ g .same;
-        }

@@ -4,6 +4,5 @@ pub mod Fields
 pub mod Check
 pub mod Rows
 pub mod Valid
-pub mod Sets
 pub mod Loops
 pub mod Answers

@@ -1,24 +1,22 @@
--- For the loops only: the states that the code goes through, where the bytes have what they hold; and the faults by the sets of what was used before.
+-- For the loops only: the states that the code goes through, where the bytes have what they hold; what was used before, by tables.
 use Prim.Native.Nat.{ℕ, _+_, _*_, _≤_}
 use mathlib.Core.Path.{_≡_}
 use mathlib.Core.Bool.{Bool, cond, not, _&&_, _||_}
 use mathlib.Core.List.{List, []}
 use lib.Dec.{leb, eqb}
 use lib.ListN.{length, drop}
-use Rattle.plan.specs.Lists.{oneOf}
+use Rattle.bitset.specs.Sets.{member, runOf, meet}
+use Rattle.plan.specs.Lists.{oneOf, noneOf}
 use Rattle.plan.specs.Commands.{byte, entryFor, commandOf, commands}
-use Rattle.plan.specs.Fields.{hiOk, userOk}
-use Rattle.plan.specs.Check.{State, begin, need, run}
+use Rattle.plan.specs.Fields.{samePair, clash}
+use Rattle.plan.specs.Check.{State, begin, run}
 use Rattle.plan.specs.Rows.{past, hisFrom, usersFrom}
-use Rattle.plan.specs.Sets.{inWords, meet}
+use Rattle.plan.specs.Valid.{HiIn, UserIn}
 use Rattle.plan.specs.declared.Cell.{Cell}
 use Rattle.plan.specs.declared.Frame.{Frame}
 use Rattle.plan.specs.declared.Hi.{Hi}
 use Rattle.plan.specs.declared.User.{User}
 use Rattle.plan.specs.declared.Command.the-variants.{Hi as hi, User as user}
-use Rattle.plan.specs.declared.Refusal.the-variants.{UserField, Used}
-use Rattle.plan.specs.declared.Fault.{Fault}
-use Rattle.plan.specs.declared.Fault.the-variants.{Nothing}
 use Rattle.plan.specs.declared.Counted.{Counted}
 use Rattle.plan.specs.declared.Counted.the-variants.{Count, Refused as faulty}
 use Rattle.plan.specs.declared.Checked.{Checked}
@@ -44,16 +42,23 @@ bodyState w c f start n mid m =
 unfoldable pub standsAt : ℕ → List ℕ → Bool
 standsAt code l = leb (entryFor code .size) (length l) && eqb (byte l 0) code
 
--- an HI's pair as one number: a sequence is below 8
+-- ---- used before: for each q in D, `used q` says whether one of xs has what q asks for. One law for pairs, RNTIs and blocks
+pub record UsedBefore {Q A : Type 0} (D : Q → Type 0) (asks : Q → A → Bool) (used : Q → Bool) (xs : List A) : Type 0 where
+  pub at : (q : Q) → D q → noneOf (asks q) xs ≡ not (used q)
+
+-- an HI's pair as one number: a sequence is below 8. The set has the pairs of the HIs hs
 abbrev pub pairOf : Hi → ℕ
 pairOf h = h .group * 8 + h .sequence
 
--- no fault of an HI, by the set of the pairs before; the fault of a USER, by the RNTIs and the set of the blocks before, and the set of its own
-unfoldable pub newHi : Cell → List ℕ → Hi → Bool
-newHi c pairs h = hiOk c h && not (inWords pairs (pairOf h))
+abbrev pub PairsUsed : Cell → List ℕ → List Hi → Type 0
+PairsUsed c pairs hs = UsedBefore (HiIn c) samePair (λ (h : Hi). member pairs (pairOf h)) hs
 
-unfoldable pub userFaultBy : Cell → List ℕ → List ℕ → List ℕ → User → Fault
-userFaultBy c rntis blocks own u = need (userOk c u) UserField (need (not (oneOf (u .rnti) rntis || meet blocks own)) Used Nothing)
+-- a user's blocks as a set. The table and the set have the RNTIs and the blocks of the users us
+abbrev pub blocksOf : User → List ℕ
+blocksOf u = runOf (u .first) (u .count)
+
+abbrev pub UsersUsed : Cell → List ℕ → List ℕ → List User → Type 0
+UsersUsed c rntis blocks us = UsedBefore (UserIn c) clash (λ (u : User). oneOf (u .rnti) rntis || meet blocks (blocksOf u)) us
 
 -- n HIs from position start on, up to position mid: no HI follows
 pub record HisPast (w : List ℕ) (start n mid : ℕ) : Type 0 where

@@ -1,16 +1,16 @@
 // The plan check (document 01, Plan and payload; Refusals 1 to 7): reads a plan's commands from left to right and answers
 // with the plan, or with the first refusal.
 ghost use mathlib.Core.Path.{_≡_};
-ghost use Prim.Native.Nat.{_+_, _-_, _*_, _^_, _≤_, _<_};
-ghost use lib.ListN.{length, drop};
+ghost use Prim.Native.Nat.{_+_, _*_, _≤_};
 ghost use mathlib.Core.Bool.{true};
+ghost use mathlib.Core.List.{List};
+ghost use lib.ListN.{length, drop};
 ghost use Rattle.plan.specs.Lists.{oneOf};
 ghost use Rattle.plan.specs.Commands.{byte, cellOf, frameOf, hiOf, userOf, entryFor, commandOf, commands};
 ghost use Rattle.plan.specs.Fields.{cellOk, frameOk, unitsOf, groupsOf, sequencesOf, hiOk, userOk};
-ghost use Rattle.plan.specs.Check.{refusalNumber, run, checkOf};
+ghost use Rattle.plan.specs.Check.{refusalNumber, hiFault, userFault, run, checkOf};
 ghost use Rattle.plan.specs.Rows.{nextOf};
-ghost use Rattle.plan.specs.Sets.{inWords, added, onesOf, runOf, meet, joined};
-ghost use Rattle.plan.specs.Loops.{celled, bodyState, standsAt, pairOf, newHi, userFaultBy, HisPast, HisRead, EndDue};
+ghost use Rattle.plan.specs.Loops.{celled, bodyState, standsAt, pairOf, blocksOf, PairsUsed, UsersUsed, HisPast, HisRead, EndDue};
 
 // 10 CELL: the identity C, the width in blocks N, the prefix (1 extended), the antenna ports P, and N_g in sixths.
 pub struct Cell {
@@ -354,80 +354,6 @@ fn user_ok(c: Cell, u: User) -> bool
     }
 }
 
-// Sets of numbers, in words of 64: n is in a set where bit n % 64 of its word n / 64 is 1.
-fn bit(k: usize) -> u64
-    requires { ⌜ k < 64 ⌝ }
-    ensures { λ r. ⌜ r ≡ 2 ^ k ⌝ }
-{
-    1 << k
-}
-
-// Puts n into a set; a number past the set's words is not put.
-fn add(set: &mut [u64], n: usize)
-    ensures { λ r. ⌜ now (set .exit) ≡ added (now (set .entry)) n ⌝ }
-{
-    let w = n / 64;
-    if w < set.len() {
-        set[w] = set[w] | bit(n % 64);
-    }
-}
-
-// Whether n is in a set.
-fn has(set: &[u64], n: usize) -> bool
-    ensures { λ r. ⌜ r ≡ inWords (now (set .entry)) n ⌝ }
-{
-    let w = n / 64;
-    if w < set.len() {
-        let k = n % 64;
-        return (set[w] >> k) % 2 == 1;
-    }
-    false
-}
-
-// The word of the n lowest bits.
-fn ones(n: usize) -> u64
-    ensures { λ r. ⌜ r ≡ onesOf n ⌝ }
-{
-    if n < 64 {
-        bit(n) - 1
-    } else {
-        0xffff_ffff_ffff_ffff
-    }
-}
-
-// n - 64, or 0.
-fn over(n: usize) -> usize
-    ensures { λ r. ⌜ r ≡ n - 64 ⌝ }
-{
-    if n < 64 { 0 } else { n - 64 }
-}
-
-// The set of the count numbers from first on, those below 128.
-fn run_of(first: u8, count: u8) -> [u64; 2]
-    ensures { λ r. ⌜ r ≡ runOf first count ⌝ }
-{
-    let from = base::wide(first);
-    let to = from + base::wide(count);
-    [ones(to) ^ ones(from), ones(over(to)) ^ ones(over(from))]
-}
-
-// Whether two sets have a number in common.
-fn meets(a: &[u64; 2], b: &[u64; 2]) -> bool
-    ensures { λ r. ⌜ r ≡ meet (now (a .entry)) (now (b .entry)) ⌝ }
-{
-    if a[0] & b[0] != 0 {
-        return true;
-    }
-    a[1] & b[1] != 0
-}
-
-// The numbers of either set.
-fn join(a: &[u64; 2], b: &[u64; 2]) -> [u64; 2]
-    ensures { λ r. ⌜ r ≡ joined (now (a .entry)) (now (b .entry)) ⌝ }
-{
-    [a[0] | b[0], a[1] | b[1]]
-}
-
 // Whether an RNTI is in a table, with no early exit, so that several places are looked at together.
 fn has_rnti(table: &[u16], rnti: u16) -> bool
     ensures { λ r. ⌜ r ≡ oneOf rnti (now (table .entry)) ⌝ }
@@ -459,14 +385,19 @@ fn pair_of(h: Hi) -> usize
     (h.group as usize) * 8 + (h.sequence as usize)
 }
 
-// Whether an HI has no fault, after HIs with the pairs.
-fn new_hi(cell: Cell, pairs: &[u64; 7], h: Hi) -> bool
-    ensures { λ r. ⌜ r ≡ newHi cell (now (pairs .entry)) h ⌝ }
+// The first fault of an HI after HIs that have the pairs.
+fn hi_fault(cell: Cell, pairs: &[u64; 7], h: Hi) -> Fault
+    requires { ⌜ cellOk cell ≡ true ⌝ }
+    ensures { λ r. ⌜ ((hs : List Hi) → PairsUsed cell (now (pairs .entry)) hs → r ≡ hiFault cell hs h) ⌝ }
 {
     if hi_ok(cell, h) {
-        !has(pairs, pair_of(h))
+        if bitset::has(pairs, pair_of(h)) {
+            Fault::Is(Refusal::HiField)
+        } else {
+            Fault::Nothing
+        }
     } else {
-        false
+        Fault::Is(Refusal::HiField)
     }
 }
 
@@ -480,25 +411,35 @@ fn his_from(plan: &[u8], cell: Cell, start: usize) -> Counted
     let mut at = start;
     while stands(plan, at, 0x20) {
         let h = hi_at(plan, at);
-        if !new_hi(cell, &pairs, h) {
-            return Counted::Refused(Refusal::HiField);
+        match hi_fault(cell, &pairs, h) {
+            Fault::Nothing => {
+                bitset::add(&mut pairs, pair_of(h));
+                count = count + 1;
+                at = next_at(plan, at);
+            }
+            Fault::Is(r) => return Counted::Refused(r),
         }
-        add(&mut pairs, pair_of(h));
-        count = count + 1;
-        at = at + 3;
     }
     Counted::Count(count)
 }
 
-// The first fault of a USER with its own blocks, after USERs with the RNTIs and the blocks.
-fn user_fault(cell: Cell, rntis: &[u16; 104], blocks: &[u64; 2], own: &[u64; 2], u: User) -> Fault
-    ensures { λ r. ⌜ r ≡ userFaultBy cell (now (rntis .entry)) (now (blocks .entry)) (now (own .entry)) u ⌝ }
+// A user's blocks as a set.
+fn blocks_of(u: User) -> [u64; 2]
+    ensures { λ r. ⌜ r ≡ blocksOf u ⌝ }
+{
+    bitset::run_of(u.first, u.count)
+}
+
+// The first fault of a USER after USERs that have the RNTIs and the blocks.
+fn user_fault(cell: Cell, rntis: &[u16; 104], blocks: &[u64; 2], u: User) -> Fault
+    ensures { λ r. ⌜ ((us : List User) → UsersUsed cell (now (rntis .entry)) (now (blocks .entry)) us → r ≡ userFault cell us u) ⌝ }
 {
     if user_ok(cell, u) {
         if has_rnti(rntis, u.rnti) {
             return Fault::Is(Refusal::Used);
         }
-        if meets(blocks, own) {
+        let own = blocks_of(u);
+        if bitset::meets(blocks, &own) {
             return Fault::Is(Refusal::Used);
         }
         Fault::Nothing
@@ -556,11 +497,11 @@ fn users_from(plan: &[u8], cell: Cell, frame: Frame, start: usize, his: usize) -
     let mut at = mid;
     while stands(plan, at, 0x30) {
         let u = user_at(plan, at);
-        let own = run_of(u.first, u.count);
-        match user_fault(cell, &rntis, &blocks, &own, u) {
+        match user_fault(cell, &rntis, &blocks, u) {
             Fault::Nothing => {
+                let own = blocks_of(u);
                 rntis[users] = u.rnti;
-                blocks = join(&blocks, &own);
+                blocks = bitset::join(&blocks, &own);
                 users = users + 1;
                 at = next_at(plan, at);
             }

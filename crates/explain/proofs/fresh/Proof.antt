@@ -1,20 +1,27 @@
 -- `explain::fresh` meets its contract: the invariant: what is asked for from `at` on is the answer, where it was not before. The measure is the commands left. Assumes nothing.
+use Prim.Native.Nat.{ℕ}
 use mathlib.Core.Path.{_≡_, refl, _∙_}
+use mathlib.Core.List.{List}
 use native.Mathlib.Omega.{arith}
 use lib.ListN.{drop}
-use Rattle.explain.specs.Steps.{freshOf}
-use Rattle.explain.proofs.CauseLaws.{fresh-found, fresh-passed, fresh-left}
+use Rattle.explain.specs.Steps.{sharesAt, freshOf}
+use Rattle.plan.specs.Lists.{noneOf}
+use Rattle.plan.specs.Rows.{row}
+use Rattle.plan.proofs.RowLaws.{scan-found, scan-passed, scan-left}
+use Rattle.explain.proofs.CauseLaws.{fresh-is}
 use Rattle.explain.proofs.fresh.Statement.{statement}
 use Rattle.explain.proofs.fresh.Tie as tie
 
 abbrev Inv-loop : tie.InvT-loop
-Inv-loop plan start count a at₀ left₀ at left = freshOf a (drop at plan) left ≡ freshOf a (drop start plan) count
+Inv-loop plan start count a at₀ left₀ at left = noneOf (sharesAt a) (row (λ (x : List ℕ). x) (drop at plan) left) ≡ freshOf a (drop start plan) count
 
 abbrev μ-loop : tie.MeasureT-loop
 μ-loop plan start count a at₀ left₀ at left = left
 
 loop-holds : tie.Need-loop-holds Inv-loop μ-loop
-loop-holds c = refl
+loop-holds c =
+    let a = c .before .args in
+    fresh-is (a .a) (drop (a .start) (a .plan .now)) (a .count)
 
 shares-requires : tie.Need-shares-requires Inv-loop μ-loop
 shares-requires c κs = tt
@@ -24,7 +31,7 @@ returns c =
     let at-shares = c .before in
     let at-loop = at-shares .before .before in
     let at-args = at-loop .before .before in
-    fresh-found (at-args .args .plan .now) (at-loop .loop .at) (at-loop .loop .left) (omega arith) (at-args .args .a) (at-shares .shares .result) (at-shares .shares .ensures) (c .if1 .taken) ∙ at-loop .loop .inv
+    scan-found (λ (x : List ℕ). x) (sharesAt (at-args .args .a)) (at-args .args .plan .now) (at-loop .loop .at) _ refl _ (at-shares .shares .ensures) (at-loop .loop .left) (omega arith) (c .if1 .taken) ∙ at-loop .loop .inv
 
 next-at-requires : tie.Need-next-at-requires Inv-loop μ-loop
 next-at-requires c κs = tt
@@ -41,13 +48,13 @@ loop-again c =
     let at-shares = at-if1 .before in
     let at-loop = at-shares .before .before in
     let at-args = at-loop .before .before in
-    fresh-passed (at-args .args .plan .now) (at-loop .loop .at) (at-loop .loop .left) (omega arith) (at-args .args .a) (at-shares .shares .result) (at-shares .shares .ensures) (at-if1 .if1 .left) _ (c .next-at .ensures) ∙ at-loop .loop .inv
+    scan-passed (λ (x : List ℕ). x) (sharesAt (at-args .args .a)) (at-args .args .plan .now) (at-loop .loop .at) _ refl _ (at-shares .shares .ensures) (at-loop .loop .left) (omega arith) (at-if1 .if1 .left) _ (c .next-at .ensures) ∙ at-loop .loop .inv
 
 returns-2 : tie.Need-returns-2 Inv-loop μ-loop
 returns-2 c =
     let at-loop = c .before in
     let at-args = at-loop .before .before in
-    fresh-left (at-args .args .plan .now) (at-loop .loop .at) (at-loop .loop .left) (omega arith) (at-args .args .a) ∙ at-loop .loop .inv
+    scan-left (λ (x : List ℕ). x) (sharesAt (at-args .args .a)) (at-args .args .plan .now) (at-loop .loop .at) (at-loop .loop .left) (omega arith) ∙ at-loop .loop .inv
 
 pub fresh-spec : {M : Type 1} → statement M
 fresh-spec =

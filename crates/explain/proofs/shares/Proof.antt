@@ -2,8 +2,8 @@
 use mathlib.Core.Path.{ap, _∙_}
 use lib.ListN.{drop}
 use Rattle.plan.specs.Fields.{samePair}
-use Rattle.explain.specs.Finding.{sharesBlock}
-use Rattle.explain.proofs.CauseLaws.{rnti-test, asked-as}
+use Rattle.explain.specs.Finding.{sameRnti, sharesBlock}
+use Rattle.explain.proofs.CauseLaws.{asked-as}
 use borrow.Author.Needs.{needs}
 use Rattle.explain.proofs.shares.Statement.{statement}
 use Rattle.explain.proofs.shares.Tie as tie
@@ -33,6 +33,7 @@ shares-block-requires : tie.Need-shares-block-requires
 shares-block-requires c κs = search needs
 
 returns : tie.Need-returns
+unfolding samePair
 returns c =
     let at-hi-at = c .before in
     let at-a = at-hi-at .before .before in
@@ -40,13 +41,15 @@ returns c =
     asked-as (at-args .args .a) (at-a .a .given .1) (drop (at-args .args .at) (at-args .args .plan .now)) (c .same-pair .ensures ∙ ap (samePair (at-a .a .given .0 .0)) (at-hi-at .hi-at .ensures))
 
 returns-2 : tie.Need-returns-2
+unfolding sameRnti
 returns-2 c =
     let at-user-at = c .before .before in
     let at-a2 = at-user-at .before .before in
     let at-args = at-a2 .before .before .before in
-    asked-as (at-args .args .a) (at-a2 .a2 .given .1) (drop (at-args .args .at) (at-args .args .plan .now)) (rnti-test (at-a2 .a2 .given .0 .0) (at-user-at .user-at .result) (drop (at-args .args .at) (at-args .args .plan .now)) (at-user-at .user-at .ensures))
+    asked-as (at-args .args .a) (at-a2 .a2 .given .1) (drop (at-args .args .at) (at-args .args .plan .now)) (ap (sameRnti (at-a2 .a2 .given .0 .0)) (at-user-at .user-at .ensures))
 
 returns-3 : tie.Need-returns-3
+unfolding sharesBlock
 returns-3 c =
     let at-user-at2 = c .before in
     let at-a3 = at-user-at2 .before .before in

@@ -1,12 +1,14 @@
--- `plan::his_from` meets its contract: the loop over the HIs. Its invariant is `HisGoing`: the run from where it stands is the whole run, and `pairs` has the pairs so far. The measure is what is left of the plan. Assumes nothing.
+-- `plan::his_from` meets its contract: the loop over the HIs. Its invariant is `HisGoing`, its measure what is left of the plan. Assumes nothing.
 use Prim.Native.Nat.{_-_}
 use mathlib.Core.Path.{sym}
 use native.Mathlib.Omega.{arith}
-use lib.ListN.{length}
-use borrow.Author.Tests.{not-true, not-false}
-use Rattle.plan.proofs.Phases.{HisGoing, his-first, his-done, hi-fits, his-refused, his-again}
-use Rattle.plan.proofs.his_from.Statement.{statement}
+use lib.ListN.{length, drop}
+use borrow.Author.Needs.{needs}
+use Rattle.plan.specs.Rows.{hisFrom}
+use Rattle.plan.proofs.Phases.{HisGoing, his-first, his-done, AtHi, his-less, his-refused, his-word, his-again}
+use Rattle.plan.proofs.Reading.{stands-hi}
 use Rattle.plan.proofs.his_from.Tie as tie
+use Rattle.plan.proofs.his_from.Statement.{statement}
 
 abbrev Inv-loop : tie.InvT-loop
 Inv-loop plan cell start pairs₀ count₀ at₀ pairs count at = HisGoing plan cell start count at pairs
@@ -15,9 +17,7 @@ abbrev μ-loop : tie.MeasureT-loop
 μ-loop plan cell start pairs₀ count₀ at₀ pairs count at = length plan - at
 
 loop-holds : tie.Need-loop-holds Inv-loop μ-loop
-loop-holds c =
-    let at-args = c .before in
-    his-first (at-args .args .plan .now) (at-args .args .cell) (at-args .args .start) (at-args .pre .0)
+loop-holds c = his-first (c .before .args .plan .now) (c .before .args .cell) (c .before .args .start) (c .before .pre .0)
 
 stands-requires : tie.Need-stands-requires Inv-loop μ-loop
 stands-requires c κs = c .loop .inv .standing .room
@@ -25,75 +25,55 @@ stands-requires c κs = c .loop .inv .standing .room
 hi-at-requires : tie.Need-hi-at-requires Inv-loop μ-loop
 hi-at-requires c κs = tt
 
-new-hi-requires : tie.Need-new-hi-requires Inv-loop μ-loop
-new-hi-requires c κs = tt
+hi-fault-requires : tie.Need-hi-fault-requires Inv-loop μ-loop
+hi-fault-requires c κs = c .before .before .before .before .before .before .pre .1
 
-returns : tie.Need-returns Inv-loop μ-loop
-returns c =
-    let at-new-hi = c .before in
-    let at-hi-at = at-new-hi .before .before in
-    let at-if1 = at-hi-at .before in
-    let at-stands = at-if1 .before in
+-- the HI at the loop's position, and its fault
+turn : (c : tie.After-hi-fault Inv-loop μ-loop) → AtHi (c .before .before .before .before .before .before .before .args .plan .now) (c .before .before .before .before .before .before .before .args .cell) (c .before .before .before .before .before .before .before .args .start) (c .before .before .before .before .before .loop .count) (c .before .before .before .before .before .loop .at) (c .before .before .before .before .before .loop .pairs) (c .before .before .hi-at .result) (c .hi-fault .result)
+turn c =
+    let at-hi-at = c .before .before in
+    let at-stands = at-hi-at .before .before in
     let at-loop = at-stands .before in
-    let at-pre = at-loop .before .before in
-    his-refused (at-loop .loop .inv) (at-pre .pre .1) (at-stands .stands .result) (at-stands .stands .ensures) (at-if1 .if1 .taken) (at-hi-at .hi-at .result) (at-hi-at .hi-at .ensures) (at-new-hi .new-hi .result) (at-new-hi .new-hi .ensures) (not-true _ (c .if2 .taken))
+    let at-args = at-loop .before .before in
+    record {
+      going = at-loop .loop .inv;
+      ok = at-args .pre .1;
+      there = stands-hi (drop (at-loop .loop .at) (at-args .args .plan .now)) (at-stands .stands .ensures) (at-hi-at .before .if1 .taken) (at-hi-at .hi-at .ensures);
+      fault = c .hi-fault .ensures (hisFrom (drop (at-args .args .start) (at-args .args .plan .now)) (at-loop .loop .count)) (at-loop .loop .inv .used);
+    }
+
+enum-told : tie.Need-enum-told Inv-loop μ-loop
+enum-told c = search needs
 
 slice-aggregate-add : tie.Need-slice-aggregate-add Inv-loop μ-loop
-slice-aggregate-add c =
-    let at-loop = c .before .before .before .before .before .before .before in
-    sym (at-loop .loop .inv .seen .words)
+slice-aggregate-add c = sym (c .before .before .before .before .before .before .before .before .loop .inv .words)
 
 pair-of-requires : tie.Need-pair-of-requires Inv-loop μ-loop
 pair-of-requires c κs = tt
 
 add-requires : tie.Need-add-requires Inv-loop μ-loop
-add-requires c κs = tt
+add-requires c κs = his-word (turn (c .before .before .before .before)) (c .before .before .enum-told .given .1) (c .pair-of .ensures)
 
 add-count : tie.Need-add-count Inv-loop μ-loop
-add-count c =
-    let at-hi-at = c .before .before .before .before .before .before .before in
-    let at-if1 = at-hi-at .before in
-    let at-stands = at-if1 .before in
-    let at-loop = at-stands .before in
-    let at-pre = at-loop .before .before in
-    omega (arith, hi-fits (at-loop .loop .inv) (at-pre .pre .1) (at-stands .stands .result) (at-stands .stands .ensures) (at-if1 .if1 .taken) (at-hi-at .hi-at .result) (at-hi-at .hi-at .ensures))
+add-count c = let at-loop = c .before .before .before .before .before .before .before .before .before .before .before .loop in omega (arith, at-loop .inv .standing .mid-at, at-loop .inv .standing .room)
 
-add-at : tie.Need-add-at Inv-loop μ-loop
-add-at c =
-    let at-hi-at = c .before .before .before .before .before .before .before in
-    let at-if1 = at-hi-at .before in
-    let at-stands = at-if1 .before in
-    let at-loop = at-stands .before in
-    let at-pre = at-loop .before .before in
-    omega (arith, hi-fits (at-loop .loop .inv) (at-pre .pre .1) (at-stands .stands .result) (at-stands .stands .ensures) (at-if1 .if1 .taken) (at-hi-at .hi-at .result) (at-hi-at .hi-at .ensures))
+next-at-requires : tie.Need-next-at-requires Inv-loop μ-loop
+next-at-requires c κs = tt
 
 loop-less : tie.Need-loop-less Inv-loop μ-loop
-loop-less c =
-    let at-hi-at = c .before .before .before .before .before .before .before in
-    let at-if1 = at-hi-at .before in
-    let at-stands = at-if1 .before in
-    let at-loop = at-stands .before in
-    let at-pre = at-loop .before .before in
-    omega (arith, hi-fits (at-loop .loop .inv) (at-pre .pre .1) (at-stands .stands .result) (at-stands .stands .ensures) (at-if1 .if1 .taken) (at-hi-at .hi-at .result) (at-hi-at .hi-at .ensures))
+loop-less c = his-less (turn (c .before .before .before .before .before .before .before)) (c .next-at .ensures)
 
 loop-again : tie.Need-loop-again Inv-loop μ-loop
-loop-again c =
-    let at-add = c .before in
-    let at-pair-of = at-add .before in
-    let at-if2 = at-pair-of .before .before in
-    let at-new-hi = at-if2 .before in
-    let at-hi-at = at-new-hi .before .before in
-    let at-if1 = at-hi-at .before in
-    let at-stands = at-if1 .before in
-    let at-loop = at-stands .before in
-    let at-pre = at-loop .before .before in
-    his-again (at-loop .loop .inv) (at-pre .pre .1) (at-stands .stands .result) (at-stands .stands .ensures) (at-if1 .if1 .taken) (at-hi-at .hi-at .result) (at-hi-at .hi-at .ensures) (at-new-hi .new-hi .result) (at-new-hi .new-hi .ensures) (not-false _ (at-if2 .if2 .left)) (at-pair-of .pair-of .result) (at-pair-of .pair-of .ensures) _ (at-add .add .ensures)
+loop-again c = his-again (turn (c .before .before .before .before .before .before .before)) (c .before .before .before .before .before .enum-told .given .1) (c .before .before .before .pair-of .ensures) (c .before .before .add .ensures) (c .next-at .ensures)
+
+enum-known-r : tie.Need-enum-known-r Inv-loop μ-loop
+enum-known-r c = search needs
+
+returns : tie.Need-returns Inv-loop μ-loop
+returns c = his-refused (turn (c .before .before .before)) (c .before .r .given .1)
 
 returns-2 : tie.Need-returns-2 Inv-loop μ-loop
-returns-2 c =
-    let at-stands = c .before in
-    let at-loop = at-stands .before in
-    his-done (at-loop .loop .inv) (at-stands .stands .result) (at-stands .stands .ensures) (c .if1 .left)
+returns-2 c = his-done (c .before .before .loop .inv) (c .before .stands .ensures) (c .if1 .left)
 
 pub his-from-spec : {M : Type 1} → statement M
 his-from-spec =
@@ -104,13 +84,15 @@ his-from-spec =
     loop-holds
     stands-requires
     hi-at-requires
-    new-hi-requires
-    returns
+    hi-fault-requires
+    enum-told
     slice-aggregate-add
     pair-of-requires
     add-requires
     add-count
-    add-at
+    next-at-requires
     loop-less
     loop-again
+    enum-known-r
+    returns
     returns-2)

@@ -1,8 +1,8 @@
--- `plan::bit` meets its contract. Assumes nothing.
-use Rattle.plan.proofs.Words.{bit-value}
+-- `bitset::bit` meets its contract. Assumes nothing.
 use borrow.Author.Needs.{needs}
-use Rattle.plan.proofs.bit.Statement.{statement}
-use Rattle.plan.proofs.bit.Tie as tie
+use Rattle.bitset.proofs.Sets.{bit-value}
+use Rattle.bitset.proofs.bit.Tie as tie
+use Rattle.bitset.proofs.bit.Statement.{statement}
 
 shl-result : tie.Need-shl-result
 shl-result c = search needs
