@@ -12,21 +12,24 @@ use lib.ListN.{length, getD, set}
 use lib.Seq.{getD-set-same, getD-set-other}
 use borrow.Author.Tests.{eq-eqb, ne-eqb, eqb-true, eqb-false, lt-ltb, le-leb, lt-leb, ltb-true, ltb-false, leb-true, leb-false}
 use Rattle.base.proofs.Tests.{by-test, clash, both, same-test}
-use Rattle.bitset.specs.Sets.{bit, member, added, onesOf, runWord, runOf, meet, joined, within, overlap, someBelow}
+use Rattle.bitset.specs.Sets.{bit, member, shifted, added, onesOf, runWord, runOf, meet, joined, within, overlap, someBelow}
 use Rattle.bitset.proofs.Below.{some-at, some-is, some-same, some-or, some-add}
 use Rattle.bitset.proofs.Bits.{unlike, bit-or, bit-and, bit-xor, bit-zero, bit-pow, bit-ones, not-zero}
 
 -- ---- as the code makes the words
-pub bit-value : (k : ℕ) → k < 64 → 1 * 2 ^ k % 2 ^ 64 ≡ 2 ^ k
-bit-value k h = shl-exact 1 k 64 (omega arith) (omega arith) ∙ omega arith
+pub shifted-is : (k : ℕ) → k < 64 → shifted k ≡ 2 ^ k
+shifted-is k h = shl-exact 1 k 64 (omega arith) (omega arith) ∙ omega arith
 
 pub ones-none : (n : ℕ) → n ≡ 0 → 0 ≡ onesOf n
 unfolding onesOf
 ones-none n e = rw e refl
 
-pub ones-part : (n b : ℕ) → n < 64 → b ≡ 2 ^ n → b - 1 ≡ onesOf n
+pub shifted-some : (k : ℕ) → k < 64 → 1 ≤ shifted k
+shifted-some k h = rw (shifted-is k h) (pow-pos k)
+
+pub ones-part : (n : ℕ) → n < 64 → shifted n - 1 ≡ onesOf n
 unfolding onesOf
-ones-part n b h e = rw (e, min-eq-left {n = n} {m = 64} (omega arith)) refl
+ones-part n h = rw (shifted-is n h, min-eq-left {n = n} {m = 64} (omega arith)) refl
 
 pub ones-all : (n : ℕ) → 64 ≤ n → 2 ^ 64 - 1 ≡ onesOf n
 unfolding onesOf
@@ -41,12 +44,12 @@ in-none l h n = rw (h (n / 64)) (bit-zero (n % 64))
 
 pub in-added : (l : List ℕ) (n m : ℕ) → n / 64 < length l → member (added l n) m ≡ member l m || eqb m n
 in-added l n m h =
-    let word : ℕ = bitOr (getD l (n / 64) 0) (2 ^ (n % 64)) in
+    let word : ℕ = bitOr (getD l (n / 64) 0) (shifted (n % 64)) in
     by-test (eqb (m / 64) (n / 64))
     (λ t.
     let e : m / 64 ≡ n / 64 = eqb-true (m / 64) (n / 64) t in
     let same : eqb (m % 64) (n % 64) ≡ eqb m n = same-test _ _ (λ q. eq-eqb m n (omega (arith, eqb-true (m % 64) (n % 64) q))) (λ q. eq-eqb (m % 64) (n % 64) (omega (arith, eqb-true m n q))) in
-    rw (e, getD-set-same l (n / 64) word 0 h, bit-or (getD l (n / 64) 0) (2 ^ (n % 64)) (m % 64), bit-pow (n % 64) (m % 64), same) refl)
+    rw (e, getD-set-same l (n / 64) word 0 h, bit-or (getD l (n / 64) 0) (shifted (n % 64)) (m % 64), shifted-is (n % 64) (omega arith), bit-pow (n % 64) (m % 64), same) refl)
     (λ t.
     let d : m / 64 ≡ n / 64 → ⊥ = eqb-false (m / 64) (n / 64) t in
     rw (getD-set-other l (n / 64) (m / 64) word 0 d, ne-eqb m n (λ z. d (ap (λ (x : ℕ). x / 64) z))) (sym (or-false _)))

@@ -1,5 +1,5 @@
 -- For the loops only: sets of numbers as words of 64 bits, and what the functions on them compute. proofs/Sets.antt says which numbers are members.
-use Prim.Native.Nat.{ℕ, zero, suc, _+_, _-_, _/_, _%_, _^_, min}
+use Prim.Native.Nat.{ℕ, zero, suc, _+_, _-_, _*_, _/_, _%_, _^_, min}
 use mathlib.Core.Bool.{Bool, false, not, _&&_, _||_}
 use mathlib.Core.List.{List, [], _∷_}
 use lib.Bits.{bitAnd, bitOr, bitXor}
@@ -14,9 +14,12 @@ bit x i = eqb (x / 2 ^ i % 2) 1
 abbrev pub member : List ℕ → ℕ → Bool
 member l n = bit (getD l (n / 64) 0) (n % 64)
 
--- the set l with n
+-- 1 shifted up by k in a word; the set l with n
+abbrev pub shifted : ℕ → ℕ
+shifted k = 1 * 2 ^ k % 2 ^ 64
+
 abbrev pub added : List ℕ → ℕ → List ℕ
-added l n = set l (n / 64) (bitOr (getD l (n / 64) 0) (2 ^ (n % 64)))
+added l n = set l (n / 64) (bitOr (getD l (n / 64) 0) (shifted (n % 64)))
 
 -- the lowest n bits of a word; the k numbers from first on, those of the word from least on, and of two words
 unfoldable pub onesOf : ℕ → ℕ

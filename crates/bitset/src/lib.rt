@@ -1,15 +1,8 @@
 // Sets of numbers as words of 64 bits: n is a member where bit n % 64 of word n / 64 is 1. A set of two words has the numbers below 128.
 ghost use mathlib.Core.Path.{_≡_};
-ghost use Prim.Native.Nat.{_-_, _/_, _^_, _<_};
+ghost use Prim.Native.Nat.{_-_, _/_, _<_};
 ghost use lib.ListN.{length};
 ghost use Rattle.bitset.specs.Sets.{member, added, onesOf, runOf, meet, joined};
-
-fn bit(k: usize) -> u64
-    requires { ⌜ k < 64 ⌝ }
-    ensures { λ r. ⌜ r ≡ 2 ^ k ⌝ }
-{
-    1 << k
-}
 
 // Whether n is a member.
 pub fn has(set: &[u64], n: usize) -> bool
@@ -26,7 +19,8 @@ pub fn add(set: &mut [u64], n: usize)
     ensures { λ r. ⌜ now (set .exit) ≡ added (now (set .entry)) n ⌝ }
 {
     let w = n / 64;
-    set[w] = set[w] | bit(n % 64);
+    let k = n % 64;
+    set[w] = set[w] | (1 << k);
 }
 
 // The word of the numbers below n, counted from least on.
@@ -36,8 +30,9 @@ fn ones(n: usize, least: usize) -> u64
     if n <= least {
         return 0;
     }
-    if n - least < 64 {
-        bit(n - least) - 1
+    let k = n - least;
+    if k < 64 {
+        (1 << k) - 1
     } else {
         0xffff_ffff_ffff_ffff
     }

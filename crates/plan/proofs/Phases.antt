@@ -118,9 +118,10 @@ users-first w c f start n mid p e =
     }
 
 -- the last USER is behind
-pub users-done : {w : List ℕ} {c : Cell} {f : Frame} {start n mid m at : ℕ} {rntis blocks : List ℕ} → UsersGoing w c f start n mid m at rntis blocks → HisPast w start n mid → {b : Bool} → b ≡ standsAt 0x30 (drop at w) → b ≡ false → EndDue w m at
+pub users-done : {w : List ℕ} {c : Cell} {f : Frame} {start n mid m at : ℕ} {rntis blocks : List ℕ} → UsersGoing w c f start n mid m at rntis blocks → HisPast w start n mid → {b : Bool} → b ≡ standsAt 0x30 (drop at w) → b ≡ false → EndDue w (record { cell = c; frame = f; his = record { at = start; count = n }; users = record { at = mid; count = m } }) at
 users-done {w} {at = at} g p eb t =
     record {
+      mid-at = g .standing .mid-at;
       no-hi = λ z h e. p .no-hi h (rw (g .first z) at e);
       no-user = no-user-stands (drop at w) (sym eb ∙ t);
     }

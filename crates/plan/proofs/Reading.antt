@@ -1,7 +1,7 @@
 -- Bytes, sizes and commands at a position of the plan, by the tests that the code makes. Assumes nothing.
 use Prim.Native.Nat.{ℕ, _+_, _-_, _*_, _≤_, _<_}
 use mathlib.Core.Path.{_≡_, refl, sym, ap, _∙_}
-use mathlib.Core.Bool.{Bool, true, false, false≢true}
+use mathlib.Core.Bool.{Bool, true, false, _&&_, false≢true}
 use mathlib.Core.List.{List}
 use native.Mathlib.Omega.{arith}
 use lib.Dec.{leb, eqb}
@@ -148,14 +148,9 @@ module _ (w : List ℕ) (at b k : ℕ) (eb : b ≡ byte (drop at w) 0) (ek : k �
     unknown n₀ n₁ n₂ n₃ n₄ = rw (ne-eqb b 0x10 n₀, ne-eqb b 0x11 n₁, ne-eqb b 0x20 n₂, ne-eqb b 0x30 n₃, ne-eqb b 0x00 n₄) at whole
 
 -- ---- a command by its byte, where it is whole
-module _ (w : List ℕ) (at code k : ℕ) (ek : k ≡ entryFor code .size) where
-  pub stands-cut : length w - at < k → false ≡ standsAt code (drop at w)
-  unfolding standsAt
-  stands-cut h = rw (← ek, length-drop at w, lt-leb k (length w - at) h) refl
-
-  pub stands-by : k ≤ length w - at → (b : ℕ) → b ≡ byte (drop at w) 0 → eqb b code ≡ standsAt code (drop at w)
-  unfolding standsAt
-  stands-by h b e = rw (← ek, length-drop at w, le-leb k (length w - at) h, ← e) refl
+pub stands-made : (w : List ℕ) (at code : ℕ) {k b : ℕ} → k ≡ entryFor code .size → b ≡ byte (drop at w) 0 → leb k (length w - at) && eqb b code ≡ standsAt code (drop at w)
+unfolding standsAt
+stands-made w at code ek eb = rw (ek, eb, length-drop at w) refl
 
 module _ (l : List ℕ) where
   stands-is : (code : ℕ) → standsAt code l ≡ true → entryFor code .read l ≡ commandOf l

@@ -15,18 +15,20 @@ use Rattle.plan.specs.Lists.{oneOf}
 use Rattle.plan.specs.Commands.{hiOf, userOf, sizeOf, commandOf, commandsAfter, commands}
 use Rattle.plan.specs.Check.{State, need, due, hiFault, userFault, fault, stateAfter, planOf, unless, run}
 use Rattle.plan.specs.Rows.{row, past, nextOf, hisFrom, usersFrom}
-use Rattle.plan.specs.Loops.{bodyState, EndDue}
+use Rattle.plan.specs.Loops.{bodyState, stateOf, EndDue}
 use Rattle.plan.specs.declared.Cell.{Cell}
 use Rattle.plan.specs.declared.Frame.{Frame}
 use Rattle.plan.specs.declared.Hi.{Hi}
 use Rattle.plan.specs.declared.User.{User}
 use Rattle.plan.specs.declared.Row.{Row}
+use Rattle.plan.specs.declared.Plan.{Plan}
 use Rattle.plan.specs.declared.Command.{Command}
 use Rattle.plan.specs.declared.Command.the-variants.{Cell as cell, Frame as frame, Hi as hi, User as user, End as end, Broken as broken}
 use Rattle.plan.specs.declared.Refusal.{Refusal}
 use Rattle.plan.specs.declared.Refusal.the-variants.{Unreadable, Order}
 use Rattle.plan.specs.declared.Fault.{Fault}
 use Rattle.plan.specs.declared.Fault.the-variants.{Nothing, Is}
+use Rattle.plan.specs.declared.Checked.{Checked}
 use Rattle.plan.specs.declared.Checked.the-variants.{Plan as accepted, Refused as refused}
 use Rattle.plan.proofs.Command.{the-type}
 use Rattle.plan.proofs.OneOf.{not-in}
@@ -224,7 +226,7 @@ module _ (w : List ℕ) (c : Cell) (f : Frame) (start n mid m at : ℕ) where
     unfolding bodyState fault
     end-turn = run-at St here end e (omega (arith, told here end e .2)) ∙ rw (stage-due, told here end e .1, drop-drop) refl
 
-  -- ---- a second CELL or FRAME; a command that is not END, where END is due; a broken command
+  -- ---- a second CELL or FRAME; a broken command
   pub late-body : (x : Command) → commandOf here ≡ x → OneOf (0 ∷ 1 ∷ []) (tagOf the-type x) → run St (commands here) ≡ refused Order
   unfolding bodyState fault oneOf
   late-body (cell y) e h = refused-at St here (cell y) Order e (omega (arith, told here (cell y) e .2)) (rw stage-first refl)
@@ -233,15 +235,6 @@ module _ (w : List ℕ) (c : Cell) (f : Frame) (start n mid m at : ℕ) where
   late-body (user y) e h = absurd (not-in (0 ∷ 1 ∷ []) 3 h refl)
   late-body end e h = absurd (not-in (0 ∷ 1 ∷ []) 4 h refl)
   late-body broken e h = absurd (not-in (0 ∷ 1 ∷ []) 5 h refl)
-
-  pub end-late : EndDue w m at → (x : Command) → commandOf here ≡ x → OneOf (0 ∷ 1 ∷ 2 ∷ 3 ∷ []) (tagOf the-type x) → run St (commands here) ≡ refused Order
-  unfolding oneOf
-  end-late d (cell y) e h = late-body (cell y) e (inl refl)
-  end-late d (frame y) e h = late-body (frame y) e (inr refl)
-  end-late d (hi y) e h = hi-refused y e Order (rw (ne-eqb m 0 (λ z. d .no-hi z y e)) refl)
-  end-late d (user y) e h = absurd (d .no-user y e)
-  end-late d end e h = absurd (not-in (0 ∷ 1 ∷ 2 ∷ 3 ∷ []) 4 h refl)
-  end-late d broken e h = absurd (not-in (0 ∷ 1 ∷ 2 ∷ 3 ∷ []) 5 h refl)
 
   pub body-broken : commandOf here ≡ broken → run St (commands here) ≡ refused Unreadable
   unfolding bodyState
@@ -269,3 +262,38 @@ module _ (w : List ℕ) (c : Cell) (f : Frame) (his users : Row) (to : ℕ) wher
   unfolding run commandsAfter planOf bodyState stateAfter
   last e h =
       rw (drop-of-length-le w h, row-length hiOf (drop (his .at) w) (his .count), row-length userOf (drop (users .at) w) (users .count), ← e) refl
+
+-- ---- where END is due
+module _ {w : List ℕ} {p : Plan} {at : ℕ} (d : EndDue w p at) where
+  abbrev Rest : Checked
+  Rest = run (stateOf w p) (commands (drop at w))
+
+  module _ (e : commandOf (drop at w) ≡ end) where
+    pub end-fits : at + 1 ≤ length w
+    end-fits = omega (arith, told (drop at w) end e .2, length-drop at w)
+
+    turn : Rest ≡ run (stateAfter (stateOf w p) end) (commands (drop (at + 1) w))
+    turn = end-turn w (p .cell) (p .frame) (p .his .at) (p .his .count) (p .users .at) (p .users .count) at e
+
+    pub end-more : at + 1 < length w → refused Order ≡ Rest
+    end-more l = not-last w (p .cell) (p .frame) (p .his) (p .users) (at + 1) l ∙ sym turn
+
+    pub end-last : length w ≤ at + 1 → accepted p ≡ Rest
+    end-last l = last w (p .cell) (p .frame) (p .his) (p .users) (at + 1) (d .mid-at) l ∙ sym turn
+
+  pub end-broken : commandOf (drop at w) ≡ broken → refused Unreadable ≡ Rest
+  end-broken e = sym (body-broken w (p .cell) (p .frame) (p .his .at) (p .his .count) (p .users .at) (p .users .count) at e)
+
+  pub end-late : {x : Command} → commandOf (drop at w) ≡ x → OneOf (0 ∷ 1 ∷ 2 ∷ 3 ∷ []) (tagOf the-type x) → refused Order ≡ Rest
+  unfolding oneOf
+  end-late {x} e h = sym (by x e h)
+    where
+      by : (x : Command) → commandOf (drop at w) ≡ x → OneOf (0 ∷ 1 ∷ 2 ∷ 3 ∷ []) (tagOf the-type x) → Rest ≡ refused Order
+      by (cell y) e h = late-body w (p .cell) (p .frame) (p .his .at) (p .his .count) (p .users .at) (p .users .count) at (cell y) e (inl refl)
+      by (frame y) e h = late-body w (p .cell) (p .frame) (p .his .at) (p .his .count) (p .users .at) (p .users .count) at (frame y) e (inr refl)
+      by (hi y) e h =
+          hi-refused w (p .cell) (p .frame) (p .his .at) (p .his .count) (p .users .at) (p .users .count) at y e Order
+          (rw (ne-eqb (p .users .count) 0 (λ z. d .no-hi z y e)) refl)
+      by (user y) e h = absurd (d .no-user y e)
+      by end e h = absurd (not-in (0 ∷ 1 ∷ 2 ∷ 3 ∷ []) 4 h refl)
+      by broken e h = absurd (not-in (0 ∷ 1 ∷ 2 ∷ 3 ∷ []) 5 h refl)

@@ -16,6 +16,7 @@ use Rattle.plan.specs.declared.Cell.{Cell}
 use Rattle.plan.specs.declared.Frame.{Frame}
 use Rattle.plan.specs.declared.Hi.{Hi}
 use Rattle.plan.specs.declared.User.{User}
+use Rattle.plan.specs.declared.Plan.{Plan}
 use Rattle.plan.specs.declared.Command.the-variants.{Hi as hi, User as user}
 use Rattle.plan.specs.declared.Counted.{Counted}
 use Rattle.plan.specs.declared.Counted.the-variants.{Count, Refused as faulty}
@@ -37,6 +38,9 @@ bodyState w c f start n mid m =
       his = hisFrom (drop start w) n;
       users = usersFrom (drop mid w) m;
     }
+
+abbrev pub stateOf : List ℕ → Plan → State
+stateOf w p = bodyState w (p .cell) (p .frame) (p .his .at) (p .his .count) (p .users .at) (p .users .count)
 
 -- the command with the byte code is whole at the front of the bytes l
 unfoldable pub standsAt : ℕ → List ℕ → Bool
@@ -74,7 +78,8 @@ HisRead w c start (Count n) =
     HisPast w start n (start + 3 * n) × ((f : Frame) → run (bodyState w c f start n (start + 3 * n) 0) (commands (drop (start + 3 * n) w)) ≡ bodyRun w c f start)
 HisRead w c start (faulty r) = (f : Frame) → refused r ≡ bodyRun w c f start
 
--- after m USERs, where no USER follows, nor an HI that would be in its place
-pub record EndDue (w : List ℕ) (m at : ℕ) : Type 0 where
-  pub no-hi : m ≡ 0 → (h : Hi) → commandOf (drop at w) ≡ hi h → ⊥
+-- after the HIs and the USERs of p, where no USER follows, nor an HI that would be in its place
+pub record EndDue (w : List ℕ) (p : Plan) (at : ℕ) : Type 0 where
+  pub mid-at : p .users .at ≡ p .his .at + 3 * p .his .count
+  pub no-hi : p .users .count ≡ 0 → (h : Hi) → commandOf (drop at w) ≡ hi h → ⊥
   pub no-user : (u : User) → commandOf (drop at w) ≡ user u → ⊥

@@ -10,7 +10,7 @@ ghost use Rattle.plan.specs.Commands.{byte, cellOf, frameOf, hiOf, userO
 ghost use Rattle.plan.specs.Fields.{cellOk, frameOk, unitsOf, groupsOf, sequencesOf, hiOk, userOk};
 ghost use Rattle.plan.specs.Check.{refusalNumber, hiFault, userFault, run, checkOf};
 ghost use Rattle.plan.specs.Rows.{nextOf};
-ghost use Rattle.plan.specs.Loops.{celled, bodyState, standsAt, pairOf, blocksOf, PairsUsed, UsersUsed, HisPast, HisRead, EndDue};
+ghost use Rattle.plan.specs.Loops.{celled, bodyState, stateOf, standsAt, pairOf, blocksOf, PairsUsed, UsersUsed, HisPast, HisRead, EndDue};
 
 // 10 CELL: the identity C, the width in blocks N, the prefix (1 extended), the antenna ports P, and N_g in sixths.
 pub struct Cell {
@@ -271,36 +271,17 @@ pub fn one_of(n: u8, list: &[u8]) -> bool
 fn cell_ok(c: Cell) -> bool
     ensures { λ r. ⌜ r ≡ cellOk c ⌝ }
 {
-    if 503 < c.identity {
-        return false;
-    }
-    if one_of(c.blocks, &WIDTHS) {
-        if 1 < c.prefix {
-            return false;
-        }
-        if one_of(c.ports, &PORT_COUNTS) {
-            one_of(c.sixths, &SIXTH_COUNTS)
-        } else {
-            false
-        }
-    } else {
-        false
-    }
+    (c.identity <= 503)
+        & one_of(c.blocks, &WIDTHS)
+        & (c.prefix <= 1)
+        & one_of(c.ports, &PORT_COUNTS)
+        & one_of(c.sixths, &SIXTH_COUNTS)
 }
 
 fn frame_ok(f: Frame) -> bool
     ensures { λ r. ⌜ r ≡ frameOk f ⌝ }
 {
-    if 1023 < f.number {
-        return false;
-    }
-    if 9 < f.subframe {
-        return false;
-    }
-    if f.cfi < 1 {
-        return false;
-    }
-    f.cfi <= 3
+    (f.number <= 1023) & (f.subframe <= 9) & (1 <= f.cfi) & (f.cfi <= 3)
 }
 
 // The number of PHICH units of a cell.
@@ -331,27 +312,16 @@ pub fn sequences(c: Cell) -> u8
 fn hi_ok(c: Cell, h: Hi) -> bool
     ensures { λ r. ⌜ r ≡ hiOk c h ⌝ }
 {
-    if (h.group as usize) < groups(c) {
-        h.sequence < sequences(c)
-    } else {
-        false
-    }
+    ((h.group as usize) < groups(c)) & (h.sequence < sequences(c))
 }
 
 fn user_ok(c: Cell, u: User) -> bool
     ensures { λ r. ⌜ r ≡ userOk c u ⌝ }
 {
-    if u.rnti < 1 {
-        return false;
-    }
-    if one_of(u.order, &ORDERS) {
-        if u.count < 1 {
-            return false;
-        }
-        (u.first as usize) + (u.count as usize) <= (c.blocks as usize)
-    } else {
-        false
-    }
+    (1 <= u.rnti)
+        & one_of(u.order, &ORDERS)
+        & (1 <= u.count)
+        & ((u.first as usize) + (u.count as usize) <= (c.blocks as usize))
 }
 
 // Whether an RNTI is in a table, with no early exit, so that several places are looked at together.
@@ -372,10 +342,7 @@ fn stands(plan: &[u8], at: usize, code: u8) -> bool
     requires { ⌜ at ≤ length (now plan) ⌝ }
     ensures { λ r. ⌜ r ≡ standsAt code (drop at (now (plan .entry))) ⌝ }
 {
-    if plan.len() - at < size_of(code) {
-        return false;
-    }
-    byte_at(plan, at, 0) == code
+    (size_of(code) <= plan.len() - at) & (byte_at(plan, at, 0) == code)
 }
 
 // An HI's pair as one number.
@@ -448,37 +415,17 @@ fn user_fault(cell: Cell, rntis: &[u16; 104], blocks: &[u64; 2], u: User) -> Fau
     }
 }
 
-// After his HIs from position start on and users USERs from position mid on: END is due at position at, and nothing after it.
-fn finish(
-    plan: &[u8],
-    cell: Cell,
-    frame: Frame,
-    start: usize,
-    his: usize,
-    mid: usize,
-    users: usize,
-    at: usize,
-) -> Checked
-    requires { ⌜ (mid ≡ start + 3 * his) × EndDue (now plan) users at ⌝ }
-    ensures { λ r. ⌜ r ≡ run (bodyState (now (plan .entry)) cell frame start his mid users) (commands (drop at (now (plan .entry)))) ⌝ }
+// After the HIs and the USERs of p: END is due at position at, and nothing after it.
+fn finish(plan: &[u8], p: Plan, at: usize) -> Checked
+    requires { ⌜ EndDue (now plan) p at ⌝ }
+    ensures { λ r. ⌜ r ≡ run (stateOf (now (plan .entry)) p) (commands (drop at (now (plan .entry)))) ⌝ }
 {
     match command_at(plan, at) {
         Command::End => {
             if at + 1 < plan.len() {
                 return Checked::Refused(Refusal::Order);
             }
-            Checked::Plan(Plan {
-                cell: cell,
-                frame: frame,
-                his: Row {
-                    at: start,
-                    count: his,
-                },
-                users: Row {
-                    at: mid,
-                    count: users,
-                },
-            })
+            Checked::Plan(p)
         }
         Command::Broken => Checked::Refused(Refusal::Unreadable),
         _ => Checked::Refused(Refusal::Order),
@@ -508,7 +455,19 @@ fn users_from(plan: &[u8], cell: Cell, frame: Frame, start: usize, his: usize) -
             Fault::Is(r) => return Checked::Refused(r),
         }
     }
-    finish(plan, cell, frame, start, his, mid, users, at)
+    let p = Plan {
+        cell: cell,
+        frame: frame,
+        his: Row {
+            at: start,
+            count: his,
+        },
+        users: Row {
+            at: mid,
+            count: users,
+        },
+    };
+    finish(plan, p, at)
 }
 
 // The commands after FRAME: HIs, USERs and END, from position start on.

@@ -82,7 +82,7 @@ returns : tie.Need-returns Inv-loop μ-loop
 returns c = users-refused (turn (c .before .before .before)) (c .before .r .given .1)
 
 finish-requires : tie.Need-finish-requires Inv-loop μ-loop
-finish-requires c κs = (refl, users-done (c .before .before .loop .inv) (c .before .before .before .before .pre .0) (c .before .stands .ensures) (c .if1 .left))
+finish-requires c κs = users-done (c .before .before .loop .inv) (c .before .before .before .before .pre .0) (c .before .stands .ensures) (c .if1 .left)
 
 returns-2 : tie.Need-returns-2 Inv-loop μ-loop
 returns-2 c = c .finish .ensures ∙ c .before .before .before .loop .inv .same
