@@ -15,7 +15,8 @@ use Rattle.bitset.specs.Sets.{bit, someBelow}
 use Rattle.bitset.proofs.Below.{some-same}
 
 -- a function of two bits, by its four values
-table : (op : ℕ → ℕ → ℕ) (f : Bool → Bool → Bool) → (eqb (op 0 0) 1 ≡ f false false) → (eqb (op 0 1) 1 ≡ f false true) → (eqb (op 1 0) 1 ≡ f true false) → (eqb (op 1 1) 1 ≡ f true true) → (x y : ℕ) → x < 2 → y < 2 → eqb (op x y) 1 ≡ f (eqb x 1) (eqb y 1)
+table : (op : ℕ → ℕ → ℕ) (f : Bool → Bool → Bool) → (eqb (op 0 0) 1 ≡ f false false) → (eqb (op 0 1) 1 ≡ f false true) →
+    (eqb (op 1 0) 1 ≡ f true false) → (eqb (op 1 1) 1 ≡ f true true) → (x y : ℕ) → x < 2 → y < 2 → eqb (op x y) 1 ≡ f (eqb x 1) (eqb y 1)
 table op f p q r s zero zero a b = p
 table op f p q r s zero (suc zero) a b = q
 table op f p q r s (suc zero) zero a b = r

@@ -35,7 +35,8 @@ pub ones-all : (n : ℕ) → 64 ≤ n → 2 ^ 64 - 1 ≡ onesOf n
 unfolding onesOf
 ones-all n h = rw (min-eq-right {n = 64} {m = n} h) refl
 
-pub run-made : {first k from size a b d e : ℕ} → from ≡ first → size ≡ k → a ≡ onesOf (from + size - 0) → b ≡ onesOf (from - 0) → d ≡ onesOf (from + size - 64) → e ≡ onesOf (from - 64) → bitXor a b ∷ bitXor d e ∷ [] ≡ runOf first k
+pub run-made : {first k from size a b d e : ℕ} → from ≡ first → size ≡ k → a ≡ onesOf (from + size - 0) → b ≡ onesOf (from - 0) →
+    d ≡ onesOf (from + size - 64) → e ≡ onesOf (from - 64) → bitXor a b ∷ bitXor d e ∷ [] ≡ runOf first k
 run-made ef es ea eb ed ee = rw (ea, eb, ed, ee, ef, es) refl
 
 -- ---- the members
@@ -48,8 +49,10 @@ in-added l n m h =
     by-test (eqb (m / 64) (n / 64))
     (λ t.
     let e : m / 64 ≡ n / 64 = eqb-true (m / 64) (n / 64) t in
-    let same : eqb (m % 64) (n % 64) ≡ eqb m n = same-test _ _ (λ q. eq-eqb m n (omega (arith, eqb-true (m % 64) (n % 64) q))) (λ q. eq-eqb (m % 64) (n % 64) (omega (arith, eqb-true m n q))) in
-    rw (e, getD-set-same l (n / 64) word 0 h, bit-or (getD l (n / 64) 0) (shifted (n % 64)) (m % 64), shifted-is (n % 64) (omega arith), bit-pow (n % 64) (m % 64), same) refl)
+    let same : eqb (m % 64) (n % 64) ≡ eqb m n =
+    same-test _ _ (λ q. eq-eqb m n (omega (arith, eqb-true (m % 64) (n % 64) q))) (λ q. eq-eqb (m % 64) (n % 64) (omega (arith, eqb-true m n q))) in
+    rw (e, getD-set-same l (n / 64) word 0 h, bit-or (getD l (n / 64) 0) (shifted (n % 64)) (m % 64))
+    (rw (shifted-is (n % 64) (omega arith), bit-pow (n % 64) (m % 64), same) refl))
     (λ t.
     let d : m / 64 ≡ n / 64 → ⊥ = eqb-false (m / 64) (n / 64) t in
     rw (getD-set-other l (n / 64) (m / 64) word 0 d, ne-eqb m n (λ z. d (ap (λ (x : ℕ). x / 64) z))) (sym (or-false _)))
@@ -157,7 +160,8 @@ meet-some a b f =
 pub meet-joined : (a b d : List ℕ) → Fits d → meet (joined a b) d ≡ meet a d || meet b d
 meet-joined a b d f =
     meet-some (joined a b) d f
-    ∙ some-same 128 _ (λ (n : ℕ). common a d n || common b d n) (λ n l. ap (λ (t : Bool). t && member d n) (in-joined a b n l) ∙ each (member a n) (member b n) (member d n))
+    ∙ some-same 128 _ (λ (n : ℕ). common a d n || common b d n)
+    (λ n l. ap (λ (t : Bool). t && member d n) (in-joined a b n l) ∙ each (member a n) (member b n) (member d n))
     ∙ some-or 128 (common a d) (common b d)
     ∙ sym (ap₂ (λ (s t : Bool). s || t) (meet-some a d f) (meet-some b d f))
   where
@@ -198,5 +202,7 @@ meet-runs a k b m one most some =
         let p : a < b + m = ltb-true _ _ (s .0) in
         let q : b < a + k = ltb-true _ _ (s .1) in
         by-test (leb a b)
-        (λ l. let h : a ≤ b = leb-true a b l in some-at 128 _ b (omega arith) (both (inside b m b (omega arith) (omega arith)) (inside a k b h q)))
-        (λ l. let h : b < a = omega (arith, leb-false a b l) in some-at 128 _ a (omega arith) (both (inside b m a (omega arith) p) (inside a k a (omega arith) (omega arith))))
+        (λ l. some-at 128 _ b (omega arith) (both (inside b m b (omega arith) (omega arith)) (inside a k b (leb-true a b l) q)))
+        (λ l.
+        let h : b < a = omega (arith, leb-false a b l) in
+        some-at 128 _ a (omega arith) (both (inside b m a (omega arith) p) (inside a k a (omega arith) (omega arith))))

@@ -120,7 +120,8 @@ pub asked-as : (a : Asked) {b : Asked} → a ≡ b → (l : List ℕ) {r : Bool}
 asked-as a k l e = e ∙ ap (λ (x : Asked). sharesAt x l) (sym k)
 
 -- a test of the commands that the bytes begin with is one of the bytes
-row-test : {A : Type 0} (read : List ℕ → A) (f : A → Bool) (l : List ℕ) (n : ℕ) → noneOf (λ (x : List ℕ). f (read x)) (row (λ (x : List ℕ). x) l n) ≡ noneOf f (row read l n)
+row-test : {A : Type 0} (read : List ℕ → A) (f : A → Bool) (l : List ℕ) (n : ℕ) →
+    noneOf (λ (x : List ℕ). f (read x)) (row (λ (x : List ℕ). x) l n) ≡ noneOf f (row read l n)
 unfolding row noneOf
 row-test read f l zero = refl
 row-test read f l (suc n) = ap (λ (t : Bool). not (f (read l)) && t) (row-test read f (drop (sizeOf l) l) n)

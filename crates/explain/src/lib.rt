@@ -168,7 +168,8 @@ fn same_pair(h: Hi, e: Hi) -> bool
 fn shares_block(u: User, v: User) -> bool
     ensures { λ r. ⌜ r ≡ (ltb (u .first) (v .first + v .count) && ltb (v .first) (u .first + u .count)) ⌝ }
 {
-    ((u.first as usize) < (v.first as usize) + (v.count as usize)) & ((v.first as usize) < (u.first as usize) + (u.count as usize))
+    ((u.first as usize) < (v.first as usize) + (v.count as usize))
+        & ((v.first as usize) < (u.first as usize) + (u.count as usize))
 }
 
 // Whether the command at a position has what is asked for.

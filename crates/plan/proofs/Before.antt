@@ -32,9 +32,12 @@ module _ {Q A : Type 0} {D : Q → Type 0} {asks : Q → A → Bool} where
   unfolding noneOf
   used-none used h = record { at = λ q d. sym (ap not (h q d)) }
 
-  used-more : {used : Q → Bool} {xs : List A} → UsedBefore D asks used xs → (x : A) (now : Q → Bool) → ((q : Q) → D q → now q ≡ used q || asks q x) → UsedBefore D asks now (xs ++ (x ∷ []))
+  used-more : {used : Q → Bool} {xs : List A} → UsedBefore D asks used xs → (x : A) (now : Q → Bool) →
+      ((q : Q) → D q → now q ≡ used q || asks q x) → UsedBefore D asks now (xs ++ (x ∷ []))
   used-more {used} {xs} s x now h =
-      record { at = λ q d. none-snoc (asks q) xs x ∙ ap (λ (t : Bool). t && not (asks q x)) (s .at q d) ∙ neither (used q) (asks q x) ∙ ap not (sym (h q d)) }
+      record {
+        at = λ q d. none-snoc (asks q) xs x ∙ ap (λ (t : Bool). t && not (asks q x)) (s .at q d) ∙ neither (used q) (asks q x) ∙ ap not (sym (h q d));
+      }
     where
       neither : (a b : Bool) → not a && not b ≡ not (a || b)
       neither true b = refl
@@ -93,17 +96,20 @@ set-free (x ∷ xs) (suc i) r n h l e = rw (set-free xs i r n h (le-of-suc-le-su
 -- ---- users
 pub users-none : (c : Cell) → UsersUsed c (replicate 104 0) (replicate 2 0) []
 users-none c =
-    used-none (λ (u : User). oneOf (u .rnti) (replicate 104 0) || meet (replicate 2 0) (blocksOf u)) (λ u i. rw (no-rnti 104 (u .rnti) (i .rnti)) refl)
+    used-none (λ (u : User). oneOf (u .rnti) (replicate 104 0) || meet (replicate 2 0) (blocksOf u))
+    (λ u i. rw (no-rnti 104 (u .rnti) (i .rnti)) refl)
 
 module _ (c : Cell) (ci : CellIn c) (u : User) (i : UserIn c u) (rntis blocks : List ℕ) {us : List User} where
-  pub users-more : UsersUsed c rntis blocks us → (m : ℕ) → m < length rntis → getD rntis m 0 ≡ 0 → UsersUsed c (set rntis m (u .rnti)) (joined blocks (blocksOf u)) (us ++ (u ∷ []))
+  pub users-more : UsersUsed c rntis blocks us → (m : ℕ) → m < length rntis → getD rntis m 0 ≡ 0 →
+      UsersUsed c (set rntis m (u .rnti)) (joined blocks (blocksOf u)) (us ++ (u ∷ []))
   unfolding clash
   users-more s m l free =
       used-more s u (λ (v : User). oneOf (v .rnti) (set rntis m (u .rnti)) || meet (joined blocks (blocksOf u)) (blocksOf v))
       (λ v j.
       ap₂ (λ (a b : Bool). a || b) (set-free rntis m (u .rnti) (v .rnti) (j .rnti) l free)
       (meet-joined blocks (blocksOf u) (blocksOf v) (run-fits (v .first) (v .count))
-      ∙ ap (λ (t : Bool). meet blocks (blocksOf v) || t) (meet-runs (v .first) (v .count) (u .first) (u .count) (j .some) (omega (arith, j .last, blocks-most c ci)) (i .some)))
+      ∙ ap (λ (t : Bool). meet blocks (blocksOf v) || t)
+      (meet-runs (v .first) (v .count) (u .first) (u .count) (j .some) (omega (arith, j .last, blocks-most c ci)) (i .some)))
       ∙ or-four (oneOf (v .rnti) rntis) (eqb (v .rnti) (u .rnti)) (meet blocks (blocksOf v)) (overlap (v .first) (v .count) (u .first) (u .count)))
 
 -- ---- as the code tests them, with the tables of what was used before
@@ -115,7 +121,8 @@ module _ (c : Cell) (pairs : List ℕ) (h : Hi) {o : Bool} (eo : o ≡ hiOk c h)
   pub hi-word : cellOk c ≡ true → o ≡ true → {k : ℕ} → k ≡ pairOf h → k / 64 < 7
   hi-word ok t ek = rw ek (pair-word c (cell-in c ok) h (hi-in c h (sym eo ∙ t)))
 
-  pub hi-tested : o ≡ true → {k : ℕ} → k ≡ pairOf h → {p : Bool} → p ≡ member pairs k → (hs : List Hi) → PairsUsed c pairs hs → need (not p) HiField Nothing ≡ hiFault c hs h
+  pub hi-tested : o ≡ true → {k : ℕ} → k ≡ pairOf h → {p : Bool} → p ≡ member pairs k →
+      (hs : List Hi) → PairsUsed c pairs hs → need (not p) HiField Nothing ≡ hiFault c hs h
   unfolding hiFault
   hi-tested t ek ep hs s = rw (← eo, t, s .at h (hi-in c h (sym eo ∙ t)), ep, ek) refl
 
@@ -129,6 +136,7 @@ module _ (c : Cell) (rntis blocks : List ℕ) (u : User) {o : Bool} (eo : o ≡ 
     unfolding userFault
     user-used t us s = rw (← eo, to, s .at u (user-in c u (sym eo ∙ to)), ← ep, t) refl
 
-    pub user-tested : p ≡ false → {own : List ℕ} → own ≡ blocksOf u → {q : Bool} → q ≡ meet blocks own → (us : List User) → UsersUsed c rntis blocks us → need (not q) Used Nothing ≡ userFault c us u
+    pub user-tested : p ≡ false → {own : List ℕ} → own ≡ blocksOf u → {q : Bool} → q ≡ meet blocks own →
+        (us : List User) → UsersUsed c rntis blocks us → need (not q) Used Nothing ≡ userFault c us u
     unfolding userFault
     user-tested f en eq us s = rw (← eo, to, s .at u (user-in c u (sym eo ∙ to)), ← ep, f, eq, en) refl

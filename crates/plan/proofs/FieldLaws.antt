@@ -15,7 +15,8 @@ use Rattle.plan.specs.declared.User.{User}
 pub bytes-mul : (a b : ℕ) → a < 256 → b < 256 → a * b ≤ 65025
 bytes-mul a b ha hb = mul-le-mul {n₂ = 255} {m₂ = 255} (omega arith) (omega arith)
 
-pub cell-fields : (c : Cell) {b p s : Bool} → b ≡ oneOf (c .blocks) widths → p ≡ oneOf (c .ports) portCounts → s ≡ oneOf (c .sixths) sixthCounts → leb (c .identity) 503 && b && leb (c .prefix) 1 && p && s ≡ cellOk c
+pub cell-fields : (c : Cell) {b p s : Bool} → b ≡ oneOf (c .blocks) widths → p ≡ oneOf (c .ports) portCounts → s ≡ oneOf (c .sixths) sixthCounts →
+    leb (c .identity) 503 && b && leb (c .prefix) 1 && p && s ≡ cellOk c
 unfolding cellOk
 cell-fields c eb ep es = rw (eb, ep, es) refl
 
@@ -45,6 +46,7 @@ pub hi-fields : (c : Cell) (h : Hi) {g q : ℕ} → g ≡ groupsOf c → q ≡ s
 unfolding hiOk
 hi-fields c h eg eq = rw (eg, eq) refl
 
-pub user-fields : (c : Cell) (u : User) {o : Bool} → u .rnti ≤ 65535 → o ≡ oneOf (u .order) orders → leb 1 (u .rnti) && o && leb 1 (u .count) && leb (u .first + u .count) (c .blocks) ≡ userOk c u
+pub user-fields : (c : Cell) (u : User) {o : Bool} → u .rnti ≤ 65535 → o ≡ oneOf (u .order) orders →
+    leb 1 (u .rnti) && o && leb 1 (u .count) && leb (u .first + u .count) (c .blocks) ≡ userOk c u
 unfolding userOk
-user-fields c u m eo = rw (eo, le-leb (u .rnti) 65535 m) (ap (λ (t : Bool). t && oneOf (u .order) orders && leb 1 (u .count) && leb (u .first + u .count) (c .blocks)) (sym (and-true (leb 1 (u .rnti)))))
+user-fields c u m eo = rw (eo, le-leb (u .rnti) 65535 m, and-true (leb 1 (u .rnti))) refl

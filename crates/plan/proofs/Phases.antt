@@ -26,7 +26,9 @@ use Rattle.plan.specs.declared.Checked.the-variants.{Refused as refused}
 use Rattle.plan.proofs.Entries.{told}
 use Rattle.plan.proofs.Reading.{no-hi-stands, no-user-stands}
 use Rattle.plan.proofs.RowLaws.{row-length, past-none}
-use Rattle.plan.proofs.Turns.{Standing, standing-first, on-no-lists, hi-refused, hi-next, hi-room, standing-hi, on-more-his, hi-turn, user-refused, user-next, user-room, standing-user, on-more-users, user-turn}
+use Rattle.plan.proofs.Turns.{Standing, standing-first, on-no-lists}
+use Rattle.plan.proofs.Turns.{hi-refused, hi-next, hi-room, standing-hi, on-more-his, hi-turn}
+use Rattle.plan.proofs.Turns.{user-refused, user-next, user-room, standing-user, on-more-users, user-turn}
 use Rattle.plan.proofs.FaultLaws.{hi-in-range, user-in-range}
 use Rattle.plan.proofs.Kept.{cell-in, hi-in, user-in, Kept, kept-first, kept-user}
 use Rattle.plan.proofs.Counts.{blocks-most, few-users}
@@ -49,9 +51,12 @@ his-first w c start h =
     }
 
 -- the last HI is behind
-pub his-done : {w : List ℕ} {c : Cell} {start n at : ℕ} {pairs : List ℕ} → HisGoing w c start n at pairs → {b : Bool} → b ≡ standsAt 0x20 (drop at w) → b ≡ false → HisRead w c start (Count n)
+pub his-done : {w : List ℕ} {c : Cell} {start n at : ℕ} {pairs : List ℕ} → HisGoing w c start n at pairs →
+    {b : Bool} → b ≡ standsAt 0x20 (drop at w) → b ≡ false → HisRead w c start (Count n)
 his-done {w} {c} {start} {n} {at} g eb f =
-    subst (λ (x : ℕ). HisPast w start n x × ((f : Frame) → run (bodyState w c f start n x 0) (commands (drop x w)) ≡ bodyRun w c f start)) (g .standing .mid-at)
+    subst
+    (λ (x : ℕ). HisPast w start n x × ((f : Frame) → run (bodyState w c f start n x 0) (commands (drop x w)) ≡ bodyRun w c f start))
+    (g .standing .mid-at)
     (record { his-end = g .standing .his-end; room = g .standing .room; no-hi = no-hi-stands (drop at w) (sym eb ∙ f) }, g .same)
 
 -- at the HI h, with its fault q
@@ -104,7 +109,8 @@ pub record UsersGoing (w : List ℕ) (c : Cell) (f : Frame) (start n mid m at : 
   pub kept : Kept c [] (usersFrom (drop mid w) m)
   pub used : UsersUsed c rntis blocks (usersFrom (drop mid w) m)
 
-pub users-first : (w : List ℕ) (c : Cell) (f : Frame) (start n mid : ℕ) → HisPast w start n mid → mid ≡ start + 3 * n → UsersGoing w c f start n mid 0 mid (replicate 104 0) (replicate 2 0)
+pub users-first : (w : List ℕ) (c : Cell) (f : Frame) (start n mid : ℕ) → HisPast w start n mid → mid ≡ start + 3 * n →
+    UsersGoing w c f start n mid 0 mid (replicate 104 0) (replicate 2 0)
 users-first w c f start n mid p e =
     record {
       standing = record { his-end = p .his-end; users-end = sym (past-none 0 (drop mid w) refl); mid-at = e; behind = omega arith; room = p .room };
@@ -118,7 +124,9 @@ users-first w c f start n mid p e =
     }
 
 -- the last USER is behind
-pub users-done : {w : List ℕ} {c : Cell} {f : Frame} {start n mid m at : ℕ} {rntis blocks : List ℕ} → UsersGoing w c f start n mid m at rntis blocks → HisPast w start n mid → {b : Bool} → b ≡ standsAt 0x30 (drop at w) → b ≡ false → EndDue w (record { cell = c; frame = f; his = record { at = start; count = n }; users = record { at = mid; count = m } }) at
+pub users-done : {w : List ℕ} {c : Cell} {f : Frame} {start n mid m at : ℕ} {rntis blocks : List ℕ} → UsersGoing w c f start n mid m at rntis blocks →
+    HisPast w start n mid → {b : Bool} → b ≡ standsAt 0x30 (drop at w) → b ≡ false →
+    EndDue w (record { cell = c; frame = f; his = record { at = start; count = n }; users = record { at = mid; count = m } }) at
 users-done {w} {at = at} g p eb t =
     record {
       mid-at = g .standing .mid-at;
@@ -141,7 +149,8 @@ module _ {w : List ℕ} {c : Cell} {f : Frame} {start n mid m at : ℕ} {rntis b
   pub users-refused : {r : Refusal} → q ≡ Is r → refused r ≡ run (bodyState w c f start n mid 0) (commands (drop mid w))
   users-refused {r} e = sym (user-refused w c f start n mid m at u (z .there) r (sym e ∙ z .fault)) ∙ z .going .same
 
-  pub users-again : q ≡ Nothing → {own : List ℕ} → own ≡ blocksOf u → {now : List ℕ} → now ≡ joined blocks own → {to : ℕ} → to ≡ nextOf w at → UsersGoing w c f start n mid (m + 1) to (set rntis m (u .rnti)) now
+  pub users-again : q ≡ Nothing → {own : List ℕ} → own ≡ blocksOf u → {now : List ℕ} → now ≡ joined blocks own →
+      {to : ℕ} → to ≡ nextOf w at → UsersGoing w c f start n mid (m + 1) to (set rntis m (u .rnti)) now
   users-again e eo {now} en {to} et =
       let g = z .going in
       let ci = cell-in c (z .ok) in
@@ -149,7 +158,8 @@ module _ {w : List ℕ} {c : Cell} {f : Frame} {start n mid m at : ℕ} {rntis b
       let range = user-in c u (user-in-range c (usersFrom (drop mid w) m) u none) in
       let s : now ≡ joined blocks (blocksOf u) = en ∙ ap (joined blocks) eo in
       let place : m < length rntis = omega (arith, g .places, g .few) in
-      let k : Kept c [] (usersFrom (drop mid w) (m + 1)) = on-more-users w c f start n mid m at u (z .there) (g .standing) to et (Kept c []) (kept-user (g .kept) u none) in
+      let k : Kept c [] (usersFrom (drop mid w) (m + 1)) =
+      on-more-users w c f start n mid m at u (z .there) (g .standing) to et (Kept c []) (kept-user (g .kept) u none) in
       record {
         standing = standing-user w c f start n mid m at u (z .there) (g .standing) to et;
         same = sym (user-turn w c f start n mid m at u (z .there) (g .standing) to et none) ∙ g .same;

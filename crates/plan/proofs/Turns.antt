@@ -157,8 +157,9 @@ module _ (w : List ℕ) (c : Cell) (f : Frame) (start n mid m at : ℕ) where
             ∙ sym (row-more hiOf n (drop start w))
 
         -- what holds of the HIs with this one, and of the USERs, of which there are none
-        pub on-more-his : (F : List Hi → List User → Type 0) → F (hisFrom (drop start w) n ++ (h ∷ [])) (usersFrom (drop mid w) m) → F (hisFrom (drop start w) (n + 1)) (usersFrom (drop (mid + 3) w) m)
-        on-more-his F x = subst (λ (hs : List Hi). F hs (usersFrom (drop (mid + 3) w) m)) more-his (subst (F (hisFrom (drop start w) n ++ (h ∷ []))) (row-none userOf (drop mid w) (drop (mid + 3) w) m none) x)
+        pub on-more-his : (F : List Hi → List User → Type 0) → F (hisFrom (drop start w) n ++ (h ∷ [])) (usersFrom (drop mid w) m) →
+            F (hisFrom (drop start w) (n + 1)) (usersFrom (drop (mid + 3) w) m)
+        on-more-his F x = rw (← more-his) (rw (row-none userOf (drop mid w) (drop (mid + 3) w) m none) at x)
 
         after-hi : stateAfter St (hi h) ≡ bodyState w c f start (n + 1) (mid + 3) m
         unfolding stateAfter bodyState

@@ -26,7 +26,13 @@ ones-requires-4 : tie.Need-ones-requires-4
 ones-requires-4 c κs = search needs
 
 returns : tie.Need-returns
-returns c = run-made (c .before .before .before .before .before .wide .ensures) (c .before .before .before .before .wide2 .ensures) (c .before .before .before .ones .ensures) (c .before .before .ones2 .ensures) (c .before .ones3 .ensures) (c .ones4 .ensures)
+returns c =
+    let at-ones3 = c .before in
+    let at-ones2 = at-ones3 .before in
+    let at-ones = at-ones2 .before in
+    let at-wide2 = at-ones .before in
+    let at-wide = at-wide2 .before in
+    run-made (at-wide .wide .ensures) (at-wide2 .wide2 .ensures) (at-ones .ones .ensures) (at-ones2 .ones2 .ensures) (at-ones3 .ones3 .ensures) (c .ones4 .ensures)
 
 pub run-of-spec : {M : Type 1} → statement M
 run-of-spec =

@@ -30,8 +30,9 @@ returns : tie.Need-returns Inv-loop μ-loop
 returns c =
     let at-shares = c .before in
     let at-loop = at-shares .before .before in
-    let at-args = at-loop .before .before in
-    scan-found (λ (x : List ℕ). x) (sharesAt (at-args .args .a)) (at-args .args .plan .now) (at-loop .loop .at) _ refl _ (at-shares .shares .ensures) (at-loop .loop .left) (omega arith) (c .if1 .taken) ∙ at-loop .loop .inv
+    let a = at-loop .before .before .args .a in
+    let w = at-loop .before .before .args .plan .now in
+    scan-found (λ (x : List ℕ). x) (sharesAt a) w (at-loop .loop .at) _ refl _ (at-shares .shares .ensures) (at-loop .loop .left) (omega arith) (c .if1 .taken) ∙ at-loop .loop .inv
 
 next-at-requires : tie.Need-next-at-requires Inv-loop μ-loop
 next-at-requires c κs = tt
@@ -47,14 +48,16 @@ loop-again c =
     let at-if1 = c .before in
     let at-shares = at-if1 .before in
     let at-loop = at-shares .before .before in
-    let at-args = at-loop .before .before in
-    scan-passed (λ (x : List ℕ). x) (sharesAt (at-args .args .a)) (at-args .args .plan .now) (at-loop .loop .at) _ refl _ (at-shares .shares .ensures) (at-loop .loop .left) (omega arith) (at-if1 .if1 .left) _ (c .next-at .ensures) ∙ at-loop .loop .inv
+    let a = at-loop .before .before .args .a in
+    let w = at-loop .before .before .args .plan .now in
+    scan-passed (λ (x : List ℕ). x) (sharesAt a) w (at-loop .loop .at) _ refl _ (at-shares .shares .ensures) (at-loop .loop .left) (omega arith) (at-if1 .if1 .left) _ (c .next-at .ensures) ∙ at-loop .loop .inv
 
 returns-2 : tie.Need-returns-2 Inv-loop μ-loop
 returns-2 c =
     let at-loop = c .before in
-    let at-args = at-loop .before .before in
-    scan-left (λ (x : List ℕ). x) (sharesAt (at-args .args .a)) (at-args .args .plan .now) (at-loop .loop .at) (at-loop .loop .left) (omega arith) ∙ at-loop .loop .inv
+    let a = at-loop .before .before .args .a in
+    let w = at-loop .before .before .args .plan .now in
+    scan-left (λ (x : List ℕ). x) (sharesAt a) w (at-loop .loop .at) (at-loop .loop .left) (omega arith) ∙ at-loop .loop .inv
 
 pub fresh-spec : {M : Type 1} → statement M
 fresh-spec =

@@ -38,7 +38,8 @@ returns c =
     let at-hi-at = c .before in
     let at-a = at-hi-at .before .before in
     let at-args = at-a .before .before .before in
-    asked-as (at-args .args .a) (at-a .a .given .1) (drop (at-args .args .at) (at-args .args .plan .now)) (c .same-pair .ensures ∙ ap (samePair (at-a .a .given .0 .0)) (at-hi-at .hi-at .ensures))
+    asked-as (at-args .args .a) (at-a .a .given .1) (drop (at-args .args .at) (at-args .args .plan .now))
+    (c .same-pair .ensures ∙ ap (samePair (at-a .a .given .0 .0)) (at-hi-at .hi-at .ensures))
 
 returns-2 : tie.Need-returns-2
 unfolding sameRnti
@@ -46,7 +47,8 @@ returns-2 c =
     let at-user-at = c .before .before in
     let at-a2 = at-user-at .before .before in
     let at-args = at-a2 .before .before .before in
-    asked-as (at-args .args .a) (at-a2 .a2 .given .1) (drop (at-args .args .at) (at-args .args .plan .now)) (ap (sameRnti (at-a2 .a2 .given .0 .0)) (at-user-at .user-at .ensures))
+    asked-as (at-args .args .a) (at-a2 .a2 .given .1) (drop (at-args .args .at) (at-args .args .plan .now))
+    (ap (sameRnti (at-a2 .a2 .given .0 .0)) (at-user-at .user-at .ensures))
 
 returns-3 : tie.Need-returns-3
 unfolding sharesBlock
@@ -54,7 +56,8 @@ returns-3 c =
     let at-user-at2 = c .before in
     let at-a3 = at-user-at2 .before .before in
     let at-args = at-a3 .before .before .before in
-    asked-as (at-args .args .a) (at-a3 .a3 .given .1) (drop (at-args .args .at) (at-args .args .plan .now)) (c .shares-block .ensures ∙ ap (sharesBlock (at-a3 .a3 .given .0 .0)) (at-user-at2 .user-at2 .ensures))
+    asked-as (at-args .args .a) (at-a3 .a3 .given .1) (drop (at-args .args .at) (at-args .args .plan .now))
+    (c .shares-block .ensures ∙ ap (sharesBlock (at-a3 .a3 .given .0 .0)) (at-user-at2 .user-at2 .ensures))
 
 pub shares-spec : {M : Type 1} → statement M
 shares-spec =

@@ -23,7 +23,11 @@ one-of-requires-3 : tie.Need-one-of-requires-3
 one-of-requires-3 c κs = search needs
 
 returns : tie.Need-returns
-returns c = cell-fields (c .before .before .before .before .before .before .before .before .args .c) (c .before .before .before .before .before .one-of .ensures) (c .before .before .one-of2 .ensures) (c .one-of3 .ensures)
+returns c =
+    let at-one-of2 = c .before .before in
+    let at-one-of = at-one-of2 .before .before .before in
+    let at-args = at-one-of .before .before .before in
+    cell-fields (at-args .args .c) (at-one-of .one-of .ensures) (at-one-of2 .one-of2 .ensures) (c .one-of3 .ensures)
 
 pub cell-ok-spec : {M : Type 1} → statement M
 cell-ok-spec =

@@ -29,17 +29,22 @@ hi-fault-requires : tie.Need-hi-fault-requires Inv-loop μ-loop
 hi-fault-requires c κs = c .before .before .before .before .before .before .pre .1
 
 -- the HI at the loop's position, and its fault
-turn : (c : tie.After-hi-fault Inv-loop μ-loop) → AtHi (c .before .before .before .before .before .before .before .args .plan .now) (c .before .before .before .before .before .before .before .args .cell) (c .before .before .before .before .before .before .before .args .start) (c .before .before .before .before .before .loop .count) (c .before .before .before .before .before .loop .at) (c .before .before .before .before .before .loop .pairs) (c .before .before .hi-at .result) (c .hi-fault .result)
+turn : (c : tie.After-hi-fault Inv-loop μ-loop) →
+    let h = c .before .before .hi-at .result in
+    let i = c .before .before .before .before .before .loop in
+    let a = c .before .before .before .before .before .before .before .args in
+    AtHi (a .plan .now) (a .cell) (a .start) (i .count) (i .at) (i .pairs) h (c .hi-fault .result)
 turn c =
     let at-hi-at = c .before .before in
     let at-stands = at-hi-at .before .before in
     let at-loop = at-stands .before in
     let at-args = at-loop .before .before in
+    let w = at-args .args .plan .now in
     record {
       going = at-loop .loop .inv;
       ok = at-args .pre .1;
-      there = stands-hi (drop (at-loop .loop .at) (at-args .args .plan .now)) (at-stands .stands .ensures) (at-hi-at .before .if1 .taken) (at-hi-at .hi-at .ensures);
-      fault = c .hi-fault .ensures (hisFrom (drop (at-args .args .start) (at-args .args .plan .now)) (at-loop .loop .count)) (at-loop .loop .inv .used);
+      there = stands-hi (drop (at-loop .loop .at) w) (at-stands .stands .ensures) (at-hi-at .before .if1 .taken) (at-hi-at .hi-at .ensures);
+      fault = c .hi-fault .ensures (hisFrom (drop (at-args .args .start) w) (at-loop .loop .count)) (at-loop .loop .inv .used);
     }
 
 enum-told : tie.Need-enum-told Inv-loop μ-loop
@@ -64,7 +69,12 @@ loop-less : tie.Need-loop-less Inv-loop μ-loop
 loop-less c = his-less (turn (c .before .before .before .before .before .before .before)) (c .next-at .ensures)
 
 loop-again : tie.Need-loop-again Inv-loop μ-loop
-loop-again c = his-again (turn (c .before .before .before .before .before .before .before)) (c .before .before .before .before .before .enum-told .given .1) (c .before .before .before .pair-of .ensures) (c .before .before .add .ensures) (c .next-at .ensures)
+loop-again c =
+    let at-add = c .before .before in
+    let at-pair-of = at-add .before in
+    let at-enum-told = at-pair-of .before .before in
+    let at-before = at-enum-told .before in
+    his-again (turn (at-before .before)) (at-enum-told .enum-told .given .1) (at-pair-of .pair-of .ensures) (at-add .add .ensures) (c .next-at .ensures)
 
 enum-known-r : tie.Need-enum-known-r Inv-loop μ-loop
 enum-known-r c = search needs

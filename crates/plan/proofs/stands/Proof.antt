@@ -14,7 +14,10 @@ byte-at-requires : tie.Need-byte-at-requires
 byte-at-requires c κs = search needs
 
 returns : tie.Need-returns
-returns c = stands-made (c .before .before .before .args .plan .now) (c .before .before .before .args .at) (c .before .before .before .args .code) (c .before .size-of .ensures) (c .byte-at .ensures)
+returns c =
+    let at-size-of = c .before in
+    let at-args = at-size-of .before .before in
+    stands-made (at-args .args .plan .now) (at-args .args .at) (at-args .args .code) (at-size-of .size-of .ensures) (c .byte-at .ensures)
 
 pub stands-spec : {M : Type 1} → statement M
 stands-spec = tie.close (tie.spec size-of-requires sub-result byte-at-requires returns)

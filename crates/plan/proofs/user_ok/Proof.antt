@@ -24,7 +24,10 @@ cast-result-3 : tie.Need-cast-result-3
 cast-result-3 c = search needs
 
 returns : tie.Need-returns
-returns c = user-fields (c .before .before .before .before .before .before .before .args .c) (c .before .before .before .before .before .before .before .args .u) (omega arith) (c .before .before .before .before .one-of .ensures)
+returns c =
+    let at-one-of = c .before .before .before .before in
+    let at-args = at-one-of .before .before .before in
+    user-fields (at-args .args .c) (at-args .args .u) (omega arith) (at-one-of .one-of .ensures)
 
 pub user-ok-spec : {M : Type 1} → statement M
 user-ok-spec =

@@ -23,7 +23,9 @@ add-mid : tie.Need-add-mid Inv-loop μ-loop
 add-mid c = omega (arith, c .before .pre .0 .room)
 
 loop-holds : tie.Need-loop-holds Inv-loop μ-loop
-loop-holds c = users-first (c .before .args .plan .now) (c .before .args .cell) (c .before .args .frame) (c .before .args .start) (c .before .args .his) _ (c .before .pre .0) refl
+loop-holds c =
+    let at-args = c .before in
+    users-first (at-args .args .plan .now) (at-args .args .cell) (at-args .args .frame) (at-args .args .start) (at-args .args .his) _ (at-args .pre .0) refl
 
 stands-requires : tie.Need-stands-requires Inv-loop μ-loop
 stands-requires c κs = c .loop .inv .standing .room
@@ -35,17 +37,23 @@ user-fault-requires : tie.Need-user-fault-requires Inv-loop μ-loop
 user-fault-requires c κs = tt
 
 -- the USER at the loop's position, and its fault
-turn : (c : tie.After-user-fault Inv-loop μ-loop) → AtUser (c .before .before .before .before .before .before .before .before .args .plan .now) (c .before .before .before .before .before .before .before .before .args .cell) (c .before .before .before .before .before .before .before .before .args .frame) (c .before .before .before .before .before .before .before .before .args .start) (c .before .before .before .before .before .before .before .before .args .his) (c .before .before .before .before .before .before .before .before .args .start + 3 * c .before .before .before .before .before .before .before .before .args .his) (c .before .before .before .before .before .before .loop .users) (c .before .before .before .before .before .before .loop .at) (c .before .before .before .before .before .before .loop .rntis) (c .before .before .before .before .before .before .loop .blocks) (c .before .before .before .user-at .result) (c .user-fault .result)
+turn : (c : tie.After-user-fault Inv-loop μ-loop) →
+    let u = c .before .before .before .user-at .result in
+    let i = c .before .before .before .before .before .before .loop in
+    let a = c .before .before .before .before .before .before .before .before .args in
+    AtUser (a .plan .now) (a .cell) (a .frame) (a .start) (a .his) (a .start + 3 * a .his) (i .users) (i .at) (i .rntis) (i .blocks) u (c .user-fault .result)
 turn c =
     let at-user-at = c .before .before .before in
     let at-stands = at-user-at .before .before in
     let at-loop = at-stands .before in
     let at-args = at-loop .before .before in
+    let w = at-args .args .plan .now in
+    let mid = at-args .args .start + 3 * at-args .args .his in
     record {
       going = at-loop .loop .inv;
       ok = at-args .pre .1;
-      there = stands-user (drop (at-loop .loop .at) (at-args .args .plan .now)) (at-stands .stands .ensures) (at-user-at .before .if1 .taken) (at-user-at .user-at .ensures);
-      fault = c .user-fault .ensures (usersFrom (drop (at-args .args .start + 3 * at-args .args .his) (at-args .args .plan .now)) (at-loop .loop .users)) (at-loop .loop .inv .used);
+      there = stands-user (drop (at-loop .loop .at) w) (at-stands .stands .ensures) (at-user-at .before .if1 .taken) (at-user-at .user-at .ensures);
+      fault = c .user-fault .ensures (usersFrom (drop mid w) (at-loop .loop .users)) (at-loop .loop .inv .used);
     }
 
 enum-told : tie.Need-enum-told Inv-loop μ-loop
@@ -73,7 +81,12 @@ loop-less : tie.Need-loop-less Inv-loop μ-loop
 loop-less c = users-less (turn (c .before .before .before .before .before .before .before)) (c .next-at .ensures)
 
 loop-again : tie.Need-loop-again Inv-loop μ-loop
-loop-again c = users-again (turn (c .before .before .before .before .before .before .before)) (c .before .before .before .before .before .enum-told .given .1) (c .before .before .before .before .blocks-of .ensures) (c .before .join .ensures) (c .next-at .ensures)
+loop-again c =
+    let at-join = c .before in
+    let at-blocks-of = at-join .before .before .before in
+    let at-enum-told = at-blocks-of .before in
+    let at-before = at-enum-told .before in
+    users-again (turn (at-before .before)) (at-enum-told .enum-told .given .1) (at-blocks-of .blocks-of .ensures) (at-join .join .ensures) (c .next-at .ensures)
 
 enum-known-r : tie.Need-enum-known-r Inv-loop μ-loop
 enum-known-r c = search needs
@@ -82,7 +95,11 @@ returns : tie.Need-returns Inv-loop μ-loop
 returns c = users-refused (turn (c .before .before .before)) (c .before .r .given .1)
 
 finish-requires : tie.Need-finish-requires Inv-loop μ-loop
-finish-requires c κs = users-done (c .before .before .loop .inv) (c .before .before .before .before .pre .0) (c .before .stands .ensures) (c .if1 .left)
+finish-requires c κs =
+    let at-stands = c .before in
+    let at-loop = at-stands .before in
+    let at-pre = at-loop .before .before in
+    users-done (at-loop .loop .inv) (at-pre .pre .0) (at-stands .stands .ensures) (c .if1 .left)
 
 returns-2 : tie.Need-returns-2 Inv-loop μ-loop
 returns-2 c = c .finish .ensures ∙ c .before .before .before .loop .inv .same
