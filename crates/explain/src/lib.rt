@@ -1,13 +1,14 @@
 // Why a plan is refused (document 01, Plan and payload; Refusals 1 to 7): which command, at which byte of the plan, and the first of its
 // fields that has the fault.
 ghost use mathlib.Core.Path.{_≡_};
-ghost use Prim.Native.Nat.{_+_, _≤_, _<_};
+ghost use Prim.Native.Nat.{_+_, _<_};
+ghost use mathlib.Core.Bool.{_&&_};
+ghost use lib.Dec.{eqb, ltb};
 ghost use lib.ListN.{drop};
-ghost use Rattle.plan.specs.Lists.{noneOf};
 ghost use Rattle.plan.specs.Check.{due as dueOf};
 ghost use Rattle.plan.specs.Rows.{nextOf, hisFrom, usersFrom};
-ghost use Rattle.explain.specs.Finding.{causeRefusal, cellCause, frameCause, hiCause, sameRnti, userCause, brokenCause, inOrder, fieldCause, causeAt, refusedAt, findingOf};
-ghost use Rattle.explain.specs.Steps.{beginning, stepTo};
+ghost use Rattle.explain.specs.Finding.{causeRefusal, cellCause, frameCause, hiCause, userCause, brokenCause, inOrder, fieldCause, causeAt, refusedAt, findingOf};
+ghost use Rattle.explain.specs.Steps.{beginning, stepTo, sharesAt, freshOf};
 use plan::Cell;
 use plan::Command;
 use plan::Frame;
@@ -46,6 +47,13 @@ pub enum Cause {
     // Refusal 7.
     RntiUsed,
     BlockUsed,
+}
+
+// What the commands before are asked for: an HI's pair, a USER's RNTI, a USER's blocks.
+enum Asked {
+    Pair(Hi),
+    Rnti(User),
+    Block(User),
 }
 
 enum Reason {
@@ -150,6 +158,50 @@ fn frame_cause(f: Frame) -> Reason
     Reason::Nothing
 }
 
+fn same_pair(h: Hi, e: Hi) -> bool
+    ensures { λ r. ⌜ r ≡ (eqb (h .group) (e .group) && eqb (h .sequence) (e .sequence)) ⌝ }
+{
+    (h.group == e.group) & (h.sequence == e.sequence)
+}
+
+// Whether two users have a block in common.
+fn shares_block(u: User, v: User) -> bool
+    ensures { λ r. ⌜ r ≡ (ltb (u .first) (v .first + v .count) && ltb (v .first) (u .first + u .count)) ⌝ }
+{
+    ((u.first as usize) < (v.first as usize) + (v.count as usize))
+        & ((v.first as usize) < (u.first as usize) + (u.count as usize))
+}
+
+// Whether the command at a position has what is asked for.
+fn shares(plan: &[u8], at: usize, a: Asked) -> bool
+    ensures { λ r. ⌜ r ≡ sharesAt a (drop at (now (plan .entry))) ⌝ }
+{
+    match a {
+        Asked::Pair(h) => same_pair(h, plan::hi_at(plan, at)),
+        Asked::Rnti(u) => {
+            let v = plan::user_at(plan, at);
+            u.rnti == v.rnti
+        }
+        Asked::Block(u) => shares_block(u, plan::user_at(plan, at)),
+    }
+}
+
+// Whether none of the count commands from position start on has what is asked for.
+fn fresh(plan: &[u8], start: usize, count: usize, a: Asked) -> bool
+    ensures { λ r. ⌜ r ≡ freshOf a (drop start (now (plan .entry))) count ⌝ }
+{
+    let mut at = start;
+    let mut left = count;
+    while 0 < left {
+        if shares(plan, at, a) {
+            return false;
+        }
+        at = plan::next_at(plan, at);
+        left = left - 1;
+    }
+    true
+}
+
 // The first cause of an HI after count HIs from position start on.
 fn hi_cause(plan: &[u8], cell: Cell, start: usize, count: usize, h: Hi) -> Reason
     ensures { λ r. ⌜ r ≡ hiCause cell (hisFrom (drop start (now (plan .entry))) count) h ⌝ }
@@ -160,27 +212,10 @@ fn hi_cause(plan: &[u8], cell: Cell, start: usize, count: usize, h: Hi) -> Reaso
     if plan::sequences(cell) <= h.sequence {
         return Reason::Is(Cause::Sequence);
     }
-    if !plan::fresh_pair(plan, start, count, h) {
+    if !fresh(plan, start, count, Asked::Pair(h)) {
         return Reason::Is(Cause::PairUsed);
     }
     Reason::Nothing
-}
-
-// Whether u's RNTI is that of none of the count USERs from position start on.
-fn fresh_rnti(plan: &[u8], start: usize, count: usize, u: User) -> bool
-    ensures { λ r. ⌜ r ≡ noneOf (sameRnti u) (usersFrom (drop start (now (plan .entry))) count) ⌝ }
-{
-    let mut at = start;
-    let mut left = count;
-    while 0 < left {
-        let v = plan::user_at(plan, at);
-        if u.rnti == v.rnti {
-            return false;
-        }
-        at = plan::next_at(plan, at);
-        left = left - 1;
-    }
-    true
 }
 
 // The first cause of a USER after count USERs from position start on.
@@ -199,10 +234,10 @@ fn user_cause(plan: &[u8], cell: Cell, start: usize, count: usize, u: User) -> R
     if (cell.blocks as usize) < (u.first as usize) + (u.count as usize) {
         return Reason::Is(Cause::LastBlock);
     }
-    if !fresh_rnti(plan, start, count, u) {
+    if !fresh(plan, start, count, Asked::Rnti(u)) {
         return Reason::Is(Cause::RntiUsed);
     }
-    if !plan::fresh_user(plan, start, count, u) {
+    if !fresh(plan, start, count, Asked::Block(u)) {
         return Reason::Is(Cause::BlockUsed);
     }
     Reason::Nothing

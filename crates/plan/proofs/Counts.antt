@@ -6,6 +6,7 @@ use mathlib.Core.List.{List}
 use native.Mathlib.Nat.{mul-le-mul}
 use native.Mathlib.Omega.{arith}
 use lib.Dec.{leb, leb→le, eqb}
+use lib.ListN.{length}
 use Rattle.plan.specs.Lists.{Every, Apart}
 use Rattle.plan.specs.Fields.{widths, portCounts, sixthCounts, unitsOf, groupsOf, sequencesOf}
 use Rattle.plan.specs.Check.{checkOf}
@@ -53,6 +54,14 @@ module _ (c : Cell) (h : CellIn c) where
       let product : 1 * 15 ≤ c .sixths * c .blocks = mul-le-mul sixths-least blocks-least in
       omega arith
 
+  pub groups-most : groupsOf c ≤ 50
+  unfolding groupsOf
+  groups-most = choose (λ (n : ℕ). n ≤ 50) (eqb (c .prefix) 1) (2 * unitsOf c) (unitsOf c) (λ t. omega (arith, units-most)) (λ t. omega (arith, units-most))
+
+  pub sequences-most : sequencesOf c ≤ 8
+  unfolding sequencesOf
+  sequences-most = choose (λ (n : ℕ). n ≤ 8) (eqb (c .prefix) 1) 4 8 (λ t. omega arith) (λ t. omega arith)
+
   -- the pairs (group, sequence)
   pub pairs-most : groupsOf c * sequencesOf c ≤ 200
   unfolding groupsOf sequencesOf
@@ -88,6 +97,13 @@ numbers : (c : Cell) → Numbers (sequencesOf c)
 unfolding sequencesOf
 numbers c = choose Numbers (eqb (c .prefix) 1) 4 8 (λ t. numbers-4) (λ t. numbers-8)
 
+-- different users have different first blocks
+pub few-users : (c : Cell) (us : List User) → Every (UserIn c) us → Apart Disjoint us → length us ≤ c .blocks
+few-users c us all apart =
+    few (λ (u : User). u .first) (c .blocks) us
+    (every-imp (UserIn c) (λ (u : User). u .first < c .blocks) (λ u i. omega (arith, i .some, i .last)) us all)
+    (apart-imp (UserIn c) Disjoint (Keys (λ (u : User). u .first)) (λ u t i j d z. d .blocks (u .first) (omega (arith, i .some)) (omega (arith, j .some))) us all apart)
+
 module _ (w : List ℕ) (p : Plan) (r : checkOf w ≡ accepted p) where
   pub his-few : p .his .count ≤ groupsOf (p .cell) * sequencesOf (p .cell)
   his-few =
@@ -102,15 +118,10 @@ module _ (w : List ℕ) (p : Plan) (r : checkOf w ≡ accepted p) where
   pub his-most : p .his .count ≤ 200
   his-most = omega (arith, his-few, pairs-most (p .cell) (valid w p r .cell))
 
-  -- different users have different first blocks
   pub users-few : p .users .count ≤ p .cell .blocks
   users-few =
       let v = valid w p r in
-      let all : Every (λ (u : User). u .first < p .cell .blocks) (usersOf w p) =
-      every-imp (UserIn (p .cell)) (λ (u : User). u .first < p .cell .blocks) (λ u i. omega (arith, i .some, i .last)) (usersOf w p) (v .users) in
-      let apart : Apart (Keys (λ (u : User). u .first)) (usersOf w p) =
-      apart-imp (UserIn (p .cell)) Disjoint (Keys (λ (u : User). u .first)) (λ u t i j d z. d .blocks (u .first) (omega (arith, i .some)) (omega (arith, j .some))) (usersOf w p) (v .users) (v .apart) in
-      omega (arith, few (λ (u : User). u .first) (p .cell .blocks) (usersOf w p) all apart, v .users-count)
+      omega (arith, few-users (p .cell) (usersOf w p) (v .users) (v .apart), v .users-count)
 
   pub users-most : p .users .count ≤ 100
   users-most = omega (arith, users-few, blocks-most (p .cell) (valid w p r .cell))

@@ -29,8 +29,8 @@ size-some l =
 abbrev pub Told : List ℕ → ℕ → Command → Type 0
 Told l k (cell c) = (c ≡ cellOf l) × (k ≡ 7) × (7 ≤ length l)
 Told l k (frame f) = (f ≡ frameOf l) × (k ≡ 5) × (5 ≤ length l)
-Told l k (hi h) = (h ≡ hiOf l) × (k ≡ 3) × (3 ≤ length l)
-Told l k (user u) = (u ≡ userOf l) × (6 ≤ k) × (k ≤ length l)
+Told l k (hi h) = (h ≡ hiOf l) × (k ≡ 3) × (3 ≤ length l) × (byte l 0 ≡ 0x20)
+Told l k (user u) = (u ≡ userOf l) × (6 ≤ k) × (k ≤ length l) × (byte l 0 ≡ 0x30)
 Told l k end = (byte l 0 ≡ 0) × (k ≡ 1) × (1 ≤ length l)
 Told l k broken = Unit {0}
 
@@ -42,9 +42,9 @@ entry-told l =
       (
         (λ c w. (refl, refl, w)),
         (
-          (λ c w. (refl, refl, w)),
+          (λ c w. (refl, refl, w, c)),
           (
-            (λ c w. (refl, omega arith, w)),
+            (λ c w. (refl, omega arith, w, c)),
             (
               (λ c w. (c, refl, w)),
               tt,

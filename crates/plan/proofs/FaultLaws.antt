@@ -1,10 +1,10 @@
--- The first fault of an HI and of a USER, by the tests that the code makes in turn. Assumes nothing.
+-- What an HI or a USER without a fault has passed. Assumes nothing.
 use Prim.Native.Nat.{ℕ}
 use mathlib.Core.Path.{_≡_, refl}
 use mathlib.Core.Bool.{Bool, true, false}
 use mathlib.Core.List.{List}
 use lib.Dec.{eqb}
-use borrow.Author.Tests.{eq-eqb, ne-eqb, eqb-true}
+use borrow.Author.Tests.{eqb-true}
 use Rattle.plan.specs.Lists.{noneOf}
 use Rattle.plan.specs.Fields.{hiOk, samePair, userOk, clash}
 use Rattle.plan.specs.Check.{need, hiFault, userFault}
@@ -14,7 +14,7 @@ use Rattle.plan.specs.declared.User.{User}
 use Rattle.plan.specs.declared.Refusal.{Refusal}
 use Rattle.plan.specs.declared.Refusal.the-variants.{Order, HiField, UserField, Used}
 use Rattle.plan.specs.declared.Fault.{Fault}
-use Rattle.plan.specs.declared.Fault.the-variants.{Nothing, Is}
+use Rattle.plan.specs.declared.Fault.the-variants.{Nothing}
 
 -- no fault: the test held, and there is none after it
 pub need-nothing : (t : Bool) (r : Refusal) (f : Fault) → Nothing ≡ need t r f → t ≡ true
@@ -28,23 +28,6 @@ need-next false r f e = cc
 module _ (c : Cell) (hs : List Hi) (h : Hi) (m : ℕ) where
   abbrev Its : Fault
   Its = need (eqb m 0) Order (hiFault c hs h)
-
-  pub hi-late : (m ≡ 0 → ⊥) → Is Order ≡ Its
-  hi-late k = rw (ne-eqb m 0 k) refl
-
-  module _ (k : m ≡ 0) (o : Bool) (eo : o ≡ hiOk c h) where
-    pub hi-bad : o ≡ false → Is HiField ≡ Its
-    unfolding hiFault
-    hi-bad f = rw (eq-eqb m 0 k, ← eo, f) refl
-
-    module _ (to : o ≡ true) (p : Bool) (ep : p ≡ noneOf (samePair h) hs) where
-      pub hi-used : p ≡ false → Is HiField ≡ Its
-      unfolding hiFault
-      hi-used f = rw (eq-eqb m 0 k, ← eo, to, ← ep, f) refl
-
-      pub hi-fine : p ≡ true → Nothing ≡ Its
-      unfolding hiFault
-      hi-fine f = rw (eq-eqb m 0 k, ← eo, to, ← ep, f) refl
 
   -- an HI without a fault stands before every USER, is in range and new
   module _ (q : Nothing ≡ Its) where
@@ -60,20 +43,6 @@ module _ (c : Cell) (hs : List Hi) (h : Hi) (m : ℕ) where
     hi-new = need-nothing (noneOf (samePair h) hs) HiField _ (need-next (hiOk c h) HiField _ (need-next (eqb m 0) Order _ q))
 
 module _ (c : Cell) (us : List User) (u : User) where
-  module _ (o : Bool) (eo : o ≡ userOk c u) where
-    pub user-bad : o ≡ false → Is UserField ≡ userFault c us u
-    unfolding userFault
-    user-bad f = rw (← eo, f) refl
-
-    module _ (to : o ≡ true) (p : Bool) (ep : p ≡ noneOf (clash u) us) where
-      pub user-used : p ≡ false → Is Used ≡ userFault c us u
-      unfolding userFault
-      user-used f = rw (← eo, to, ← ep, f) refl
-
-      pub user-fine : p ≡ true → Nothing ≡ userFault c us u
-      unfolding userFault
-      user-fine f = rw (← eo, to, ← ep, f) refl
-
   module _ (q : Nothing ≡ userFault c us u) where
     pub user-in-range : userOk c u ≡ true
     unfolding userFault

@@ -1,61 +1,24 @@
--- The tests of the commands' fields, by the tests that the code makes in turn. Assumes nothing.
+-- The tests of the commands' fields, as the code makes them. Assumes nothing.
 use Prim.Native.Nat.{ℕ, _+_, _*_, _≤_, _<_}
-use mathlib.Core.Path.{_≡_, refl}
-use mathlib.Core.Bool.{Bool, true, false}
+use mathlib.Core.Path.{_≡_, refl, sym, ap}
+use mathlib.Core.Bool.{Bool, _&&_, and-true}
 use native.Mathlib.Nat.{mul-le-mul}
 use native.Mathlib.Omega.{arith}
-use lib.Dec.{leb, ltb, eqb}
-use borrow.Author.Tests.{eq-eqb, ne-eqb, lt-ltb, le-ltb, le-leb, lt-leb}
+use lib.Dec.{leb, ltb}
+use borrow.Author.Tests.{eq-eqb, ne-eqb, le-leb}
 use Rattle.plan.specs.Lists.{oneOf}
-use Rattle.plan.specs.Fields.{widths, portCounts, sixthCounts, orders, cellOk, frameOk, unitsOf, groupsOf, sequencesOf, hiOk, samePair, userOk, clash}
+use Rattle.plan.specs.Fields.{widths, portCounts, sixthCounts, orders, cellOk, unitsOf, groupsOf, sequencesOf, hiOk, userOk}
 use Rattle.plan.specs.declared.Cell.{Cell}
-use Rattle.plan.specs.declared.Frame.{Frame}
 use Rattle.plan.specs.declared.Hi.{Hi}
 use Rattle.plan.specs.declared.User.{User}
 
 pub bytes-mul : (a b : ℕ) → a < 256 → b < 256 → a * b ≤ 65025
 bytes-mul a b ha hb = mul-le-mul {n₂ = 255} {m₂ = 255} (omega arith) (omega arith)
 
-module _ (c : Cell) where
-  pub cell-identity : 503 < c .identity → false ≡ cellOk c
-  unfolding cellOk
-  cell-identity h = simp (lt-leb _ _ h)
-
-  module _ (h : c .identity ≤ 503) (b : Bool) (eb : b ≡ oneOf (c .blocks) widths) where
-    pub cell-blocks : b ≡ false → false ≡ cellOk c
-    unfolding cellOk
-    cell-blocks f = simp (le-leb _ _ h, ← eb, f)
-
-    module _ (tb : b ≡ true) where
-      pub cell-prefix : 1 < c .prefix → false ≡ cellOk c
-      unfolding cellOk
-      cell-prefix k = simp (le-leb _ _ h, ← eb, tb, lt-leb _ _ k)
-
-      module _ (k : c .prefix ≤ 1) (p : Bool) (ep : p ≡ oneOf (c .ports) portCounts) where
-        pub cell-ports : p ≡ false → false ≡ cellOk c
-        unfolding cellOk
-        cell-ports f = simp (le-leb _ _ h, ← eb, tb, le-leb _ _ k, ← ep, f)
-
-        pub cell-sixths : p ≡ true → (s : Bool) → s ≡ oneOf (c .sixths) sixthCounts → s ≡ cellOk c
-        unfolding cellOk
-        cell-sixths tp s es = simp (le-leb _ _ h, ← eb, tb, le-leb _ _ k, ← ep, tp) es
-
-module _ (f : Frame) where
-  pub frame-number : 1023 < f .number → false ≡ frameOk f
-  unfolding frameOk
-  frame-number h = simp (lt-leb _ _ h)
-
-  pub frame-subframe : f .number ≤ 1023 → 9 < f .subframe → false ≡ frameOk f
-  unfolding frameOk
-  frame-subframe h k = simp (le-leb _ _ h, lt-leb _ _ k)
-
-  pub frame-none : f .number ≤ 1023 → f .subframe ≤ 9 → f .cfi < 1 → false ≡ frameOk f
-  unfolding frameOk
-  frame-none h k l = simp (le-leb _ _ h, le-leb _ _ k, lt-leb _ _ l)
-
-  pub frame-cfi : f .number ≤ 1023 → f .subframe ≤ 9 → 1 ≤ f .cfi → leb (f .cfi) 3 ≡ frameOk f
-  unfolding frameOk
-  frame-cfi h k l = simp (le-leb _ _ h, le-leb _ _ k, le-leb _ _ l)
+pub cell-fields : (c : Cell) {b p s : Bool} → b ≡ oneOf (c .blocks) widths → p ≡ oneOf (c .ports) portCounts → s ≡ oneOf (c .sixths) sixthCounts →
+    leb (c .identity) 503 && b && leb (c .prefix) 1 && p && s ≡ cellOk c
+unfolding cellOk
+cell-fields c eb ep es = rw (eb, ep, es) refl
 
 -- ---- PHICH counts
 pub units-fit : (c : Cell) → c .sixths < 256 → c .blocks < 256 → unitsOf c ≤ 1355
@@ -79,52 +42,11 @@ pub sequences-normal : (c : Cell) → (c .prefix ≡ 1 → ⊥) → 8 ≡ sequen
 unfolding sequencesOf
 sequences-normal c e = rw (ne-eqb (c .prefix) 1 e) refl
 
-module _ (c : Cell) (h : Hi) (g : ℕ) (eg : g ≡ groupsOf c) where
-  pub hi-beyond : g ≤ h .group → false ≡ hiOk c h
-  unfolding hiOk
-  hi-beyond k = simp (← eg, le-ltb _ _ k)
+pub hi-fields : (c : Cell) (h : Hi) {g q : ℕ} → g ≡ groupsOf c → q ≡ sequencesOf c → ltb (h .group) g && ltb (h .sequence) q ≡ hiOk c h
+unfolding hiOk
+hi-fields c h eg eq = rw (eg, eq) refl
 
-  pub hi-within : h .group < g → (q : ℕ) → q ≡ sequencesOf c → ltb (h .sequence) q ≡ hiOk c h
-  unfolding hiOk
-  hi-within k q eq = simp (← eg, lt-ltb _ _ k, ← eq)
-
-module _ (h e : Hi) where
-  pub pair-groups : h .group ≡ e .group → eqb (h .sequence) (e .sequence) ≡ samePair h e
-  unfolding samePair
-  pair-groups p = rw (eq-eqb (h .group) (e .group) p) refl
-
-  pub pair-other : (h .group ≡ e .group → ⊥) → false ≡ samePair h e
-  unfolding samePair
-  pair-other p = rw (ne-eqb (h .group) (e .group) p) refl
-
-module _ (c : Cell) (u : User) where
-  pub user-rnti : u .rnti < 1 → false ≡ userOk c u
-  unfolding userOk
-  user-rnti h = simp (lt-leb _ _ h)
-
-  module _ (h : 1 ≤ u .rnti) (m : u .rnti ≤ 65535) (o : Bool) (eo : o ≡ oneOf (u .order) orders) where
-    pub user-order : o ≡ false → false ≡ userOk c u
-    unfolding userOk
-    user-order f = simp (le-leb _ _ h, le-leb _ _ m, ← eo, f)
-
-    module _ (to : o ≡ true) where
-      pub user-count : u .count < 1 → false ≡ userOk c u
-      unfolding userOk
-      user-count k = simp (le-leb _ _ h, le-leb _ _ m, ← eo, to, lt-leb _ _ k)
-
-      pub user-blocks : 1 ≤ u .count → leb (u .first + u .count) (c .blocks) ≡ userOk c u
-      unfolding userOk
-      user-blocks k = simp (le-leb _ _ h, le-leb _ _ m, ← eo, to, le-leb _ _ k)
-
-module _ (u v : User) where
-  pub clash-rnti : u .rnti ≡ v .rnti → true ≡ clash u v
-  unfolding clash
-  clash-rnti e = rw (eq-eqb (u .rnti) (v .rnti) e) refl
-
-  pub clash-blocks : (u .rnti ≡ v .rnti → ⊥) → u .first < v .first + v .count → ltb (v .first) (u .first + u .count) ≡ clash u v
-  unfolding clash
-  clash-blocks h k = simp (ne-eqb _ _ h, lt-ltb _ _ k)
-
-  pub clash-not : (u .rnti ≡ v .rnti → ⊥) → v .first + v .count ≤ u .first → false ≡ clash u v
-  unfolding clash
-  clash-not h k = simp (ne-eqb _ _ h, le-ltb _ _ k)
+pub user-fields : (c : Cell) (u : User) {o : Bool} → u .rnti ≤ 65535 → o ≡ oneOf (u .order) orders →
+    leb 1 (u .rnti) && o && leb 1 (u .count) && leb (u .first + u .count) (c .blocks) ≡ userOk c u
+unfolding userOk
+user-fields c u m eo = rw (eo, le-leb (u .rnti) 65535 m, and-true (leb 1 (u .rnti))) refl

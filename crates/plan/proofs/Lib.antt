@@ -8,8 +8,11 @@ pub mod RowLaws
 mod FieldLaws
 mod FaultLaws
 mod Turns
+mod Kept
 mod Opening
 pub mod Valid
 pub mod Counts
+mod Before
+mod Phases
 pub mod Known
 pub mod Answers

@@ -1,7 +1,7 @@
 -- Facts of each element of a list and of each two: one more at the end, from a test, and at an index. Assumes nothing.
 use Prim.Native.Nat.{ℕ, zero, suc, _<_}
-use mathlib.Core.Path.{_≡_, refl}
-use mathlib.Core.Bool.{Bool, true, false, not, cond, _&&_}
+use mathlib.Core.Path.{_≡_, refl, sym}
+use mathlib.Core.Bool.{Bool, true, false, not, cond, _&&_, _||_, and-true, and-assoc}
 use mathlib.Core.List.{List, [], _∷_, _++_}
 use native.Mathlib.Nat.{not-suc-le-zero, le-of-suc-le-suc}
 use borrow.Author.Tests.{not-true}
@@ -58,3 +58,21 @@ module _ {A : Type 0} where
   apart-at R d (a ∷ xs) i zero h k l = absurd (not-suc-le-zero k)
   apart-at R d (a ∷ xs) zero (suc j) h k l = every-at (R a) d xs j (h .0) (le-of-suc-le-suc l)
   apart-at R d (a ∷ xs) (suc i) (suc j) h k l = apart-at R d xs i j (h .1) (le-of-suc-le-suc k) (le-of-suc-le-suc l)
+
+-- ---- no element passes a test: one more at the end, either of two tests
+module _ {A : Type 0} where
+  pub none-snoc : (f : A → Bool) (xs : List A) (x : A) → noneOf f (xs ++ (x ∷ [])) ≡ noneOf f xs && not (f x)
+  unfolding noneOf
+  none-snoc f [] x = and-true (not (f x))
+  none-snoc f (a ∷ xs) x = rw (none-snoc f xs x) (sym (and-assoc (not (f a)) (noneOf f xs) (not (f x))))
+
+  pub none-or : (f g : A → Bool) (xs : List A) → noneOf (λ (x : A). f x || g x) xs ≡ noneOf f xs && noneOf g xs
+  unfolding noneOf
+  none-or f g [] = refl
+  none-or f g (a ∷ xs) = rw (none-or f g xs) (by (f a) (g a) (noneOf f xs) (noneOf g xs))
+    where
+      by : (a b c d : Bool) → not (a || b) && (c && d) ≡ not a && c && (not b && d)
+      by true b c d = refl
+      by false true true d = refl
+      by false true false d = refl
+      by false false c d = refl

@@ -40,6 +40,18 @@ pub one-left : (x : ℕ) (ks : List ℕ) (i : ℕ) → length ks ≤ i → oneOf
 unfolding oneOf
 one-left x ks i l = rw (drop-of-length-le ks l) refl
 
+-- ---- a look at every place, with no early exit: t says whether one of those before place i was x
+abbrev pub Looked : ℕ → List ℕ → ℕ → Bool → Type 0
+Looked x ks i t = t || oneOf x (drop i ks) ≡ oneOf x ks
+
+pub looked-turn : (x : ℕ) (ks : List ℕ) (i : ℕ) (t : Bool) → i < length ks → Looked x ks i t → Looked x ks (i + 1) (t || eqb x (getD ks i 0))
+looked-turn x ks i true l h = h
+looked-turn x ks i false l h = sym (at-place x ks i l) ∙ h
+
+pub looked-last : (x : ℕ) (ks : List ℕ) (i : ℕ) (t : Bool) → length ks ≤ i → Looked x ks i t → t ≡ oneOf x ks
+looked-last x ks i true l h = h
+looked-last x ks i false l h = sym (one-left x ks i l) ∙ h
+
 -- a list of numbers without k, as a match gives it
 pub not-in : (ks : List ℕ) (k : ℕ) → OneOf ks k → oneOf k ks ≡ false → ⊥
 not-in ks k h e = false≢true (sym e ∙ hit ks k h)

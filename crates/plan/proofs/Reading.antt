@@ -1,20 +1,24 @@
 -- Bytes, sizes and commands at a position of the plan, by the tests that the code makes. Assumes nothing.
 use Prim.Native.Nat.{ℕ, _+_, _-_, _*_, _≤_, _<_}
 use mathlib.Core.Path.{_≡_, refl, sym, ap, _∙_}
+use mathlib.Core.Bool.{Bool, true, false, _&&_, false≢true}
 use mathlib.Core.List.{List}
 use native.Mathlib.Omega.{arith}
 use lib.Dec.{leb, eqb}
 use lib.ListN.{length, drop, getD, length-drop, drop-of-length-le, List·getD-eq-default}
 use lib.Seq.{getD-drop, drop-drop, drop-length}
-use borrow.Author.Tests.{ne-eqb, le-leb, lt-leb, leb-false}
+use borrow.Author.Tests.{eq-eqb, ne-eqb, eqb-true, le-leb, lt-leb, leb-true, leb-false}
+use Rattle.base.proofs.Tests.{both}
 use Rattle.plan.specs.Commands.{byte, cellOf, frameOf, hiOf, userOf, Entry, entries, entryIn, entryFor, sizeOf, commandOf}
 use Rattle.plan.specs.Rows.{nextOf}
+use Rattle.plan.specs.Loops.{standsAt}
 use Rattle.plan.specs.declared.Cell.{Cell}
 use Rattle.plan.specs.declared.Frame.{Frame}
 use Rattle.plan.specs.declared.Hi.{Hi}
 use Rattle.plan.specs.declared.User.{User}
 use Rattle.plan.specs.declared.Command.the-variants.{Cell as cell, Frame as frame, Hi as hi, User as user, End as end, Broken as broken}
-use Rattle.plan.proofs.Listed.{choose}
+use Rattle.plan.proofs.Listed.{choose, and-left, and-right}
+use Rattle.plan.proofs.Entries.{told}
 
 -- ---- a byte
 module _ (w : List ℕ) (at i : ℕ) where
@@ -142,3 +146,35 @@ module _ (w : List ℕ) (at b k : ℕ) (eb : b ≡ byte (drop at w) 0) (ek : k �
     pub unknown : (b ≡ 0x10 → ⊥) → (b ≡ 0x11 → ⊥) → (b ≡ 0x20 → ⊥) → (b ≡ 0x30 → ⊥) → (b ≡ 0x00 → ⊥) → broken ≡ commandOf (drop at w)
     unfolding entryIn entries
     unknown n₀ n₁ n₂ n₃ n₄ = rw (ne-eqb b 0x10 n₀, ne-eqb b 0x11 n₁, ne-eqb b 0x20 n₂, ne-eqb b 0x30 n₃, ne-eqb b 0x00 n₄) at whole
+
+-- ---- a command by its byte, where it is whole
+pub stands-made : (w : List ℕ) (at code : ℕ) {k b : ℕ} → k ≡ entryFor code .size → b ≡ byte (drop at w) 0 → leb k (length w - at) && eqb b code ≡ standsAt code (drop at w)
+unfolding standsAt
+stands-made w at code ek eb = rw (ek, eb, length-drop at w) refl
+
+module _ (l : List ℕ) where
+  stands-is : (code : ℕ) → standsAt code l ≡ true → entryFor code .read l ≡ commandOf l
+  unfolding standsAt
+  stands-is code t =
+      read-of l code (entryFor code .size) (sym (eqb-true (byte l 0) code (and-right (leb (entryFor code .size) (length l)) _ t))) refl
+      (leb-true (entryFor code .size) (length l) (and-left _ (eqb (byte l 0) code) t))
+
+  pub stands-hi : {b : Bool} → b ≡ standsAt 0x20 l → b ≡ true → {h : Hi} → h ≡ hiOf l → commandOf l ≡ hi h
+  unfolding entries entryIn
+  stands-hi e t eh = sym (stands-is 0x20 (sym e ∙ t)) ∙ ap hi (sym eh)
+
+  pub stands-user : {b : Bool} → b ≡ standsAt 0x30 l → b ≡ true → {u : User} → u ≡ userOf l → commandOf l ≡ user u
+  unfolding entries entryIn
+  stands-user e t eu = sym (stands-is 0x30 (sym e ∙ t)) ∙ ap user (sym eu)
+
+  pub no-hi-stands : standsAt 0x20 l ≡ false → (h : Hi) → commandOf l ≡ hi h → ⊥
+  unfolding standsAt entries entryIn
+  no-hi-stands f h e =
+      let t = told l (hi h) e in
+      false≢true (sym f ∙ both (le-leb 3 (length l) (t .2)) (eq-eqb (byte l 0) 0x20 (t .3)))
+
+  pub no-user-stands : standsAt 0x30 l ≡ false → (u : User) → commandOf l ≡ user u → ⊥
+  unfolding standsAt entries entryIn
+  no-user-stands f u e =
+      let t = told l (user u) e in
+      false≢true (sym f ∙ both (le-leb 6 (length l) (omega (arith, t .1, t .2))) (eq-eqb (byte l 0) 0x30 (t .3)))

@@ -1,9 +1,10 @@
 -- One turn of the check: what the run over the commands at a position is, by the command there and its fault. Assumes nothing.
 use Prim.Native.Nat.{ℕ, _+_, _-_, _*_, _≤_, _<_}
-use mathlib.Core.Path.{_≡_, refl, sym, ap, ap₂, _∙_}
+use mathlib.Core.Path.{_≡_, refl, sym, ap, ap₂, _∙_, subst}
 use mathlib.Core.Bool.{Bool, true, false, cond}
 use mathlib.Core.List.{List, [], _∷_, _++_}
 use native.Mathlib.Omega.{arith}
+use mathlib.Core.Logic.{inl, inr}
 use types.Run.{OneOf}
 use denote.Enum.Declared.{tagOf}
 use lib.Dec.{eqb}
@@ -13,13 +14,14 @@ use borrow.Author.Tests.{eq-eqb, ne-eqb}
 use Rattle.plan.specs.Lists.{oneOf}
 use Rattle.plan.specs.Commands.{hiOf, userOf, sizeOf, commandOf, commandsAfter, commands}
 use Rattle.plan.specs.Check.{State, need, due, hiFault, userFault, fault, stateAfter, planOf, unless, run}
-use Rattle.plan.specs.Rows.{past, nextOf, hisFrom, usersFrom}
-use Rattle.plan.specs.Loops.{bodyState}
+use Rattle.plan.specs.Rows.{row, past, nextOf, hisFrom, usersFrom}
+use Rattle.plan.specs.Loops.{bodyState, stateOf, EndDue}
 use Rattle.plan.specs.declared.Cell.{Cell}
 use Rattle.plan.specs.declared.Frame.{Frame}
 use Rattle.plan.specs.declared.Hi.{Hi}
 use Rattle.plan.specs.declared.User.{User}
 use Rattle.plan.specs.declared.Row.{Row}
+use Rattle.plan.specs.declared.Plan.{Plan}
 use Rattle.plan.specs.declared.Command.{Command}
 use Rattle.plan.specs.declared.Command.the-variants.{Cell as cell, Frame as frame, Hi as hi, User as user, End as end, Broken as broken}
 use Rattle.plan.specs.declared.Refusal.{Refusal}
@@ -92,6 +94,10 @@ standing-first w start h =
       room = h;
     }
 
+pub on-no-lists : (w : List ℕ) (start : ℕ) (F : List Hi → List User → Type 0) → F [] [] → F (hisFrom (drop start w) 0) (usersFrom (drop start w) 0)
+unfolding row
+on-no-lists w start F x = x
+
 module _ (w : List ℕ) (c : Cell) (f : Frame) (start n mid m at : ℕ) where
   abbrev here : List ℕ
   here = drop at w
@@ -145,10 +151,15 @@ module _ (w : List ℕ) (c : Cell) (f : Frame) (start n mid m at : ℕ) where
               room = omega (arith, hi-room, hi-next, et);
             }
 
-        pub more-his : hisFrom (drop start w) n ++ (h ∷ []) ≡ hisFrom (drop start w) (n + 1)
+        more-his : hisFrom (drop start w) n ++ (h ∷ []) ≡ hisFrom (drop start w) (n + 1)
         more-his =
             ap (λ (x : Hi). hisFrom (drop start w) n ++ (x ∷ [])) (told here (hi h) e .0 ∙ ap hiOf (at-mid ∙ g .his-end))
             ∙ sym (row-more hiOf n (drop start w))
+
+        -- what holds of the HIs with this one, and of the USERs, of which there are none
+        pub on-more-his : (F : List Hi → List User → Type 0) → F (hisFrom (drop start w) n ++ (h ∷ [])) (usersFrom (drop mid w) m) →
+            F (hisFrom (drop start w) (n + 1)) (usersFrom (drop (mid + 3) w) m)
+        on-more-his F x = rw (← more-his) (rw (row-none userOf (drop mid w) (drop (mid + 3) w) m none) at x)
 
         after-hi : stateAfter St (hi h) ≡ bodyState w c f start (n + 1) (mid + 3) m
         unfolding stateAfter bodyState
@@ -190,10 +201,13 @@ module _ (w : List ℕ) (c : Cell) (f : Frame) (start n mid m at : ℕ) where
               room = omega (arith, user-next, et, told here (user u) e .1, told here (user u) e .2, length-drop at w);
             }
 
-        pub more-users : usersFrom (drop mid w) m ++ (u ∷ []) ≡ usersFrom (drop mid w) (m + 1)
+        more-users : usersFrom (drop mid w) m ++ (u ∷ []) ≡ usersFrom (drop mid w) (m + 1)
         more-users =
             ap (λ (x : User). usersFrom (drop mid w) m ++ (x ∷ [])) (told here (user u) e .0 ∙ ap userOf (g .users-end))
             ∙ sym (row-more userOf m (drop mid w))
+
+        pub on-more-users : (F : List User → Type 0) → F (usersFrom (drop mid w) m ++ (u ∷ [])) → F (usersFrom (drop mid w) (m + 1))
+        on-more-users F x = subst F more-users x
 
         after-user : stateAfter St (user u) ≡ bodyState w c f start n mid (m + 1)
         unfolding stateAfter bodyState
@@ -250,67 +264,37 @@ module _ (w : List ℕ) (c : Cell) (f : Frame) (his users : Row) (to : ℕ) wher
   last e h =
       rw (drop-of-length-le w h, row-length hiOf (drop (his .at) w) (his .count), row-length userOf (drop (users .at) w) (users .count), ← e) refl
 
--- ---- the loop: where it stands, and that the run from there is the whole run
-pub record Going (w : List ℕ) (c : Cell) (f : Frame) (start n mid m at : ℕ) : Type 0 where
-  pub standing : Standing w start n mid m at
-  pub same : run (bodyState w c f start n mid m) (commands (drop at w)) ≡ run (bodyState w c f start 0 start 0) (commands (drop start w))
+-- ---- where END is due
+module _ {w : List ℕ} {p : Plan} {at : ℕ} (d : EndDue w p at) where
+  abbrev Rest : Checked
+  Rest = run (stateOf w p) (commands (drop at w))
 
-abbrev Whole : List ℕ → Cell → Frame → ℕ → Checked
-Whole w c f start = run (bodyState w c f start 0 start 0) (commands (drop start w))
+  module _ (e : commandOf (drop at w) ≡ end) where
+    pub end-fits : at + 1 ≤ length w
+    end-fits = omega (arith, told (drop at w) end e .2, length-drop at w)
 
-pub going-first : (w : List ℕ) (c : Cell) (f : Frame) (start : ℕ) → start ≤ length w → Going w c f start 0 start 0 start
-going-first w c f start h = record { standing = standing-first w start h; same = refl }
+    turn : Rest ≡ run (stateAfter (stateOf w p) end) (commands (drop (at + 1) w))
+    turn = end-turn w (p .cell) (p .frame) (p .his .at) (p .his .count) (p .users .at) (p .users .count) at e
 
-module _ {w : List ℕ} {c : Cell} {f : Frame} {start n mid m at : ℕ} (g : Going w c f start n mid m at) where
-  -- at an HI
-  module _ {h : Hi} (e : commandOf (drop at w) ≡ hi h) where
-    pub hi-fits : (n + 1 ≤ length w) × (mid + 3 ≤ length w)
-    hi-fits =
-        let s = g .standing in
-        let r : at + 3 ≤ length w = hi-room w c f start n mid m at h e s in
-        (omega (arith, s .mid-at, s .behind), omega (arith, s .behind))
+    pub end-more : at + 1 < length w → refused Order ≡ Rest
+    end-more l = not-last w (p .cell) (p .frame) (p .his) (p .users) (at + 1) l ∙ sym turn
 
-    pub hi-less : {to : ℕ} → to ≡ nextOf w at → length w - to < length w - at
-    hi-less et = omega (arith, hi-next w c f start n mid m at h e, hi-room w c f start n mid m at h e (g .standing))
+    pub end-last : length w ≤ at + 1 → accepted p ≡ Rest
+    end-last l = last w (p .cell) (p .frame) (p .his) (p .users) (at + 1) (d .mid-at) l ∙ sym turn
 
-    pub hi-out : {r : Refusal} → Is r ≡ need (eqb m 0) Order (hiFault c (hisFrom (drop start w) n) h) → refused r ≡ Whole w c f start
-    hi-out {r} q = sym (hi-refused w c f start n mid m at h e r q) ∙ g .same
+  pub end-broken : commandOf (drop at w) ≡ broken → refused Unreadable ≡ Rest
+  end-broken e = sym (body-broken w (p .cell) (p .frame) (p .his .at) (p .his .count) (p .users .at) (p .users .count) at e)
 
-    pub hi-again : {to : ℕ} → Nothing ≡ need (eqb m 0) Order (hiFault c (hisFrom (drop start w) n) h) → to ≡ nextOf w at → Going w c f start (n + 1) (mid + 3) m to
-    hi-again {to} q et =
-        record {
-          standing = standing-hi w c f start n mid m at h e (g .standing) q to et;
-          same = sym (hi-turn w c f start n mid m at h e (g .standing) q to et) ∙ g .same;
-        }
-
-  -- at a USER
-  module _ {u : User} (e : commandOf (drop at w) ≡ user u) where
-    pub user-fits : m + 1 ≤ length w
-    user-fits = omega (arith, g .standing .behind, user-room w c f start n mid m at u e (g .standing))
-
-    pub user-less : {to : ℕ} → to ≡ nextOf w at → length w - to < length w - at
-    user-less et =
-        omega (arith, user-next w c f start n mid m at u e, user-room w c f start n mid m at u e (g .standing), told (drop at w) (user u) e .1)
-
-    pub user-out : {r : Refusal} → Is r ≡ userFault c (usersFrom (drop mid w) m) u → refused r ≡ Whole w c f start
-    user-out {r} q = sym (user-refused w c f start n mid m at u e r q) ∙ g .same
-
-    pub user-again : {to : ℕ} → Nothing ≡ userFault c (usersFrom (drop mid w) m) u → to ≡ nextOf w at → Going w c f start n mid (m + 1) to
-    user-again {to} q et =
-        record {
-          standing = standing-user w c f start n mid m at u e (g .standing) to et;
-          same = sym (user-turn w c f start n mid m at u e (g .standing) to et q) ∙ g .same;
-        }
-
-  -- at END, and at what ends the check
-  pub end-fits : commandOf (drop at w) ≡ end → at + 1 ≤ length w
-  end-fits e = omega (arith, end-room w c f start n mid m at e)
-
-  pub end-out : commandOf (drop at w) ≡ end → {a : Checked} → a ≡ run (stateAfter (bodyState w c f start n mid m) end) (commands (drop (at + 1) w)) → a ≡ Whole w c f start
-  end-out e q = q ∙ sym (end-turn w c f start n mid m at e) ∙ g .same
-
-  pub broken-out : commandOf (drop at w) ≡ broken → refused Unreadable ≡ Whole w c f start
-  broken-out e = sym (body-broken w c f start n mid m at e) ∙ g .same
-
-  pub late-out : {x : Command} → commandOf (drop at w) ≡ x → OneOf (0 ∷ 1 ∷ []) (tagOf the-type x) → refused Order ≡ Whole w c f start
-  late-out {x} e k = sym (late-body w c f start n mid m at x e k) ∙ g .same
+  pub end-late : {x : Command} → commandOf (drop at w) ≡ x → OneOf (0 ∷ 1 ∷ 2 ∷ 3 ∷ []) (tagOf the-type x) → refused Order ≡ Rest
+  unfolding oneOf
+  end-late {x} e h = sym (by x e h)
+    where
+      by : (x : Command) → commandOf (drop at w) ≡ x → OneOf (0 ∷ 1 ∷ 2 ∷ 3 ∷ []) (tagOf the-type x) → Rest ≡ refused Order
+      by (cell y) e h = late-body w (p .cell) (p .frame) (p .his .at) (p .his .count) (p .users .at) (p .users .count) at (cell y) e (inl refl)
+      by (frame y) e h = late-body w (p .cell) (p .frame) (p .his .at) (p .his .count) (p .users .at) (p .users .count) at (frame y) e (inr refl)
+      by (hi y) e h =
+          hi-refused w (p .cell) (p .frame) (p .his .at) (p .his .count) (p .users .at) (p .users .count) at y e Order
+          (rw (ne-eqb (p .users .count) 0 (λ z. d .no-hi z y e)) refl)
+      by (user y) e h = absurd (d .no-user y e)
+      by end e h = absurd (not-in (0 ∷ 1 ∷ 2 ∷ 3 ∷ []) 4 h refl)
+      by broken e h = absurd (not-in (0 ∷ 1 ∷ 2 ∷ 3 ∷ []) 5 h refl)

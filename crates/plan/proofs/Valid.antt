@@ -1,20 +1,19 @@
 -- THE LAW OF THE PLAN CHECK, for the crates above: what it answers with a plan for, is valid. Assumes nothing.
 use Prim.Native.Nat.{ℕ, zero, suc, _+_, _≤_, _<_}
 use mathlib.Core.Path.{_≡_, refl, sym, ap, _∙_, subst}
-use mathlib.Core.Bool.{Bool, true, false, _&&_, _||_, false≢true}
+use mathlib.Core.Bool.{Bool, true, false}
 use mathlib.Core.Logic.{inl, inr}
-use mathlib.Core.List.{List, [], _∷_, _++_}
+use mathlib.Core.List.{List, [], _∷_}
 use native.Mathlib.Omega.{arith}
-use lib.Dec.{leb, ltb, eqb}
+use lib.Dec.{ltb, eqb}
 use lib.ListN.{length, drop, length-drop}
-use borrow.Author.Tests.{ltb-true, ltb-false, leb-true, lt-ltb, eq-eqb}
-use Rattle.plan.specs.Lists.{oneOf, Every, Apart}
-use Rattle.plan.specs.Fields.{widths, portCounts, sixthCounts, orders, cellOk, frameOk, hiOk, samePair, userOk, clash, groupsOf}
+use borrow.Author.Tests.{ltb-true, ltb-false}
+use Rattle.plan.specs.Fields.{cellOk, frameOk}
 use Rattle.plan.specs.Commands.{byte, hiOf, userOf, commandOf, commands}
 use Rattle.plan.specs.Check.{need, hiFault, userFault, stateAfter, run, checkOf}
 use Rattle.plan.specs.Rows.{nextOf, hisFrom, usersFrom, hisOf, usersOf}
 use Rattle.plan.specs.Loops.{celled, bodyState}
-use Rattle.plan.specs.Valid.{CellIn, FrameIn, HiIn, UserIn, OtherPair, Disjoint, Valid}
+use Rattle.plan.specs.Valid.{CellIn, FrameIn, Valid}
 use Rattle.plan.specs.declared.Cell.{Cell}
 use Rattle.plan.specs.declared.Frame.{Frame}
 use Rattle.plan.specs.declared.Hi.{Hi}
@@ -28,81 +27,12 @@ use Rattle.plan.specs.declared.Fault.{Fault}
 use Rattle.plan.specs.declared.Fault.the-variants.{Nothing, Is}
 use Rattle.plan.specs.declared.Checked.{Checked}
 use Rattle.plan.specs.declared.Checked.the-variants.{Plan as accepted, Refused as refused}
-use Rattle.plan.proofs.OneOf.{among}
-use Rattle.plan.proofs.Listed.{and-left, and-right, every-snoc, apart-snoc, none-every}
 use Rattle.plan.proofs.Entries.{told}
 use Rattle.plan.proofs.Reading.{gone}
-use Rattle.plan.proofs.RowLaws.{row-length, row-zero}
-use Rattle.plan.proofs.FaultLaws.{no-user, hi-in-range, hi-new, user-in-range, user-new}
-use Rattle.plan.proofs.Turns.{Standing, standing-first, hi-refused, standing-hi, more-his, hi-next, hi-turn, user-refused, standing-user, more-users, user-next, user-turn, end-room, end-turn, late-body, body-broken, not-last, last}
+use Rattle.plan.proofs.RowLaws.{row-length}
+use Rattle.plan.proofs.Kept.{cell-in, frame-in, Kept, kept-first, kept-hi, kept-user}
+use Rattle.plan.proofs.Turns.{Standing, standing-first, on-no-lists, hi-refused, standing-hi, on-more-his, hi-next, hi-turn, user-refused, standing-user, on-more-users, user-next, user-turn, end-room, end-turn, late-body, body-broken, not-last, last}
 use Rattle.plan.proofs.Opening.{first-broken, late-first, cell-refused, cell-turn, second-broken, late-second, frame-room, frame-refused, frame-turn}
-
--- ---- what the tests of the fields say
-all-four : (a b d e : Bool) → a && b && d && e ≡ true → (a ≡ true) × (b ≡ true) × (d ≡ true) × (e ≡ true)
-all-four a b d e h =
-    let h₁ : a && b && d ≡ true = and-left (a && b && d) e h in
-    let h₂ : a && b ≡ true = and-left (a && b) d h₁ in
-    (and-left a b h₂, and-right a b h₂, and-right (a && b) d h₁, and-right (a && b && d) e h)
-
-all-five : (a b d e f : Bool) → a && b && d && e && f ≡ true → (a ≡ true) × (b ≡ true) × (d ≡ true) × (e ≡ true) × (f ≡ true)
-all-five a b d e f h =
-    let h₁ = all-four a b d e (and-left (a && b && d && e) f h) in
-    (h₁ .0, h₁ .1, h₁ .2, h₁ .3, and-right (a && b && d && e) f h)
-
-pub cell-in : (c : Cell) → cellOk c ≡ true → CellIn c
-unfolding cellOk
-cell-in c e =
-    let t = all-five (leb (c .identity) 503) (oneOf (c .blocks) widths) (leb (c .prefix) 1) (oneOf (c .ports) portCounts) (oneOf (c .sixths) sixthCounts) e in
-    record {
-      identity = leb-true _ _ (t .0);
-      blocks = among widths (c .blocks) (t .1);
-      prefix = leb-true _ _ (t .2);
-      ports = among portCounts (c .ports) (t .3);
-      sixths = among sixthCounts (c .sixths) (t .4);
-    }
-
-pub frame-in : (f : Frame) → frameOk f ≡ true → FrameIn f
-unfolding frameOk
-frame-in f e =
-    let t = all-four (leb (f .number) 1023) (leb (f .subframe) 9) (leb 1 (f .cfi)) (leb (f .cfi) 3) e in
-    record { number = leb-true _ _ (t .0); subframe = leb-true _ _ (t .1); some = leb-true _ _ (t .2); most = leb-true _ _ (t .3) }
-
-pub hi-in : (c : Cell) (h : Hi) → hiOk c h ≡ true → HiIn c h
-unfolding hiOk
-hi-in c h e = record { group = ltb-true _ _ (and-left _ _ e); sequence = ltb-true _ _ (and-right (ltb (h .group) (groupsOf c)) _ e) }
-
-pub user-in : (c : Cell) (u : User) → userOk c u ≡ true → UserIn c u
-unfolding userOk
-user-in c u e =
-    let t = all-five (leb 1 (u .rnti)) (leb (u .rnti) 65535) (oneOf (u .order) orders) (leb 1 (u .count)) (leb (u .first + u .count) (c .blocks)) e in
-    record {
-      rnti = leb-true _ _ (t .0);
-      rnti-most = leb-true _ _ (t .1);
-      order = among orders (u .order) (t .2);
-      some = leb-true _ _ (t .3);
-      last = leb-true _ _ (t .4);
-    }
-
--- an HI h after e, a user u after v
-other-pair : (h e : Hi) → samePair h e ≡ false → OtherPair e h
-unfolding samePair
-other-pair h e q p s = false≢true (sym q ∙ rw (eq-eqb (h .group) (e .group) (sym p), eq-eqb (h .sequence) (e .sequence) (sym s)) refl)
-
-overlap : (a b d : Bool) → b ≡ true → d ≡ true → a || b && d ≡ true
-overlap true b d p q = refl
-overlap false b d p q = rw p q
-
-pub disjoint : (u v : User) → clash u v ≡ false → Disjoint v u
-unfolding clash
-disjoint u v q =
-    record {
-      rntis = λ p. false≢true (sym q ∙ rw (eq-eqb (u .rnti) (v .rnti) (sym p)) refl);
-      blocks = λ b h k.
-          false≢true
-          (sym q
-          ∙ overlap (eqb (u .rnti) (v .rnti)) (ltb (u .first) (v .first + v .count)) (ltb (v .first) (u .first + u .count))
-          (lt-ltb (u .first) (v .first + v .count) (omega arith)) (lt-ltb (v .first) (u .first + u .count) (omega arith)));
-    }
 
 -- ---- answers
 not-both : (a : Checked) (r : Refusal) (p : Plan) → a ≡ refused r → a ≡ accepted p → ⊥
@@ -129,10 +59,7 @@ module _ (w : List ℕ) (p : Plan) (c : Cell) (f : Frame) (ci : CellIn c) (fi : 
 
   record Good (n mid m at : ℕ) : Type 0 where
     standing : Standing w start n mid m at
-    his : Every (HiIn c) (His n)
-    pairs : Apart OtherPair (His n)
-    users : Every (UserIn c) (Users mid m)
-    apart : Apart Disjoint (Users mid m)
+    kept : Kept c (His n) (Users mid m)
 
   abbrev Rest : ℕ → Type 0
   Rest k = (n mid m at : ℕ) → length w ≤ at + k → Good n mid m at → Runs n mid m at → Valid w p
@@ -140,31 +67,16 @@ module _ (w : List ℕ) (p : Plan) (c : Cell) (f : Frame) (ci : CellIn c) (fi : 
   -- one more HI, one more USER
   more-hi : (n mid m at : ℕ) → Good n mid m at → (h : Hi) → commandOf (drop at w) ≡ hi h → Nothing ≡ need (eqb m 0) Order (hiFault c (His n) h) → Good (n + 1) (mid + 3) m (nextOf w at)
   more-hi n mid m at g h e q =
-      let s = g .standing in
-      let z : His n ++ (h ∷ []) ≡ His (n + 1) = more-his w c f start n mid m at h e s q (nextOf w at) refl in
-      let none : m ≡ 0 = no-user c (His n) h m q in
       record {
-        standing = standing-hi w c f start n mid m at h e s q (nextOf w at) refl;
-        his = subst (λ (hs : List Hi). Every (HiIn c) hs) z (every-snoc (HiIn c) (His n) h (g .his) (hi-in c h (hi-in-range c (His n) h m q)));
-        pairs =
-            subst (λ (hs : List Hi). Apart OtherPair hs) z
-            (apart-snoc OtherPair (His n) h (g .pairs) (none-every (samePair h) (λ (x : Hi). OtherPair x h) (other-pair h) (His n) (hi-new c (His n) h m q)));
-        users = subst (λ (us : List User). Every (UserIn c) us) (sym (row-zero userOf (drop (mid + 3) w) m none)) tt;
-        apart = subst (λ (us : List User). Apart Disjoint us) (sym (row-zero userOf (drop (mid + 3) w) m none)) tt;
+        standing = standing-hi w c f start n mid m at h e (g .standing) q (nextOf w at) refl;
+        kept = on-more-his w c f start n mid m at h e (g .standing) q (nextOf w at) refl (Kept c) (kept-hi (g .kept) h m q);
       }
 
   more-user : (n mid m at : ℕ) → Good n mid m at → (u : User) → commandOf (drop at w) ≡ user u → Nothing ≡ userFault c (Users mid m) u → Good n mid (m + 1) (nextOf w at)
   more-user n mid m at g u e q =
-      let s = g .standing in
-      let z : Users mid m ++ (u ∷ []) ≡ Users mid (m + 1) = more-users w c f start n mid m at u e s (nextOf w at) refl in
       record {
-        standing = standing-user w c f start n mid m at u e s (nextOf w at) refl;
-        his = g .his;
-        pairs = g .pairs;
-        users = subst (λ (us : List User). Every (UserIn c) us) z (every-snoc (UserIn c) (Users mid m) u (g .users) (user-in c u (user-in-range c (Users mid m) u q)));
-        apart =
-            subst (λ (us : List User). Apart Disjoint us) z
-            (apart-snoc Disjoint (Users mid m) u (g .apart) (none-every (clash u) (λ (x : User). Disjoint x u) (disjoint u) (Users mid m) (user-new c (Users mid m) u q)));
+        standing = standing-user w c f start n mid m at u e (g .standing) (nextOf w at) refl;
+        kept = on-more-users w c f start n mid m at u e (g .standing) (nextOf w at) refl (Kept c (His n)) (kept-user (g .kept) u q);
       }
 
   at-end : (n mid m at : ℕ) (t : Bool) → ltb (at + 1) (length w) ≡ t → Good n mid m at → commandOf (drop at w) ≡ end → run (stateAfter (bodyState w c f start n mid m) end) (commands (drop (at + 1) w)) ≡ accepted p → Valid w p
@@ -180,10 +92,10 @@ module _ (w : List ℕ) (p : Plan) (c : Cell) (f : Frame) (ci : CellIn c) (fi : 
       (record {
         cell = ci;
         frame = fi;
-        his = g .his;
-        pairs = g .pairs;
-        users = g .users;
-        apart = g .apart;
+        his = g .kept .his;
+        pairs = g .kept .pairs;
+        users = g .kept .users;
+        apart = g .kept .apart;
         his-count = row-length hiOf (drop start w) n;
         users-count = row-length userOf (drop mid w) m;
         users-at = s .mid-at;
@@ -220,13 +132,7 @@ module _ (w : List ℕ) (p : Plan) (c : Cell) (f : Frame) (ci : CellIn c) (fi : 
   from-frame : start ≤ length w → Runs 0 start 0 start → Valid w p
   from-frame h r =
       rest (length w) 0 start 0 start (omega arith)
-      (record {
-        standing = standing-first w start h;
-        his = subst (λ (hs : List Hi). Every (HiIn c) hs) (sym (row-zero hiOf (drop start w) 0 refl)) tt;
-        pairs = subst (λ (hs : List Hi). Apart OtherPair hs) (sym (row-zero hiOf (drop start w) 0 refl)) tt;
-        users = subst (λ (us : List User). Every (UserIn c) us) (sym (row-zero userOf (drop start w) 0 refl)) tt;
-        apart = subst (λ (us : List User). Apart Disjoint us) (sym (row-zero userOf (drop start w) 0 refl)) tt;
-      })
+      (record { standing = standing-first w start h; kept = on-no-lists w start (Kept c) (kept-first c) })
       r
 
 -- ---- CELL and FRAME

@@ -1,17 +1,16 @@
 // The plan check (document 01, Plan and payload; Refusals 1 to 7): reads a plan's commands from left to right and answers
 // with the plan, or with the first refusal.
 ghost use mathlib.Core.Path.{_≡_};
-ghost use Prim.Native.Nat.{_+_, _*_, _≤_, _<_};
+ghost use Prim.Native.Nat.{_+_, _*_, _≤_};
+ghost use mathlib.Core.Bool.{true};
+ghost use mathlib.Core.List.{List};
 ghost use lib.ListN.{length, drop};
-ghost use lib.Dec.{eqb};
-ghost use Rattle.plan.specs.Lists.{oneOf, noneOf};
+ghost use Rattle.plan.specs.Lists.{oneOf};
 ghost use Rattle.plan.specs.Commands.{byte, cellOf, frameOf, hiOf, userOf, entryFor, commandOf, commands};
-ghost use Rattle.plan.specs.Fields.{cellOk, frameOk, unitsOf, groupsOf, sequencesOf, hiOk, samePair, userOk, clash};
-ghost use Rattle.plan.specs.Check.{refusalNumber, need, hiFault, userFault, stateAfter, run, checkOf};
-ghost use Rattle.plan.specs.Rows.{nextOf, hisFrom, usersFrom};
-ghost use Rattle.plan.specs.Loops.{celled, bodyState};
-ghost use Rattle.plan.specs.declared.Refusal.the-variants.{Order as outOfOrder};
-ghost use Rattle.plan.specs.declared.Command.the-variants.{End as endCommand};
+ghost use Rattle.plan.specs.Fields.{cellOk, frameOk, unitsOf, groupsOf, sequencesOf, hiOk, userOk};
+ghost use Rattle.plan.specs.Check.{refusalNumber, hiFault, userFault, run, checkOf};
+ghost use Rattle.plan.specs.Rows.{nextOf};
+ghost use Rattle.plan.specs.Loops.{celled, bodyState, stateOf, standsAt, pairOf, blocksOf, PairsUsed, UsersUsed, HisPast, HisRead, EndDue};
 
 // 10 CELL: the identity C, the width in blocks N, the prefix (1 extended), the antenna ports P, and N_g in sixths.
 pub struct Cell {
@@ -86,6 +85,12 @@ pub struct Plan {
     pub frame: Frame,
     pub his: Row,
     pub users: Row,
+}
+
+// How many commands of one kind stand in a row, or the first fault of one.
+pub enum Counted {
+    Count(usize),
+    Refused(Refusal),
 }
 
 pub enum Checked {
@@ -266,36 +271,17 @@ pub fn one_of(n: u8, list: &[u8]) -> bool
 fn cell_ok(c: Cell) -> bool
     ensures { λ r. ⌜ r ≡ cellOk c ⌝ }
 {
-    if 503 < c.identity {
-        return false;
-    }
-    if one_of(c.blocks, &WIDTHS) {
-        if 1 < c.prefix {
-            return false;
-        }
-        if one_of(c.ports, &PORT_COUNTS) {
-            one_of(c.sixths, &SIXTH_COUNTS)
-        } else {
-            false
-        }
-    } else {
-        false
-    }
+    (c.identity <= 503)
+        & one_of(c.blocks, &WIDTHS)
+        & (c.prefix <= 1)
+        & one_of(c.ports, &PORT_COUNTS)
+        & one_of(c.sixths, &SIXTH_COUNTS)
 }
 
 fn frame_ok(f: Frame) -> bool
     ensures { λ r. ⌜ r ≡ frameOk f ⌝ }
 {
-    if 1023 < f.number {
-        return false;
-    }
-    if 9 < f.subframe {
-        return false;
-    }
-    if f.cfi < 1 {
-        return false;
-    }
-    f.cfi <= 3
+    (f.number <= 1023) & (f.subframe <= 9) & (1 <= f.cfi) & (f.cfi <= 3)
 }
 
 // The number of PHICH units of a cell.
@@ -326,137 +312,150 @@ pub fn sequences(c: Cell) -> u8
 fn hi_ok(c: Cell, h: Hi) -> bool
     ensures { λ r. ⌜ r ≡ hiOk c h ⌝ }
 {
-    if (h.group as usize) < groups(c) {
-        h.sequence < sequences(c)
-    } else {
-        false
-    }
+    ((h.group as usize) < groups(c)) & (h.sequence < sequences(c))
 }
 
 fn user_ok(c: Cell, u: User) -> bool
     ensures { λ r. ⌜ r ≡ userOk c u ⌝ }
 {
-    if u.rnti < 1 {
-        return false;
-    }
-    if one_of(u.order, &ORDERS) {
-        if u.count < 1 {
-            return false;
-        }
-        (u.first as usize) + (u.count as usize) <= (c.blocks as usize)
-    } else {
-        false
-    }
+    (1 <= u.rnti)
+        & one_of(u.order, &ORDERS)
+        & (1 <= u.count)
+        & ((u.first as usize) + (u.count as usize) <= (c.blocks as usize))
 }
 
-fn same_pair(h: Hi, e: Hi) -> bool
-    ensures { λ r. ⌜ r ≡ samePair h e ⌝ }
+// Whether an RNTI is in a table, with no early exit, so that several places are looked at together.
+fn has_rnti(table: &[u16], rnti: u16) -> bool
+    ensures { λ r. ⌜ r ≡ oneOf rnti (now (table .entry)) ⌝ }
 {
-    if h.group == e.group {
-        h.sequence == e.sequence
-    } else {
-        false
+    let mut found = false;
+    let mut i: usize = 0;
+    while i < table.len() {
+        found = found | (rnti == table[i]);
+        i = i + 1;
     }
+    found
 }
 
-// Whether two users share an RNTI or a block.
-fn clashes(u: User, v: User) -> bool
-    ensures { λ r. ⌜ r ≡ clash u v ⌝ }
+// Whether the command with the byte code stands whole at a position.
+fn stands(plan: &[u8], at: usize, code: u8) -> bool
+    requires { ⌜ at ≤ length (now plan) ⌝ }
+    ensures { λ r. ⌜ r ≡ standsAt code (drop at (now (plan .entry))) ⌝ }
 {
-    if u.rnti == v.rnti {
-        return true;
-    }
-    if (u.first as usize) < (v.first as usize) + (v.count as usize) {
-        (v.first as usize) < (u.first as usize) + (u.count as usize)
-    } else {
-        false
-    }
+    (size_of(code) <= plan.len() - at) & (byte_at(plan, at, 0) == code)
 }
 
-// Whether the pair h is none of the count HIs from position start on.
-pub fn fresh_pair(plan: &[u8], start: usize, count: usize, h: Hi) -> bool
-    ensures { λ r. ⌜ r ≡ noneOf (samePair h) (hisFrom (drop start (now (plan .entry))) count) ⌝ }
+// An HI's pair as one number.
+fn pair_of(h: Hi) -> usize
+    ensures { λ r. ⌜ r ≡ pairOf h ⌝ }
 {
-    let mut at = start;
-    let mut left = count;
-    while 0 < left {
-        if same_pair(h, hi_at(plan, at)) {
-            return false;
-        }
-        at = next_at(plan, at);
-        left = left - 1;
-    }
-    true
+    (h.group as usize) * 8 + (h.sequence as usize)
 }
 
-// Whether u shares nothing with the count USERs from position start on.
-pub fn fresh_user(plan: &[u8], start: usize, count: usize, u: User) -> bool
-    ensures { λ r. ⌜ r ≡ noneOf (clash u) (usersFrom (drop start (now (plan .entry))) count) ⌝ }
+// The first fault of an HI after HIs that have the pairs.
+fn hi_fault(cell: Cell, pairs: &[u64; 7], h: Hi) -> Fault
+    requires { ⌜ cellOk cell ≡ true ⌝ }
+    ensures { λ r. ⌜ ((hs : List Hi) → PairsUsed cell (now (pairs .entry)) hs → r ≡ hiFault cell hs h) ⌝ }
 {
-    let mut at = start;
-    let mut left = count;
-    while left > 0 {
-        if clashes(u, user_at(plan, at)) {
-            return false;
-        }
-        at = next_at(plan, at);
-        left = left - 1;
-    }
-    true
-}
-
-// The first fault of an HI after FRAME, count HIs from position start on, and users USERs.
-fn hi_fault(plan: &[u8], cell: Cell, start: usize, count: usize, users: usize, h: Hi) -> Fault
-    ensures { λ r. ⌜ r ≡ need (eqb users 0) outOfOrder (hiFault cell (hisFrom (drop start (now (plan .entry))) count) h) ⌝ }
-{
-    if users != 0 {
-        return Fault::Is(Refusal::Order);
-    }
     if hi_ok(cell, h) {
-        if fresh_pair(plan, start, count, h) {
-            Fault::Nothing
-        } else {
+        if bitset::has(pairs, pair_of(h)) {
             Fault::Is(Refusal::HiField)
+        } else {
+            Fault::Nothing
         }
     } else {
         Fault::Is(Refusal::HiField)
     }
 }
 
-// The first fault of a USER after count USERs from position start on.
-fn user_fault(plan: &[u8], cell: Cell, start: usize, count: usize, u: User) -> Fault
-    ensures { λ r. ⌜ r ≡ userFault cell (usersFrom (drop start (now (plan .entry))) count) u ⌝ }
+// The HIs from position start on: how many, or the first fault.
+fn his_from(plan: &[u8], cell: Cell, start: usize) -> Counted
+    requires { ⌜ (start ≤ length (now plan)) × (cellOk cell ≡ true) ⌝ }
+    ensures { λ r. ⌜ HisRead (now (plan .entry)) cell start r ⌝ }
+{
+    let mut pairs = [0u64; 7];
+    let mut count: usize = 0;
+    let mut at = start;
+    while stands(plan, at, 0x20) {
+        let h = hi_at(plan, at);
+        match hi_fault(cell, &pairs, h) {
+            Fault::Nothing => {
+                bitset::add(&mut pairs, pair_of(h));
+                count = count + 1;
+                at = next_at(plan, at);
+            }
+            Fault::Is(r) => return Counted::Refused(r),
+        }
+    }
+    Counted::Count(count)
+}
+
+// A user's blocks as a set.
+fn blocks_of(u: User) -> [u64; 2]
+    ensures { λ r. ⌜ r ≡ blocksOf u ⌝ }
+{
+    bitset::run_of(u.first, u.count)
+}
+
+// The first fault of a USER after USERs that have the RNTIs and the blocks.
+fn user_fault(cell: Cell, rntis: &[u16; 104], blocks: &[u64; 2], u: User) -> Fault
+    ensures { λ r. ⌜ ((us : List User) → UsersUsed cell (now (rntis .entry)) (now (blocks .entry)) us → r ≡ userFault cell us u) ⌝ }
 {
     if user_ok(cell, u) {
-        if fresh_user(plan, start, count, u) {
-            Fault::Nothing
-        } else {
-            Fault::Is(Refusal::Used)
+        if has_rnti(rntis, u.rnti) {
+            return Fault::Is(Refusal::Used);
         }
+        let own = blocks_of(u);
+        if bitset::meets(blocks, &own) {
+            return Fault::Is(Refusal::Used);
+        }
+        Fault::Nothing
     } else {
         Fault::Is(Refusal::UserField)
     }
 }
 
-// After END, whose byte stands before position next: the plan, unless a byte follows. The HIs stand from position start on, the USERs from
-// position mid on.
-fn finish(
-    plan: &[u8],
-    cell: Cell,
-    frame: Frame,
-    start: usize,
-    his: usize,
-    mid: usize,
-    users: usize,
-    next: usize,
-) -> Checked
-    requires { ⌜ mid ≡ start + 3 * his ⌝ }
-    ensures { λ r. ⌜ r ≡ run (stateAfter (bodyState (now (plan .entry)) cell frame start his mid users) endCommand) (commands (drop next (now (plan .entry)))) ⌝ }
+// After the HIs and the USERs of p: END is due at position at, and nothing after it.
+fn finish(plan: &[u8], p: Plan, at: usize) -> Checked
+    requires { ⌜ EndDue (now plan) p at ⌝ }
+    ensures { λ r. ⌜ r ≡ run (stateOf (now (plan .entry)) p) (commands (drop at (now (plan .entry)))) ⌝ }
 {
-    if next < plan.len() {
-        return Checked::Refused(Refusal::Order);
+    match command_at(plan, at) {
+        Command::End => {
+            if at + 1 < plan.len() {
+                return Checked::Refused(Refusal::Order);
+            }
+            Checked::Plan(p)
+        }
+        Command::Broken => Checked::Refused(Refusal::Unreadable),
+        _ => Checked::Refused(Refusal::Order),
     }
-    Checked::Plan(Plan {
+}
+
+// The commands after his HIs from position start on: USERs and END.
+fn users_from(plan: &[u8], cell: Cell, frame: Frame, start: usize, his: usize) -> Checked
+    requires { ⌜ (HisPast (now plan) start his (start + 3 * his)) × (cellOk cell ≡ true) ⌝ }
+    ensures { λ r. ⌜ r ≡ run (bodyState (now (plan .entry)) cell frame start his (start + 3 * his) 0) (commands (drop (start + 3 * his) (now (plan .entry)))) ⌝ }
+{
+    let mid = start + 3 * his;
+    let mut rntis = [0u16; 104];
+    let mut blocks = [0u64; 2];
+    let mut users: usize = 0;
+    let mut at = mid;
+    while stands(plan, at, 0x30) {
+        let u = user_at(plan, at);
+        match user_fault(cell, &rntis, &blocks, u) {
+            Fault::Nothing => {
+                let own = blocks_of(u);
+                rntis[users] = u.rnti;
+                blocks = bitset::join(&blocks, &own);
+                users = users + 1;
+                at = next_at(plan, at);
+            }
+            Fault::Is(r) => return Checked::Refused(r),
+        }
+    }
+    let p = Plan {
         cell: cell,
         frame: frame,
         his: Row {
@@ -467,44 +466,24 @@ fn finish(
             at: mid,
             count: users,
         },
-    })
+    };
+    finish(plan, p, at)
 }
 
-// The commands after FRAME: HIs, USERs and END, from position start on. The USERs stand from position mid on.
+// The commands after FRAME: HIs, USERs and END, from position start on.
 fn body(plan: &[u8], cell: Cell, frame: Frame, start: usize) -> Checked
-    requires { ⌜ start ≤ length (now plan) ⌝ }
+    requires { ⌜ (start ≤ length (now plan)) × (cellOk cell ≡ true) ⌝ }
     ensures { λ r. ⌜ r ≡ run (bodyState (now (plan .entry)) cell frame start 0 start 0) (commands (drop start (now (plan .entry)))) ⌝ }
 {
-    let mut his: usize = 0;
-    let mut mid = start;
-    let mut users: usize = 0;
-    let mut at = start;
-    loop {
-        match command_at(plan, at) {
-            Command::Hi(h) => match hi_fault(plan, cell, start, his, users, h) {
-                Fault::Nothing => {
-                    his = his + 1;
-                    mid = mid + 3;
-                    at = next_at(plan, at);
-                }
-                Fault::Is(r) => return Checked::Refused(r),
-            },
-            Command::User(u) => match user_fault(plan, cell, mid, users, u) {
-                Fault::Nothing => {
-                    users = users + 1;
-                    at = next_at(plan, at);
-                }
-                Fault::Is(r) => return Checked::Refused(r),
-            },
-            Command::End => return finish(plan, cell, frame, start, his, mid, users, at + 1),
-            Command::Broken => return Checked::Refused(Refusal::Unreadable),
-            _ => return Checked::Refused(Refusal::Order),
-        }
+    match his_from(plan, cell, start) {
+        Counted::Count(his) => users_from(plan, cell, frame, start, his),
+        Counted::Refused(r) => Checked::Refused(r),
     }
 }
 
 // The commands after CELL, from position at on.
 fn after_cell(plan: &[u8], c: Cell, at: usize) -> Checked
+    requires { ⌜ cellOk c ≡ true ⌝ }
     ensures { λ r. ⌜ r ≡ run (celled c at) (commands (drop at (now (plan .entry)))) ⌝ }
 {
     match command_at(plan, at) {

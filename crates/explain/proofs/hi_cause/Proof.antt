@@ -28,24 +28,24 @@ returns-2 c =
     let at-args = at-groups .before .before in
     hi-sequence (at-args .args .cell) _ (at-args .args .h) _ (at-groups .groups .ensures) (omega arith) _ (at-sequences .sequences .ensures) (omega arith)
 
-fresh-pair-requires : tie.Need-fresh-pair-requires
-fresh-pair-requires c κs = search needs
+fresh-requires : tie.Need-fresh-requires
+fresh-requires c κs = search needs
 
 returns-3 : tie.Need-returns-3
 returns-3 c =
-    let at-fresh-pair = c .before in
-    let at-sequences = at-fresh-pair .before .before .before in
+    let at-fresh = c .before in
+    let at-sequences = at-fresh .before .before .before in
     let at-groups = at-sequences .before .before .before in
     let at-args = at-groups .before .before in
-    hi-used (at-args .args .cell) _ (at-args .args .h) _ (at-groups .groups .ensures) (omega arith) _ (at-sequences .sequences .ensures) (omega arith) _ (at-fresh-pair .fresh-pair .ensures) (not-true _ (c .if3 .taken))
+    hi-used (at-args .args .cell) _ (at-args .args .h) _ (at-groups .groups .ensures) (omega arith) _ (at-sequences .sequences .ensures) (omega arith) _ (at-fresh .fresh .ensures) (not-true _ (c .if3 .taken))
 
 returns-4 : tie.Need-returns-4
 returns-4 c =
-    let at-fresh-pair = c .before in
-    let at-sequences = at-fresh-pair .before .before .before in
+    let at-fresh = c .before in
+    let at-sequences = at-fresh .before .before .before in
     let at-groups = at-sequences .before .before .before in
     let at-args = at-groups .before .before in
-    hi-fine (at-args .args .cell) _ (at-args .args .h) _ (at-groups .groups .ensures) (omega arith) _ (at-sequences .sequences .ensures) (omega arith) _ (at-fresh-pair .fresh-pair .ensures) (not-false _ (c .if3 .left))
+    hi-fine (at-args .args .cell) _ (at-args .args .h) _ (at-groups .groups .ensures) (omega arith) _ (at-sequences .sequences .ensures) (omega arith) _ (at-fresh .fresh .ensures) (not-false _ (c .if3 .left))
 
 pub hi-cause-spec : {M : Type 1} → statement M
 hi-cause-spec =
@@ -56,6 +56,6 @@ hi-cause-spec =
     returns
     sequences-requires
     returns-2
-    fresh-pair-requires
+    fresh-requires
     returns-3
     returns-4)

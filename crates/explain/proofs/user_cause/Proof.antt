@@ -47,43 +47,43 @@ returns-4 c =
     let at-args = at-one-of .before .before .before .before .before in
     user-last (at-args .args .cell) _ (at-args .args .u) (omega arith) (omega arith) _ (at-one-of .one-of .ensures) (not-false _ (at-if2 .if2 .left)) (omega arith) (omega arith)
 
-fresh-rnti-requires : tie.Need-fresh-rnti-requires
-fresh-rnti-requires c κs = search needs
+fresh-requires : tie.Need-fresh-requires
+fresh-requires c κs = search needs
 
 returns-5 : tie.Need-returns-5
 returns-5 c =
-    let at-fresh-rnti = c .before in
-    let at-if2 = at-fresh-rnti .before .before .before .before .before .before .before in
+    let at-fresh = c .before in
+    let at-if2 = at-fresh .before .before .before .before .before .before .before in
     let at-one-of = at-if2 .before in
     let at-args = at-one-of .before .before .before .before .before in
-    user-rnti-used (at-args .args .cell) _ (at-args .args .u) (omega arith) (omega arith) _ (at-one-of .one-of .ensures) (not-false _ (at-if2 .if2 .left)) (omega arith) (omega arith) _ (at-fresh-rnti .fresh-rnti .ensures) (not-true _ (c .if5 .taken))
+    user-rnti-used (at-args .args .cell) _ (at-args .args .u) (omega arith) (omega arith) _ (at-one-of .one-of .ensures) (not-false _ (at-if2 .if2 .left)) (omega arith) (omega arith) _ (at-fresh .fresh .ensures) (not-true _ (c .if5 .taken))
 
-fresh-user-requires : tie.Need-fresh-user-requires
-fresh-user-requires c κs = search needs
+fresh-requires-2 : tie.Need-fresh-requires-2
+fresh-requires-2 c κs = search needs
 
 returns-6 : tie.Need-returns-6
 returns-6 c =
-    let at-fresh-user = c .before in
-    let at-if5 = at-fresh-user .before in
-    let at-fresh-rnti = at-if5 .before in
-    let at-if4 = at-fresh-rnti .before in
+    let at-fresh2 = c .before in
+    let at-if5 = at-fresh2 .before in
+    let at-fresh = at-if5 .before in
+    let at-if4 = at-fresh .before in
     let at-if3 = at-if4 .before .before .before .before in
     let at-if2 = at-if3 .before .before in
     let at-one-of = at-if2 .before in
     let at-args = at-one-of .before .before .before .before .before in
-    user-block-used (at-args .args .cell) _ (at-args .args .u) (omega arith) (omega arith) _ (at-one-of .one-of .ensures) (not-false _ (at-if2 .if2 .left)) (omega (arith, at-if3 .if3 .left)) (omega (arith, at-if4 .if4 .left)) _ (at-fresh-rnti .fresh-rnti .ensures) (not-false _ (at-if5 .if5 .left)) _ (at-fresh-user .fresh-user .ensures) (not-true _ (c .if6 .taken))
+    user-block-used (at-args .args .cell) _ (at-args .args .u) (omega arith) (omega arith) _ (at-one-of .one-of .ensures) (not-false _ (at-if2 .if2 .left)) (omega (arith, at-if3 .if3 .left)) (omega (arith, at-if4 .if4 .left)) _ (at-fresh .fresh .ensures) (not-false _ (at-if5 .if5 .left)) _ (at-fresh2 .fresh2 .ensures) (not-true _ (c .if6 .taken))
 
 returns-7 : tie.Need-returns-7
 returns-7 c =
-    let at-fresh-user = c .before in
-    let at-if5 = at-fresh-user .before in
-    let at-fresh-rnti = at-if5 .before in
-    let at-if4 = at-fresh-rnti .before in
+    let at-fresh2 = c .before in
+    let at-if5 = at-fresh2 .before in
+    let at-fresh = at-if5 .before in
+    let at-if4 = at-fresh .before in
     let at-if3 = at-if4 .before .before .before .before in
     let at-if2 = at-if3 .before .before in
     let at-one-of = at-if2 .before in
     let at-args = at-one-of .before .before .before .before .before in
-    user-fine (at-args .args .cell) _ (at-args .args .u) (omega arith) (omega arith) _ (at-one-of .one-of .ensures) (not-false _ (at-if2 .if2 .left)) (omega (arith, at-if3 .if3 .left)) (omega (arith, at-if4 .if4 .left)) _ (at-fresh-rnti .fresh-rnti .ensures) (not-false _ (at-if5 .if5 .left)) _ (at-fresh-user .fresh-user .ensures) (not-false _ (c .if6 .left))
+    user-fine (at-args .args .cell) _ (at-args .args .u) (omega arith) (omega arith) _ (at-one-of .one-of .ensures) (not-false _ (at-if2 .if2 .left)) (omega (arith, at-if3 .if3 .left)) (omega (arith, at-if4 .if4 .left)) _ (at-fresh .fresh .ensures) (not-false _ (at-if5 .if5 .left)) _ (at-fresh2 .fresh2 .ensures) (not-false _ (c .if6 .left))
 
 pub user-cause-spec : {M : Type 1} → statement M
 user-cause-spec =
@@ -99,8 +99,8 @@ user-cause-spec =
     cast-if4-3
     add-if4
     returns-4
-    fresh-rnti-requires
+    fresh-requires
     returns-5
-    fresh-user-requires
+    fresh-requires-2
     returns-6
     returns-7)

@@ -27,7 +27,7 @@ body-requires c κs =
     let at-f = c .before .before .before in
     let at-command-at = at-f .before .before in
     let at-args = at-command-at .before .before in
-    frame-room (at-args .args .plan .now) (at-args .args .c) (at-args .args .at) _ (sym (at-command-at .command-at .ensures) ∙ at-f .f .given .1)
+    (frame-room (at-args .args .plan .now) (at-args .args .c) (at-args .args .at) _ (sym (at-command-at .command-at .ensures) ∙ at-f .f .given .1), at-args .pre)
 
 enum-told : tie.Need-enum-told
 enum-told c = search needs

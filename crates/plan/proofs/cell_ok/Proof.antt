@@ -1,25 +1,14 @@
--- `plan::cell_ok` meets its contract: the fields of CELL, one test after the other. Assumes nothing.
-use native.Mathlib.Omega.{arith}
-use Rattle.plan.proofs.FieldLaws.{cell-identity, cell-blocks, cell-prefix, cell-ports, cell-sixths}
+-- `plan::cell_ok` meets its contract: the fields of CELL. Assumes nothing.
 use borrow.Author.Needs.{needs}
-use Rattle.plan.proofs.cell_ok.Statement.{statement}
+use Rattle.plan.proofs.FieldLaws.{cell-fields}
 use Rattle.plan.proofs.cell_ok.Tie as tie
-
-returns : tie.Need-returns
-returns c = cell-identity (c .before .before .args .c) (omega arith)
+use Rattle.plan.proofs.cell_ok.Statement.{statement}
 
 slice-aggregate-one-of : tie.Need-slice-aggregate-one-of
 slice-aggregate-one-of c = search needs
 
 one-of-requires : tie.Need-one-of-requires
 one-of-requires c κs = search needs
-
-returns-2 : tie.Need-returns-2
-returns-2 c =
-    let at-if2 = c .before .before in
-    let at-one-of = at-if2 .before in
-    let at-args = at-one-of .before .before .before .before in
-    cell-prefix (at-args .args .c) (omega arith) _ (at-one-of .one-of .ensures) (at-if2 .if2 .taken) (omega arith)
 
 slice-aggregate-one-of-2 : tie.Need-slice-aggregate-one-of-2
 slice-aggregate-one-of-2 c = search needs
@@ -33,38 +22,21 @@ slice-aggregate-one-of-3 c = search needs
 one-of-requires-3 : tie.Need-one-of-requires-3
 one-of-requires-3 c κs = search needs
 
-returns-3 : tie.Need-returns-3
-returns-3 c =
-    let at-if4 = c .before .before in
-    let at-one-of2 = at-if4 .before in
-    let at-if2 = at-one-of2 .before .before .before .before in
-    let at-one-of = at-if2 .before in
-    let at-args = at-one-of .before .before .before .before in
-    cell-sixths (at-args .args .c) (omega arith) _ (at-one-of .one-of .ensures) (at-if2 .if2 .taken) (omega arith) _ (at-one-of2 .one-of2 .ensures) (at-if4 .if4 .taken) _ (c .one-of3 .ensures)
-
-returns-4 : tie.Need-returns-4
-returns-4 c =
-    let at-one-of2 = c .before in
-    let at-if2 = at-one-of2 .before .before .before .before in
-    let at-one-of = at-if2 .before in
-    let at-args = at-one-of .before .before .before .before in
-    cell-ports (at-args .args .c) (omega arith) _ (at-one-of .one-of .ensures) (at-if2 .if2 .taken) (omega arith) _ (at-one-of2 .one-of2 .ensures) (c .if4 .left)
-
-returns-5 : tie.Need-returns-5
-returns-5 c = cell-blocks (c .before .before .before .before .before .args .c) (omega arith) _ (c .before .one-of .ensures) (c .if2 .left)
+returns : tie.Need-returns
+returns c =
+    let at-one-of2 = c .before .before in
+    let at-one-of = at-one-of2 .before .before .before in
+    let at-args = at-one-of .before .before .before in
+    cell-fields (at-args .args .c) (at-one-of .one-of .ensures) (at-one-of2 .one-of2 .ensures) (c .one-of3 .ensures)
 
 pub cell-ok-spec : {M : Type 1} → statement M
 cell-ok-spec =
     tie.close
     (tie.spec
-    returns
     slice-aggregate-one-of
     one-of-requires
-    returns-2
     slice-aggregate-one-of-2
     one-of-requires-2
     slice-aggregate-one-of-3
     one-of-requires-3
-    returns-3
-    returns-4
-    returns-5)
+    returns)

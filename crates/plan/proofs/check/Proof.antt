@@ -15,7 +15,7 @@ cell-ok-requires : tie.Need-cell-ok-requires
 cell-ok-requires c κs = search needs
 
 after-cell-requires : tie.Need-after-cell-requires
-after-cell-requires c κs = search needs
+after-cell-requires c κs = sym (c .before .cell-ok .ensures) ∙ c .if1 .taken
 
 enum-told : tie.Need-enum-told
 enum-told c = search needs

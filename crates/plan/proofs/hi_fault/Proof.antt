@@ -1,43 +1,54 @@
--- `plan::hi_fault` meets its contract: an HI out of order, beyond the count, used before, or without a fault. Assumes nothing.
-use Rattle.plan.proofs.FaultLaws.{hi-late, hi-bad, hi-used, hi-fine}
+-- `plan::hi_fault` meets its contract: an HI beyond the count, used before, or without a fault. Assumes nothing.
+use mathlib.Core.Path.{_≡_}
+use mathlib.Core.Bool.{not}
+use mathlib.Core.List.{List}
+use native.Mathlib.Omega.{arith}
 use borrow.Author.Needs.{needs}
-use Rattle.plan.proofs.hi_fault.Statement.{statement}
+use Rattle.plan.specs.Check.{need, hiFault}
+use Rattle.plan.specs.Loops.{PairsUsed}
+use Rattle.plan.specs.declared.Hi.{Hi}
+use Rattle.plan.specs.declared.Refusal.the-variants.{HiField}
+use Rattle.plan.specs.declared.Fault.the-variants.{Nothing}
+use Rattle.plan.proofs.Before.{hi-bad, hi-word, hi-tested}
 use Rattle.plan.proofs.hi_fault.Tie as tie
-
-returns : tie.Need-returns
-returns c = hi-late (c .before .before .args .cell) _ (c .before .before .args .h) (c .before .before .args .users) (c .if1 .taken)
+use Rattle.plan.proofs.hi_fault.Statement.{statement}
 
 hi-ok-requires : tie.Need-hi-ok-requires
 hi-ok-requires c κs = search needs
 
-fresh-pair-requires : tie.Need-fresh-pair-requires
-fresh-pair-requires c κs = search needs
+pair-of-requires : tie.Need-pair-of-requires
+pair-of-requires c κs = search needs
+
+has-requires : tie.Need-has-requires
+has-requires c κs =
+    let at-if1 = c .before .before in
+    let at-hi-ok = at-if1 .before in
+    let at-args = at-hi-ok .before in
+    omega (arith, hi-word (at-args .args .cell) (at-args .args .pairs .now) (at-args .args .h) (at-hi-ok .hi-ok .ensures) (at-args .pre) (at-if1 .if1 .taken) (c .pair-of .ensures))
+
+-- its pair was looked for
+tested : (c : tie.After-has) →
+    let a = c .before .before .before .before .before .args in
+    (hs : List Hi) → PairsUsed (a .cell) (a .pairs .now) hs → need (not (c .has .result)) HiField Nothing ≡ hiFault (a .cell) hs (a .h)
+tested c =
+    let at-pair-of = c .before in
+    let at-if1 = at-pair-of .before .before in
+    let at-hi-ok = at-if1 .before in
+    let a = at-hi-ok .before .args in
+    hi-tested (a .cell) (a .pairs .now) (a .h) (at-hi-ok .hi-ok .ensures) (at-if1 .if1 .taken) (at-pair-of .pair-of .ensures) (c .has .ensures)
+
+returns : tie.Need-returns
+returns c = λ hs s. rw (c .if2 .taken) at (tested (c .before) hs s)
 
 returns-2 : tie.Need-returns-2
-returns-2 c =
-    let at-fresh-pair = c .before in
-    let at-if2 = at-fresh-pair .before in
-    let at-hi-ok = at-if2 .before in
-    let at-if1 = at-hi-ok .before in
-    let at-args = at-if1 .before .before in
-    hi-fine (at-args .args .cell) _ (at-args .args .h) (at-args .args .users) (at-if1 .if1 .left) _ (at-hi-ok .hi-ok .ensures) (at-if2 .if2 .taken) _ (at-fresh-pair .fresh-pair .ensures) (c .if3 .taken)
+returns-2 c = λ hs s. rw (c .if2 .left) at (tested (c .before) hs s)
 
 returns-3 : tie.Need-returns-3
 returns-3 c =
-    let at-fresh-pair = c .before in
-    let at-if2 = at-fresh-pair .before in
-    let at-hi-ok = at-if2 .before in
-    let at-if1 = at-hi-ok .before in
-    let at-args = at-if1 .before .before in
-    hi-used (at-args .args .cell) _ (at-args .args .h) (at-args .args .users) (at-if1 .if1 .left) _ (at-hi-ok .hi-ok .ensures) (at-if2 .if2 .taken) _ (at-fresh-pair .fresh-pair .ensures) (c .if3 .left)
-
-returns-4 : tie.Need-returns-4
-returns-4 c =
     let at-hi-ok = c .before in
-    let at-if1 = at-hi-ok .before in
-    let at-args = at-if1 .before .before in
-    hi-bad (at-args .args .cell) _ (at-args .args .h) (at-args .args .users) (at-if1 .if1 .left) _ (at-hi-ok .hi-ok .ensures) (c .if2 .left)
+    let at-args = at-hi-ok .before in
+    hi-bad (at-args .args .cell) (at-args .args .pairs .now) (at-args .args .h) (at-hi-ok .hi-ok .ensures) (c .if1 .left)
 
 pub hi-fault-spec : {M : Type 1} → statement M
 hi-fault-spec =
-    tie.close (tie.spec returns hi-ok-requires fresh-pair-requires returns-2 returns-3 returns-4)
+    tie.close (tie.spec hi-ok-requires pair-of-requires has-requires returns returns-2 returns-3)
