@@ -20,7 +20,7 @@ rowPlaces c f s = if ltb s (controlSymbols c f) then 0 else 6 - signals c (c .po
 unfoldable pub centrePlaces : Cell → Frame → ℕ → ℕ
 centrePlaces c f s = if taken c f s then rowPlaces c f s else 0
 
--- of the slot whose first symbol is `start`
+-- the sums of both over the slot whose first symbol is `start`
 unfoldable pub slotShape : Cell → Frame → ℕ → SlotShape
 slotShape c f start =
     record { whole = sumTo (slotLength c) (λ l. rowPlaces c f (start + l)); centre = sumTo (slotLength c) (λ l. centrePlaces c f (start + l)) }

@@ -29,7 +29,7 @@ taken c f s =
 abbrev pub centreHalves : Cell → ℕ → ℕ → ℕ
 centreHalves c first count = min (2 * (first + count)) (c .blocks + 6) - max (2 * first) (c .blocks - 6)
 
--- a user's half blocks; where the centre is taken, without its
+-- a user's half blocks; where the centre is taken, without the centre's
 unfoldable pub halves : Cell → ℕ → ℕ → Bool → ℕ
 halves c first count t = 2 * count - (if t then centreHalves c first count else 0)
 

@@ -118,7 +118,7 @@ fn centre_places(cell: Cell, frame: Frame, s: usize) -> usize
     0
 }
 
-// Of the slot whose first symbol is start.
+// The sums of both over the slot whose first symbol is start.
 fn slot_shape(cell: Cell, frame: Frame, start: usize) -> SlotShape
     requires { ⌜ start ≤ 7 ⌝ }
     ensures { λ r. ⌜ r ≡ slotShape cell frame start ⌝ }
@@ -138,7 +138,7 @@ fn slot_shape(cell: Cell, frame: Frame, start: usize) -> SlotShape
     }
 }
 
-// Made once for all users of a plan.
+// Both slots: made once for all users of a plan, since it takes a turn for each symbol.
 pub fn shape_of(cell: Cell, frame: Frame) -> Shape
     ensures { λ r. ⌜ r ≡ shapeOf cell frame ⌝ }
 {
@@ -150,7 +150,7 @@ pub fn shape_of(cell: Cell, frame: Frame) -> Shape
     }
 }
 
-// The places in a slot of a user with these blocks.
+// A user's places in a slot: in every symbol's half blocks, less the centre's where it is taken.
 fn slot_count(cell: Cell, slot: SlotShape, first: u8, count: u8) -> usize
     requires { ⌜ SlotIn slot ⌝ }
     ensures { λ r. ⌜ r ≡ slotCount cell slot first count ⌝ }
@@ -158,7 +158,7 @@ fn slot_count(cell: Cell, slot: SlotShape, first: u8, count: u8) -> usize
     slot.whole * (2 * (count as usize)) - slot.centre * centre_halves(cell, first, count)
 }
 
-// A user's G, by products. The caller has the shape from shape_of.
+// A user's G. The caller has the shape from shape_of.
 pub fn user_count(cell: Cell, shape: Shape, u: User) -> usize
     requires { ⌜ ShapeIn shape ⌝ }
     ensures { λ r. ⌜ r ≡ countBy cell shape u ⌝ }
