@@ -17,16 +17,11 @@ use Rattle.plan.proofs.RowLaws.{row-next}
 use Rattle.plan.proofs.Listed.{every-at}
 use Rattle.plan.proofs.Valid.{valid}
 use Rattle.layout.specs.declared.Owner.the-variants.{Pbch, User as UserOf}
-use Rattle.counts.specs.Users.{userElements}
 use Rattle.counts.specs.Counts.{countOf}
-use Rattle.counts.proofs.UserElements.{user-elements}
-use Rattle.places.specs.Places.{placesOf, ownsAt}
-use Rattle.base.proofs.Counts.{cnt-most}
-use Rattle.places.proofs.Elements.{count-is}
 use Rattle.payload.specs.Sections.{sectionBytes, bytesOf, startOf, sectionBits}
 use Rattle.payload.specs.Payload.{pbchBits, userBits, heads, sections, payloadLength, usersStart}
 use Rattle.payload.specs.Bits.{ownerBits}
-use Rattle.payload.specs.Loops.{computedBits, UserReady}
+use Rattle.payload.specs.Loops.{computedBits}
 use Rattle.payload.proofs.Sections.{span-length, span-at, hi-at, Users, length-is, userStart, user-start, user-start-next, user-bits-at, bits-computed}
 use Rattle.subframe.specs.Elements.{ownerBit, hiBit}
 use Rattle.subframe.proofs.OwnerBits.{pbch-size}
@@ -88,21 +83,9 @@ module _ (w : List ℕ) (p : Plan) (ok : checkOf w ≡ accepted p) (payload : Li
   start-room i = omega (arith, user-start w p i, length-is w p, start-le (Users w p) i)
 
   module _ (i : ℕ) (in-i : i < length (usersOf w p)) where
-    abbrev u : User
-    u = nthUser w p i
-
     pub user-valid : UserIn (p .cell) (nthUser w p i)
     unfolding nthUser
     user-valid = every-at (UserIn (p .cell)) _ (usersOf w p) i (valid w p ok .users) in-i
-
-    user-least : userElements (p .cell) (p .frame) (u .first) (u .count) ≤ placesOf (p .cell)
-    unfolding nthUser
-    user-least =
-        let e : countOf w p (UserOf i) ≡ userElements (p .cell) (p .frame) (u .first) (u .count) = user-elements w p ok _ i in-i in
-        omega (arith, count-is w p (UserOf i), cnt-most (ownsAt w p (UserOf i)) (placesOf (p .cell)))
-
-    pub user-ready : placesOf (p .cell) ≤ 16800 → UserReady (p .cell) (p .frame) (nthUser w p i)
-    user-ready h = record { cell = valid w p ok .cell; frame = valid w p ok .frame; user = user-valid; fits = omega (arith, user-least) }
 
     pub start-next : userStart w p (i + 1) ≡ userStart w p i + sectionBytes (userBits w p i)
     start-next = let e : i + 1 ≡ suc i = omega arith in ap (userStart w p) e ∙ user-start-next w p i in-i

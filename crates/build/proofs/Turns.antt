@@ -25,7 +25,7 @@ use Rattle.layout.specs.declared.Owner.the-variants.{Pcfich, Phich, User as Use
 use Rattle.places.specs.Places.{placesOf}
 use Rattle.payload.specs.Sections.{sectionBytes}
 use Rattle.payload.specs.Payload.{pbchBits, userBits, payloadLength, usersStart}
-use Rattle.payload.specs.Loops.{computedBits, UserReady}
+use Rattle.payload.specs.Loops.{computedBits}
 use Rattle.payload.proofs.Sections.{userStart, user-start-first}
 use Rattle.grid.specs.Writing.{Written}
 use Rattle.grid.proofs.Writing.{none, same, over, room-kept, whole}
@@ -41,7 +41,7 @@ use Rattle.build.proofs.DataValues.{pbch-area, pbch-value, user-area, u
 use Rattle.build.proofs.SignalValues.{crs-numbered, pss-numbered, sss-numbered}
 use Rattle.build.proofs.ControlValues.{pcfich-owned, pcfich-numbered, phich-owned, phich-numbered}
 use Rattle.build.proofs.Quiet.{quiet}
-use Rattle.build.proofs.Slices.{From, from-first, from-user, from-next, start-room, user-valid, user-ready, start-next, section-end, user-slice, pbch-slice, hi-slice}
+use Rattle.build.proofs.Slices.{From, from-first, from-user, from-next, start-room, user-valid, start-next, section-end, user-slice, pbch-slice, hi-slice}
 
 -- ---- one of several after the other
 module _ (f : ℕ → ℕ → Bool) {E : ℕ → Element} {g₀ : List ℕ} where
@@ -197,9 +197,6 @@ module _ (w : List ℕ) (p : Plan) (payload : List ℕ) {g₀ : List ℕ} (start
 
     pub going-valid : ChannelIn w p (UserChannel u) g
     going-valid = user-in (so .written) u i in-i user-is
-
-    pub going-ready : UserReady (p .cell) (p .frame) u
-    going-ready = rw user-is (user-ready w p ok payload i in-i (start .room .fits))
 
     module _ (end : ℕ) (ee : end ≡ from + sectionBytes (computedBits (p .cell) (p .frame) u)) where
       ends : end ≡ from + sectionBytes (userBits w p i)

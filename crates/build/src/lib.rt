@@ -106,12 +106,13 @@ fn fill_users(plan: &[u8], p: Plan, payload: &[u8], grid: &mut [u8])
     requires { ⌜ Ready (now plan) p (now payload) (now grid) ⌝ }
     ensures { λ _. ⌜ Written (usersSend (now (plan .entry)) p (length (usersOf (now (plan .entry)) p))) (elementNumbered (now (plan .entry)) p (now (payload .entry))) (now (grid .entry)) (now (grid .exit)) ⌝ }
 {
+    let shape = counts::shape_of(p.cell, p.frame);
     let mut at = p.users.at;
     let mut start = payload::users_start(p);
     let mut i: usize = 0;
     while i < p.users.count {
         let u = user_at(plan, at);
-        let end = start + payload::section_bytes(payload::user_bits(p.cell, p.frame, u));
+        let end = start + payload::section_bytes(payload::user_bits(p.cell, shape, u));
         map(p, Channel::User(u), plan, &payload[start..end], grid);
         start = end;
         at = next_at(plan, at);

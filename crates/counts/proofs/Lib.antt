@@ -1,10 +1,11 @@
--- Laws that the proofs cite. For the crates above: UserElements, UserSizes, AllUsers, AddUp, FixedCounts, KindCounts.
+-- Laws that the proofs cite. For the crates above: UserElements, Shapes, UserSizes, AllUsers, AddUp, FixedCounts, KindCounts.
 pub mod Logic
 pub mod Sums
 pub mod Ranges
 pub mod Signals
 pub mod Halves
 pub mod UserElements
+pub mod Shapes
 pub mod UserSizes
 pub mod AllUsers
 pub mod AddUp

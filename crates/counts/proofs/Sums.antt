@@ -2,7 +2,7 @@
 use Prim.Native.Nat.{ℕ, zero, suc, _+_, _*_, _%_, _≤_, _<_}
 use mathlib.Core.Path.{_≡_, refl, sym, _∙_}
 use mathlib.Core.List.{List, [], _∷_, _++_}
-use native.Mathlib.Nat.{suc-mul, zero-mul, add-mul, not-suc-le-zero}
+use native.Mathlib.Nat.{add-zero, add-suc, suc-mul, zero-mul, add-mul, not-suc-le-zero}
 use native.Mathlib.Omega.{arith}
 use lib.Dec.{eqb}
 use borrow.Author.Tests.{eqb-true, eqb-false}
@@ -44,6 +44,17 @@ pub sum-most : (n v : ℕ) (f : ℕ → ℕ) → ((j : ℕ) → j < n → f j �
 unfolding sumTo
 sum-most zero v f h = rw zero-mul (omega arith)
 sum-most (suc n) v f h = rw suc-mul (omega (arith, h n (omega arith), sum-most n v f (λ j l. h j (omega arith))))
+
+pub sum-least : (n : ℕ) (f g : ℕ → ℕ) → ((j : ℕ) → j < n → f j ≤ g j) → sumTo n f ≤ sumTo n g
+unfolding sumTo
+sum-least zero f g h = omega arith
+sum-least (suc n) f g h = omega (arith, h n (omega arith), sum-least n f g (λ j l. h j (omega arith)))
+
+-- the first n numbers, and the m after them
+pub sum-parts : (n m : ℕ) (f : ℕ → ℕ) → sumTo (n + m) f ≡ sumTo n f + sumTo m (λ j. f (n + j))
+unfolding sumTo
+sum-parts n zero f = rw add-zero (omega arith)
+sum-parts n (suc m) f = rw (add-suc, sum-parts n m f) (omega arith)
 
 -- a part is at most the sum
 pub sum-part : (n : ℕ) (f : ℕ → ℕ) (j : ℕ) → j < n → f j ≤ sumTo n f

@@ -3,19 +3,14 @@ use Prim.Native.Nat.{ℕ, _+_, _-_, _*_, _≤_, _<_, min, max}
 use mathlib.Core.Path.{_≡_, refl, sym, ap, _∙_}
 use mathlib.Core.Logic.{inl, inr}
 use mathlib.Core.Bool.{Bool, true, false, _&&_, _||_, and-false}
-use native.Mathlib.Nat.{mul-le-mul-right}
-use native.Mathlib.Numerals.{add-one}
 use native.Mathlib.Omega.{arith}
 use lib.Dec.{ltb, eqb}
-use borrow.Author.Tests.{eq-eqb, ne-eqb, lt-ltb, le-ltb, le-leb, lt-leb}
+use borrow.Author.Tests.{eq-eqb, ne-eqb, le-leb, lt-leb}
 use Rattle.plan.specs.declared.Cell.{Cell}
 use Rattle.plan.specs.declared.Frame.{Frame}
 use Rattle.layout.specs.Rules.{slotLength, inSlot, marked}
-use Rattle.layout.specs.Owners.{symbols, controlSymbols}
-use Rattle.counts.specs.Sums.{sumTo}
-use Rattle.counts.specs.Users.{signals, taken, halves, rowElements, userElements}
+use Rattle.counts.specs.Users.{signals, taken}
 use Rattle.counts.proofs.Signals.{signals-outer, signals-second, signals-other}
-use Rattle.counts.proofs.Halves.{halves-most}
 
 -- ---- half_places: L symbols of a slot, l the symbol's number in it
 module _ (c : Cell) (s l : ℕ) (el : l ≡ inSlot c s) where
@@ -84,46 +79,3 @@ module _ (N first count low high : ℕ) (el : low ≡ max (2 * first + 6) N) (eh
 
   pub not-shared : high ≤ low → 0 ≡ min (2 * (first + count)) (N + 6) - max (2 * first) (N - 6)
   not-shared l = none (max (2 * first) (N - 6)) (min (2 * (first + count)) (N + 6)) low-is high-is l
-
-pub shared-most : (N first count x : ℕ) → x ≡ min (2 * (first + count)) (N + 6) - max (2 * first) (N - 6) → x ≤ 2 * count
-shared-most N first count x e = omega arith
-
-pub halves-outside : (c : Cell) (first count x : ℕ) (t : Bool) → t ≡ true → x ≡ min (2 * (first + count)) (c .blocks + 6) - max (2 * first) (c .blocks - 6) → 2 * count - x ≡ halves c first count t
-unfolding halves
-halves-outside c first count x t e d = rw (e, d) refl
-
-pub halves-all : (c : Cell) (first count : ℕ) (t : Bool) → t ≡ false → 2 * count ≡ halves c first count t
-unfolding halves
-halves-all c first count t e = rw e (omega arith)
-
--- ---- rows
-pub early-row : (c : Cell) (f : Frame) (first count s : ℕ) → s < f .cfi → 0 ≡ rowElements c f first count s
-unfolding rowElements controlSymbols
-early-row c f first count s l = rw (lt-ltb s (f .cfi) l) refl
-
-product-most : (x h n : ℕ) → h ≤ 2 * n → n ≤ 255 → (6 - x) * h ≤ 3060
-product-most x h n l m = omega (arith, mul-le-mul-right h (let z : 6 - x ≤ 6 = omega arith in z))
-
-module _ (c : Cell) (f : Frame) (first count s a h : ℕ) (t : Bool) (ea : a ≡ 6 - signals c (c .ports) s) (et : t ≡ taken c f s) (eh : h ≡ halves c first count t) where
-  pub late-row : f .cfi ≤ s → a * h ≡ rowElements c f first count s
-  unfolding rowElements controlSymbols
-  late-row m = rw (le-ltb s (f .cfi) m, eh, et, ea) refl
-
-  pub row-fits : count ≤ 255 → a * h ≤ 3060
-  row-fits m = rw (ea, eh) (product-most (signals c (c .ports) s) (halves c first count t) count (halves-most c first count t) m)
-
--- ---- one more symbol
-module _ (c : Cell) (f : Frame) (first count : ℕ) where
-  pub no-rows : 0 ≡ sumTo 0 (rowElements c f first count)
-  unfolding sumTo
-  no-rows = refl
-
-  pub more-rows : (s n r : ℕ) → r ≡ rowElements c f first count s → n ≡ sumTo s (rowElements c f first count) → n + r ≡ sumTo (s + 1) (rowElements c f first count)
-  unfolding sumTo
-  more-rows s n r e d = rw (e, d, add-one) refl
-
-  pub all-rows : (s n S L : ℕ) → L ≡ slotLength c → S ≡ 2 * L → s ≤ S → S ≤ s → n ≡ sumTo s (rowElements c f first count) → n ≡ userElements c f first count
-  unfolding userElements
-  all-rows s n S L e d l m h =
-      let z : s ≡ symbols c = omega arith in
-      h ∙ ap (λ (x : ℕ). sumTo x (rowElements c f first count)) z

@@ -1,4 +1,5 @@
 pub mod Sums
 pub mod Counts
 pub mod Users
+pub mod Shape
 pub mod Kinds

@@ -24,10 +24,14 @@ unfoldable pub taken : Cell → Frame → ℕ → Bool
 taken c f s =
     marked f && (eqb (s + 1) (slotLength c) || eqb (s + 2) (slotLength c)) || eqb (f .subframe) 0 && leb (slotLength c) s && ltb s (slotLength c + 4)
 
--- a user's half blocks of six subcarriers, 2 first to 2 (first + count) - 1; where the centre is taken, without its twelve, N - 6 to
--- N + 5: for an odd N these are no whole blocks
+-- how many of a user's half blocks of six subcarriers, 2 first to 2 (first + count) - 1, are among the centre's twelve, N - 6 to N + 5:
+-- for an odd N these are no whole blocks
+abbrev pub centreHalves : Cell → ℕ → ℕ → ℕ
+centreHalves c first count = min (2 * (first + count)) (c .blocks + 6) - max (2 * first) (c .blocks - 6)
+
+-- a user's half blocks; where the centre is taken, without the centre's
 unfoldable pub halves : Cell → ℕ → ℕ → Bool → ℕ
-halves c first count t = 2 * count - (if t then min (2 * (first + count)) (c .blocks + 6) - max (2 * first) (c .blocks - 6) else 0)
+halves c first count t = 2 * count - (if t then centreHalves c first count else 0)
 
 -- a user's places in symbol s: "its blocks, symbols s ≥ CFI, not owned above"
 unfoldable pub rowElements : Cell → Frame → ℕ → ℕ → ℕ → ℕ

@@ -1,12 +1,13 @@
-// How many places a user has, in constant work per symbol (document 01: "a user's G is the number of its places, ports not
-// multiplied"), and all users together: what build and read return.
+// How many places a user has, by products with numbers that are summed up once for all users (document 01: "a user's G is the number
+// of its places, ports not multiplied"), and all users together: what build and read return.
 ghost use mathlib.Core.Path.{_≡_};
 ghost use Prim.Native.Nat.{ℕ, _+_, _-_, _*_, _≤_, _<_, min, max};
 ghost use mathlib.Core.Bool.{Bool};
 ghost use Rattle.plan.specs.Check.{checkOf};
 ghost use Rattle.plan.specs.declared.Checked.the-variants.{Plan as accepted};
 ghost use Rattle.layout.specs.Owners.{symbols, carriers};
-ghost use Rattle.counts.specs.Users.{signals, taken as takenAt, halves, rowElements, userElements};
+ghost use Rattle.counts.specs.Users.{signals, taken as takenAt, centreHalves};
+ghost use Rattle.counts.specs.Shape.{rowPlaces, centrePlaces, slotShape, shapeOf, slotCount, countBy, SlotIn, ShapeIn};
 ghost use Rattle.counts.specs.Counts.{kinds, kindCount};
 ghost use Rattle.counts.specs.Kinds.{crsElements, syncElements, pbchElements, holes as holesOf, heldElements};
 ghost use Rattle.base.specs.Tables.{table};
@@ -14,6 +15,19 @@ use layout::slot_length;
 use plan::Cell;
 use plan::Frame;
 use plan::Plan;
+use plan::User;
+
+// Of one slot, the places of six subcarriers that users can have: in all of its symbols, and in those whose centre is taken.
+pub struct SlotShape {
+    pub whole: usize,
+    pub centre: usize,
+}
+
+// What a user's count needs of the cell and the frame: of the even slot, 2f, and of the odd one.
+pub struct Shape {
+    pub even: SlotShape,
+    pub odd: SlotShape,
+}
 
 fn smaller(a: usize, b: usize) -> usize
     ensures { λ r. ⌜ r ≡ min a b ⌝ }
@@ -70,7 +84,7 @@ pub fn taken(cell: Cell, frame: Frame, s: usize) -> bool
 
 // How many of a user's half blocks are the centre's. All is shifted by six: the centre's first half block, N - 6, is N here.
 fn centre_halves(cell: Cell, first: u8, count: u8) -> usize
-    ensures { λ r. ⌜ r ≡ min (2 * (first + count)) (cell .blocks + 6) - max (2 * first) (cell .blocks - 6) ⌝ }
+    ensures { λ r. ⌜ r ≡ centreHalves cell first count ⌝ }
 {
     let n = cell.blocks as usize;
     let start = 2 * (first as usize) + 6;
@@ -82,40 +96,76 @@ fn centre_halves(cell: Cell, first: u8, count: u8) -> usize
     0
 }
 
-// A user's half blocks: all of its blocks', or those outside the centre.
-fn half_blocks(cell: Cell, first: u8, count: u8, outside: bool) -> usize
-    ensures { λ r. ⌜ r ≡ halves cell first count outside ⌝ }
-{
-    let all = 2 * (count as usize);
-    if outside {
-        return all - centre_halves(cell, first, count);
-    }
-    all
-}
-
-// A user's places in symbol s.
-fn row_count(cell: Cell, frame: Frame, first: u8, count: u8, s: usize) -> usize
+// The places of six subcarriers in symbol s that users can have: none in the control region.
+fn row_places(cell: Cell, frame: Frame, s: usize) -> usize
     requires { ⌜ s < 14 ⌝ }
-    ensures { λ r. ⌜ r ≡ rowElements cell frame first count s ⌝ }
+    ensures { λ r. ⌜ r ≡ rowPlaces cell frame s ⌝ }
 {
-    if s < (frame.cfi as usize) {
+    if s < layout::control_symbols(cell, frame) {
         return 0;
     }
-    half_places(cell, s) * half_blocks(cell, first, count, taken(cell, frame, s))
+    half_places(cell, s)
 }
 
-// A user's G: one turn for each symbol, constant work in each.
-pub fn user_count(cell: Cell, frame: Frame, first: u8, count: u8) -> usize
-    ensures { λ r. ⌜ r ≡ userElements cell frame first count ⌝ }
+// The same of a symbol whose centre is taken, and 0 of any other.
+fn centre_places(cell: Cell, frame: Frame, s: usize) -> usize
+    requires { ⌜ s < 14 ⌝ }
+    ensures { λ r. ⌜ r ≡ centrePlaces cell frame s ⌝ }
 {
-    let symbols = 2 * slot_length(cell);
-    let mut n: usize = 0;
-    let mut s: usize = 0;
-    while s < symbols {
-        n = n + row_count(cell, frame, first, count, s);
-        s = s + 1;
+    if taken(cell, frame, s) {
+        return row_places(cell, frame, s);
     }
-    n
+    0
+}
+
+// The sums of both over the slot whose first symbol is start.
+fn slot_shape(cell: Cell, frame: Frame, start: usize) -> SlotShape
+    requires { ⌜ start ≤ 7 ⌝ }
+    ensures { λ r. ⌜ r ≡ slotShape cell frame start ⌝ }
+{
+    let symbols = slot_length(cell);
+    let mut whole: usize = 0;
+    let mut centre: usize = 0;
+    let mut l: usize = 0;
+    while l < symbols {
+        whole = whole + row_places(cell, frame, start + l);
+        centre = centre + centre_places(cell, frame, start + l);
+        l = l + 1;
+    }
+    SlotShape {
+        whole: whole,
+        centre: centre,
+    }
+}
+
+// Both slots: made once for all users of a plan, since it takes a turn for each symbol.
+pub fn shape_of(cell: Cell, frame: Frame) -> Shape
+    ensures { λ r. ⌜ r ≡ shapeOf cell frame ⌝ }
+{
+    let even = slot_shape(cell, frame, 0);
+    let odd = slot_shape(cell, frame, slot_length(cell));
+    Shape {
+        even: even,
+        odd: odd,
+    }
+}
+
+// A user's places in a slot: in every symbol's half blocks, less the centre's where it is taken.
+fn slot_count(cell: Cell, slot: SlotShape, first: u8, count: u8) -> usize
+    requires { ⌜ SlotIn slot ⌝ }
+    ensures { λ r. ⌜ r ≡ slotCount cell slot first count ⌝ }
+{
+    slot.whole * (2 * (count as usize)) - slot.centre * centre_halves(cell, first, count)
+}
+
+// A user's G. The caller has the shape from shape_of.
+pub fn user_count(cell: Cell, shape: Shape, u: User) -> usize
+    requires { ⌜ ShapeIn shape ⌝ }
+    ensures { λ r. ⌜ r ≡ countBy cell shape u ⌝ }
+{
+    let even = shape.even;
+    let odd = shape.odd;
+    slot_count(cell, even, u.first, u.count) + slot_count(cell, odd, u.first, u.count)
 }
 
 // The count of user elements, ports not multiplied. The caller has the plan from the plan check.
@@ -123,12 +173,13 @@ pub fn users_count(plan: &[u8], p: Plan) -> usize
     requires { ⌜ checkOf (now plan) ≡ accepted p ⌝ }
     ensures { λ r. ⌜ r ≡ kindCount (now (plan .entry)) p 6 ⌝ }
 {
+    let shape = shape_of(p.cell, p.frame);
     let mut n: usize = 0;
     let mut at = p.users.at;
     let mut left = p.users.count;
     while 0 < left {
         let u = plan::user_at(plan, at);
-        n = n + user_count(p.cell, p.frame, u.first, u.count);
+        n = n + user_count(p.cell, shape, u);
         at = plan::next_at(plan, at);
         left = left - 1;
     }

@@ -27,11 +27,11 @@ use Rattle.plan.proofs.Counts.{his-most, users-most}
 use Rattle.base.specs.Choice.{if_then_else_}
 use Rattle.counts.specs.Sums.{sumOf}
 use Rattle.counts.specs.Users.{userElements, allElements}
+use Rattle.counts.proofs.UserSizes.{users-few}
 use Rattle.payload.specs.Sections.{bytesOf}
 use Rattle.payload.specs.Payload.{pbchBits, heads, payloadLength}
 use Rattle.payload.specs.Loops.{computedBits, computedSections}
 use Rattle.payload.proofs.Sections.{sections-computed}
-use Rattle.payload.proofs.Room.{ready}
 use Rattle.mapper.specs.Calls.{answerWith, numberAnswer, payloadLengthOf}
 use Rattle.mapper.specs.declared.Number.{Number}
 use Rattle.mapper.specs.declared.Number.the-variants.{Is}
@@ -67,7 +67,7 @@ module _ (w : List ℕ) where
         broadcast-most (p .cell) (p .frame),
         his-most w p e,
         users-bytes-most (p .cell) (p .frame) (usersOf w p) (valid w p e .users),
-        ready w p e .fits,
+        users-few w p e,
         valid w p e .users-count,
         users-most w p e,
       )

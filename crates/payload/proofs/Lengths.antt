@@ -1,6 +1,6 @@
 -- The lengths, as the code finds them. Assumes nothing.
 use Prim.Native.Nat.{ℕ, zero, suc, _+_, _-_, _*_, _/_, _≤_, _<_}
-use mathlib.Core.Path.{_≡_, refl, sym, ap, _∙_, subst}
+use mathlib.Core.Path.{_≡_, refl, sym, ap, _∙_}
 use mathlib.Core.Bool.{Bool, true, false}
 use mathlib.Core.List.{List, [], _∷_}
 use native.Mathlib.Nat.{mul-le-mul, not-suc-le-zero}
@@ -28,11 +28,14 @@ use Rattle.layout.specs.Rules.{slotLength}
 use Rattle.layout.specs.Owners.{symbols}
 use Rattle.counts.specs.Sums.{sumOf}
 use Rattle.counts.specs.Users.{userElements, allElements}
+use Rattle.counts.specs.declared.Shape.{Shape}
+use Rattle.counts.specs.Shape.{shapeOf, countBy, ShapeIn}
+use Rattle.counts.proofs.Shapes.{count-is, count-most}
+use Rattle.counts.proofs.UserSizes.{users-few}
 use Rattle.payload.specs.Sections.{sectionBytes, bytesOf}
 use Rattle.payload.specs.Payload.{pbchBits, heads, payloadLength, usersStart, gridLength}
-use Rattle.payload.specs.Loops.{computedBits, computedSections, UserReady, Ready}
+use Rattle.payload.specs.Loops.{computedBits, computedSections}
 use Rattle.payload.proofs.Sections.{length-is, users-computed}
-use Rattle.payload.proofs.Room.{ready}
 
 -- ---- PBCH, symbols, the grid
 module _ (c : Cell) (f : Frame) where
@@ -82,12 +85,17 @@ bits-most : (c : Cell) (f : Frame) (u : User) → UserIn c u → computedBits c 
 unfolding computedBits
 bits-most c f u h = mul-le-mul {n₂ = 6} {m₂ = userElements c f (u .first) (u .count)} (order-most c u h) (omega arith)
 
-pub user-fits : (c : Cell) (f : Frame) (u : User) → UserReady c f u → computedBits c f u ≤ 100800
-user-fits c f u h = omega (arith, bits-most c f u (h .user), h .fits)
+-- an order and a count in blocks are bytes, so that the product does not wrap
+pub bits-fit : (c : Cell) (x : Shape) (u : User) → ShapeIn x → u .order ≤ 255 → u .count ≤ 255 → u .order * countBy c x u ≤ 10924200
+bits-fit c x u h o n = mul-le-mul {n₂ = 255} {m₂ = 42840} o (count-most c x h u n)
 
-pub bits-is : (c : Cell) (f : Frame) (u : User) (o g : ℕ) → o ≡ u .order → g ≡ userElements c f (u .first) (u .count) → o * g ≡ computedBits c f u
+pub bits-found : (c : Cell) (x : Shape) (u : User) (o g : ℕ) → o ≡ u .order → g ≡ countBy c x u → o * g ≡ u .order * countBy c x u
+bits-found c x u o g eo eg = rw (eo, eg) refl
+
+-- they are the bits by the count over the symbols
+pub bits-are : (c : Cell) (f : Frame) (u : User) (x : Shape) (n : ℕ) → x ≡ shapeOf c f → n ≡ u .order * countBy c x u → n ≡ computedBits c f u
 unfolding computedBits
-bits-is c f u o g eo eg = rw (eo, eg) refl
+bits-are c f u x n e en = en ∙ ap (λ (g : ℕ). u .order * g) (count-is c f u x e)
 
 bytes-most : (c : Cell) (f : Frame) (us : List User) → Every (UserIn c) us → bytesOf (computedSections c f us) ≤ 6 * allElements c f us
 unfolding computedSections bytesOf allElements sumOf
@@ -99,24 +107,11 @@ pub next-user : (w : List ℕ) (at n : ℕ) (u : User) → 0 < n → u ≡ userO
 next-user w at zero u h e to q = absurd (not-suc-le-zero h)
 next-user w at (suc n) u h e to q = rw (sub-one, e, q) (row-next userOf w at n)
 
-module _ (c : Cell) (f : Frame) (u : User) (us rest : List User) (e : us ≡ u ∷ rest) where
-  cons-ready : Ready c f us → Ready c f (u ∷ rest)
-  cons-ready r = subst (λ (l : List User). Ready c f l) e r
-
-  pub ready-user : Ready c f us → UserReady c f u
-  unfolding allElements sumOf
-  ready-user r = let s = cons-ready r in record { cell = s .cell; frame = s .frame; user = s .users .0; fits = omega (arith, s .fits) }
-
-  pub ready-rest : Ready c f us → Ready c f rest
-  unfolding allElements sumOf
-  ready-rest r = let s = cons-ready r in record { cell = s .cell; frame = s .frame; users = s .users .1; fits = omega (arith, s .fits) }
-
-  pub bytes-next : bytesOf (computedSections c f us) ≡ sectionBytes (computedBits c f u) + bytesOf (computedSections c f rest)
-  unfolding computedSections bytesOf
-  bytes-next = ap (λ (l : List User). bytesOf (computedSections c f l)) e
-
-pub ready-fits : (c : Cell) (f : Frame) (us : List User) → Ready c f us → bytesOf (computedSections c f us) ≤ 100800
-ready-fits c f us r = omega (arith, bytes-most c f us (r .users), r .fits)
+pub bytes-next :
+    (c : Cell) (f : Frame) (u : User) (us rest : List User) → us ≡ u ∷ rest
+    → bytesOf (computedSections c f us) ≡ sectionBytes (computedBits c f u) + bytesOf (computedSections c f rest)
+unfolding computedSections bytesOf
+bytes-next c f u us rest e = ap (λ (l : List User). bytesOf (computedSections c f l)) e
 
 pub bytes-none : (w : List ℕ) (c : Cell) (f : Frame) (at n : ℕ) → n ≤ 0 → bytesOf (computedSections c f (usersFrom (drop at w) n)) ≡ 0
 unfolding computedSections bytesOf
@@ -142,13 +137,14 @@ unfolding usersStart heads bytesOf
 start-most w p v = omega (arith, pbch-most (p .cell) (p .frame), v .users-at, v .inside)
 
 module _ (w : List ℕ) (p : Plan) (e : checkOf w ≡ accepted p) where
-  pub plan-ready : Ready (p .cell) (p .frame) (usersFrom (drop (p .users .at) w) (p .users .count))
+  -- the users of an accepted plan have at most 16,800 elements together, of at most six bits, so that no length wraps
+  pub users-fit : bytesOf (computedSections (p .cell) (p .frame) (usersFrom (drop (p .users .at) w) (p .users .count))) ≤ 100800
   unfolding usersOf
-  plan-ready = ready w p e
+  users-fit = omega (arith, bytes-most (p .cell) (p .frame) (usersOf w p) (valid w p e .users), users-few w p e)
 
   module _ (a b : ℕ) (ea : a ≡ usersStart p) (eb : b ≡ bytesOf (computedSections (p .cell) (p .frame) (usersFrom (drop (p .users .at) w) (p .users .count)))) where
     pub length-room : a + b ≤ 100861 + length w / 24
-    length-room = omega (arith, start-most w p (valid w p e), ready-fits (p .cell) (p .frame) (usersFrom (drop (p .users .at) w) (p .users .count)) plan-ready)
+    length-room = omega (arith, start-most w p (valid w p e), users-fit)
 
     pub length-found : a + b ≡ payloadLength w p
     unfolding usersOf
@@ -156,21 +152,14 @@ module _ (w : List ℕ) (p : Plan) (e : checkOf w ≡ accepted p) where
 
 -- ---- the loop of users_length: so many bytes for the users before position at, and left users from there on
 pub record Going (w : List ℕ) (c : Cell) (f : Frame) (start count bytes at left : ℕ) : Type 0 where
-  pub ready : Ready c f (usersFrom (drop at w) left)
   pub so-far : bytes + bytesOf (computedSections c f (usersFrom (drop at w) left)) ≡ bytesOf (computedSections c f (usersFrom (drop start w) count))
   pub most : bytesOf (computedSections c f (usersFrom (drop start w) count)) ≤ 100800
-
-pub going-first : (w : List ℕ) (c : Cell) (f : Frame) (start count : ℕ) → Ready c f (usersFrom (drop start w) count) → Going w c f start count 0 start count
-going-first w c f start count r = record { ready = r; so-far = omega arith; most = ready-fits c f (usersFrom (drop start w) count) r }
 
 module _ {w : List ℕ} {c : Cell} {f : Frame} {start count bytes at left : ℕ} (g : Going w c f start count bytes at left) where
   pub going-end : left ≤ 0 → bytes ≡ bytesOf (computedSections c f (usersFrom (drop start w) count))
   going-end h = omega (arith, g .so-far, bytes-none w c f at left h)
 
   module _ (h : 0 < left) (u : User) (e : u ≡ userOf (drop at w)) where
-    pub going-user : UserReady c f u
-    going-user = ready-user c f u (usersFrom (drop at w) left) (usersFrom (drop (nextOf w at) w) (left - 1)) (next-user w at left u h e (nextOf w at) refl) (g .ready)
-
     module _ (s : ℕ) (es : s ≡ sectionBytes (computedBits c f u)) where
       pub going-room : bytes + s ≤ 100800
       going-room =
@@ -187,7 +176,6 @@ module _ {w : List ℕ} {c : Cell} {f : Frame} {start count bytes at left : ℕ}
           let rest = usersFrom (drop to w) (left - 1) in
           let z : all ≡ u ∷ rest = next-user w at left u h e to q in
           record {
-            ready = ready-rest c f u all rest z (g .ready);
             so-far = omega (arith, g .so-far, bytes-next c f u all rest z);
             most = g .most;
           }

@@ -25,9 +25,9 @@ use Rattle.plan.specs.declared.Checked.the-variants.{Plan as accepted}
 use Rattle.plan.proofs.RowLaws.{row-zero}
 use Rattle.payload.specs.Sections.{sectionBytes, bytesOf, span, spareAt, sparesFrom}
 use Rattle.payload.specs.Payload.{pbchBits, heads, payloadLength, usersStart, spareBits, noneSet, spareClear}
-use Rattle.payload.specs.Loops.{computedBits, computedSections, UserReady, Ready}
+use Rattle.payload.specs.Loops.{computedBits, computedSections}
 use Rattle.payload.proofs.Sections.{length-is, users-computed, sections-computed, spares-append}
-use Rattle.payload.proofs.Lengths.{next-user, ready-user, ready-rest, bytes-next}
+use Rattle.payload.proofs.Lengths.{next-user, bytes-next}
 
 -- ---- the k lowest bits of a byte, the most significant of them first
 span-first : (a n : ℕ) → span a (suc n) ≡ a ∷ span (a + 1) n
@@ -108,7 +108,6 @@ spares-none s at = refl
 
 -- ---- the loop of users_clear
 pub record Clearing (w : List ℕ) (c : Cell) (f : Frame) (start count : ℕ) (s : List ℕ) (first byte at left : ℕ) : Type 0 where
-  pub ready : Ready c f (usersFrom (drop at w) left)
   pub room : byte + bytesOf (computedSections c f (usersFrom (drop at w) left)) ≤ length s
   pub same : noneSet s (sparesFrom byte (computedSections c f (usersFrom (drop at w) left))) ≡ noneSet s (sparesFrom first (computedSections c f (usersFrom (drop start w) count)))
 
@@ -121,9 +120,6 @@ module _ {w : List ℕ} {c : Cell} {f : Frame} {start count : ℕ} {s : List ℕ
   module _ (h : 0 < left) (u : User) (e : u ≡ userOf (drop at w)) where
     abbrev All : List User
     All = usersFrom (drop at w) left
-
-    pub clearing-user : UserReady c f u
-    clearing-user = ready-user c f u All (usersFrom (drop (nextOf w at) w) (left - 1)) (next-user w at left u h e (nextOf w at) refl) (g .ready)
 
     module _ (n : ℕ) (en : n ≡ computedBits c f u) where
       pub clearing-room : byte + sectionBytes n ≤ length s
@@ -149,7 +145,6 @@ module _ {w : List ℕ} {c : Cell} {f : Frame} {start count : ℕ} {s : List ℕ
           let rest = usersFrom (drop to w) (left - 1) in
           let z : All ≡ u ∷ rest = next-user w at left u h e to qt in
           record {
-            ready = ready-rest c f u All rest z (g .ready);
             room = rw (ek, en) (omega (arith, bytes-next c f u All rest z, g .room));
             same = rw ek (sym (split to qt ∙ rw (← et, q) refl) ∙ g .same);
           }

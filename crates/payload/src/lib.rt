@@ -1,15 +1,18 @@
 // The payload of a plan (document 01, Plan and payload; Refusals 10 to 12): its sections, its length, and its spare bits.
 ghost use mathlib.Core.Path.{_≡_};
-ghost use Prim.Native.Nat.{_+_, _≤_};
+ghost use Prim.Native.Nat.{_+_, _*_, _≤_};
 ghost use lib.ListN.{length, drop};
 ghost use Rattle.plan.specs.Check.{checkOf};
 ghost use Rattle.plan.specs.Rows.{usersFrom};
 ghost use Rattle.plan.specs.declared.Checked.the-variants.{Plan as accepted};
 ghost use Rattle.layout.specs.Owners.{symbols};
+ghost use Rattle.counts.specs.Shape.{countBy, ShapeIn};
 ghost use Rattle.payload.specs.Sections.{sectionBytes, bytesOf, spareAt, sparesFrom};
 ghost use Rattle.payload.specs.Payload.{pbchBits, heads, payloadLength, usersStart, gridLength, noneSet, spareClear};
-ghost use Rattle.payload.specs.Loops.{computedBits, computedSections, UserReady, Ready};
+ghost use Rattle.payload.specs.Loops.{computedSections};
 use base::wide;
+use counts::Shape;
+use counts::shape_of;
 use counts::user_count;
 use plan::Cell;
 use plan::Frame;
@@ -35,12 +38,12 @@ pub fn pbch_bits(c: Cell, f: Frame) -> usize
     if c.prefix == 1 { 432 } else { 480 }
 }
 
-// The bits of a user's section. Whoever calls has the user from an accepted plan.
-pub fn user_bits(c: Cell, f: Frame, u: User) -> usize
-    requires { ⌜ UserReady c f u ⌝ }
-    ensures { λ r. ⌜ r ≡ computedBits c f u ⌝ }
+// The bits of a user's section. Whoever calls has the shape from shape_of.
+pub fn user_bits(c: Cell, shape: Shape, u: User) -> usize
+    requires { ⌜ ShapeIn shape ⌝ }
+    ensures { λ r. ⌜ r ≡ u .order * countBy c shape u ⌝ }
 {
-    wide(u.order) * user_count(c, f, u.first, u.count)
+    wide(u.order) * user_count(c, shape, u)
 }
 
 // The symbols of a subframe.
@@ -65,16 +68,17 @@ pub fn users_start(p: Plan) -> usize
     section_bytes(pbch_bits(p.cell, p.frame)) + section_bytes(p.his.count)
 }
 
-// The bytes of the sections of count users, whose commands stand from position start on.
-fn users_length(plan: &[u8], c: Cell, f: Frame, start: usize, count: usize) -> usize
-    requires { ⌜ Ready c f (usersFrom (drop start (now plan)) count) ⌝ }
-    ensures { λ r. ⌜ r ≡ bytesOf (computedSections c f (usersFrom (drop start (now (plan .entry))) count)) ⌝ }
+// The bytes of the users' sections.
+fn users_length(plan: &[u8], p: Plan) -> usize
+    requires { ⌜ checkOf (now plan) ≡ accepted p ⌝ }
+    ensures { λ r. ⌜ r ≡ bytesOf (computedSections (p .cell) (p .frame) (usersFrom (drop (p .users .at) (now (plan .entry))) (p .users .count))) ⌝ }
 {
+    let shape = shape_of(p.cell, p.frame);
     let mut bytes: usize = 0;
-    let mut at = start;
-    let mut left = count;
+    let mut at = p.users.at;
+    let mut left = p.users.count;
     while 0 < left {
-        bytes = bytes + section_bytes(user_bits(c, f, user_at(plan, at)));
+        bytes = bytes + section_bytes(user_bits(p.cell, shape, user_at(plan, at)));
         at = next_at(plan, at);
         left = left - 1;
     }
@@ -86,7 +90,7 @@ pub fn payload_length(plan: &[u8], p: Plan) -> usize
     requires { ⌜ checkOf (now plan) ≡ accepted p ⌝ }
     ensures { λ r. ⌜ r ≡ payloadLength (now (plan .entry)) p ⌝ }
 {
-    users_start(p) + users_length(plan, p.cell, p.frame, p.users.at, p.users.count)
+    users_start(p) + users_length(plan, p)
 }
 
 // Whether the spare bits of a section of so many bits are 0. They are the lowest bits of its last byte.
@@ -115,24 +119,17 @@ fn heads_clear(p: Plan, payload: &[u8]) -> bool
     }
 }
 
-// The same of the sections of count users, whose commands stand from position start on and whose sections from byte first on.
-fn users_clear(
-    plan: &[u8],
-    c: Cell,
-    f: Frame,
-    start: usize,
-    count: usize,
-    payload: &[u8],
-    first: usize,
-) -> bool
-    requires { ⌜ Ready c f (usersFrom (drop start (now plan)) count) × (first + bytesOf (computedSections c f (usersFrom (drop start (now plan)) count)) ≤ length (now payload)) ⌝ }
-    ensures { λ r. ⌜ r ≡ noneSet (now (payload .entry)) (sparesFrom first (computedSections c f (usersFrom (drop start (now (plan .entry))) count))) ⌝ }
+// The same of the users' sections, which stand from byte first on.
+fn users_clear(plan: &[u8], p: Plan, payload: &[u8], first: usize) -> bool
+    requires { ⌜ first + bytesOf (computedSections (p .cell) (p .frame) (usersFrom (drop (p .users .at) (now plan)) (p .users .count))) ≤ length (now payload) ⌝ }
+    ensures { λ r. ⌜ r ≡ noneSet (now (payload .entry)) (sparesFrom first (computedSections (p .cell) (p .frame) (usersFrom (drop (p .users .at) (now (plan .entry))) (p .users .count)))) ⌝ }
 {
+    let shape = shape_of(p.cell, p.frame);
     let mut byte = first;
-    let mut at = start;
-    let mut rest = count;
+    let mut at = p.users.at;
+    let mut rest = p.users.count;
     while 0 < rest {
-        let bits = user_bits(c, f, user_at(plan, at));
+        let bits = user_bits(p.cell, shape, user_at(plan, at));
         if !section_clear(payload, byte, bits) {
             return false;
         }
@@ -149,15 +146,7 @@ pub fn spare_clear(plan: &[u8], p: Plan, payload: &[u8]) -> bool
     ensures { λ r. ⌜ r ≡ spareClear (now (plan .entry)) p (now (payload .entry)) ⌝ }
 {
     if heads_clear(p, payload) {
-        users_clear(
-            plan,
-            p.cell,
-            p.frame,
-            p.users.at,
-            p.users.count,
-            payload,
-            users_start(p),
-        )
+        users_clear(plan, p, payload, users_start(p))
     } else {
         false
     }

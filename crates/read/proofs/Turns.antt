@@ -18,7 +18,7 @@ use Rattle.plan.proofs.Valid.{valid}
 use Rattle.plan.proofs.Counts.{blocks-least, units-least}
 use Rattle.payload.specs.Sections.{sectionBytes, bytesOf}
 use Rattle.payload.specs.Payload.{pbchBits, userBits, heads, payloadLength, usersStart}
-use Rattle.payload.specs.Loops.{computedBits, UserReady}
+use Rattle.payload.specs.Loops.{computedBits}
 use Rattle.payload.proofs.Lengths.{pbch-none}
 use Rattle.payload.proofs.Sections.{userStart, user-start-first, user-start-end}
 use Rattle.subframe.specs.Elements.{userInit}
@@ -34,7 +34,7 @@ use Rattle.control.specs.Reading.{ackFrom, ReadIn}
 use Rattle.control.proofs.ReadingOwners.{acks-are, read-in}
 use Rattle.channels.specs.declared.Channel.the-variants.{Pbch as PbchChannel, Phich as PhichChannel, User as UserChannel}
 use Rattle.channels.specs.Channels.{initOf, firstBit, Among}
-use Rattle.build.proofs.Slices.{From, from-first, from-user, from-next, start-room, user-valid, user-ready, start-next, section-end, heads-room}
+use Rattle.build.proofs.Slices.{From, from-first, from-user, from-next, start-room, user-valid, start-next, section-end, heads-room}
 use Rattle.verify.specs.Made.{Given}
 use Rattle.verify.proofs.Known.{pbch-known, pbch-even, user-known, user-even}
 use Rattle.read.specs.Reading.{Readable, ReadTo}
@@ -140,9 +140,6 @@ module _ (w : List ℕ) (p : Plan) (g : List ℕ) {before : List ℕ} (start : R
 
     user-is : u ≡ nthUser w p i
     user-is = eu ∙ from-user w p at i (so .users) in-i more
-
-    pub going-ready : UserReady (p .cell) (p .frame) u
-    going-ready = subst (UserReady (p .cell) (p .frame)) (sym user-is) (user-ready w p ok [] i in-i (start .room .fits))
 
     pub going-begins : CellIn (p .cell) × FrameIn (p .frame) × Among p (UserChannel u)
     unfolding Among

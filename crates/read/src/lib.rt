@@ -53,12 +53,13 @@ fn read_users(plan: &[u8], p: Plan, grid: &[u8], payload: &mut [u8])
     requires { ⌜ Readable (now plan) p (now grid) (now payload) × ReadTo (now plan) p (now grid) (usersStart p) (now payload) ⌝ }
     ensures { λ _. ⌜ now (payload .exit) ≡ payloadIn (now (plan .entry)) p (now (grid .entry)) ⌝ }
 {
+    let shape = counts::shape_of(p.cell, p.frame);
     let mut at = p.users.at;
     let mut start = payload::users_start(p);
     let mut i: usize = 0;
     while i < p.users.count {
         let u = plan::user_at(plan, at);
-        let end = start + payload::section_bytes(payload::user_bits(p.cell, p.frame, u));
+        let end = start + payload::section_bytes(payload::user_bits(p.cell, shape, u));
         let area = data::user_area(p.cell, p.frame, u);
         let r = started(p, Channel::User(u));
         data_read::read_area(r, area, u.order as u32, grid, &mut payload[start..end]);

@@ -1,6 +1,6 @@
 -- `payload::payload_length` meets its contract. Assumes nothing.
 use native.Mathlib.Omega.{arith}
-use Rattle.payload.proofs.Lengths.{plan-ready, length-room, length-found}
+use Rattle.payload.proofs.Lengths.{length-room, length-found}
 use Rattle.payload.proofs.payload_length.Statement.{statement}
 use Rattle.payload.proofs.payload_length.Tie as tie
 
@@ -8,9 +8,7 @@ users-start-requires : tie.Need-users-start-requires
 users-start-requires c κs = tt
 
 users-length-requires : tie.Need-users-length-requires
-users-length-requires c κs =
-    let a = c .before .before .args in
-    plan-ready (a .plan .now) (a .p) (c .before .before .pre)
+users-length-requires c κs = c .before .before .pre
 
 add-result : tie.Need-add-result
 add-result c =

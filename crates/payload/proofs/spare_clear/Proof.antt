@@ -1,5 +1,4 @@
 -- `payload::spare_clear` meets its contract. Assumes nothing.
-use Rattle.payload.proofs.Lengths.{plan-ready}
 use Rattle.payload.proofs.Spare.{heads-room, users-room, heads-set, users-rest}
 use Rattle.payload.proofs.spare_clear.Statement.{statement}
 use Rattle.payload.proofs.spare_clear.Tie as tie
@@ -17,7 +16,7 @@ users-clear-requires : tie.Need-users-clear-requires
 users-clear-requires c κs =
     let a = c .before .before .before .before .before .args in
     let pre = c .before .before .before .before .before .pre in
-    (plan-ready (a .plan .now) (a .p) (pre .0), users-room (a .plan .now) (a .p) (pre .0) (a .payload .now) (pre .1) _ (c .users-start .ensures))
+    users-room (a .plan .now) (a .p) (pre .0) (a .payload .now) (pre .1) _ (c .users-start .ensures)
 
 returns : tie.Need-returns
 returns c =

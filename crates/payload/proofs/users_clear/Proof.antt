@@ -1,45 +1,67 @@
 -- `payload::users_clear` meets its contract. The loop: the answer for the users left is the answer for all. Assumes nothing.
-use Prim.Native.Nat.{_+_, _≤_}
-use lib.ListN.{length}
-use Rattle.payload.specs.Sections.{sectionBytes}
+use Rattle.counts.proofs.Shapes.{shape-in}
 use native.Mathlib.Omega.{arith}
 use borrow.Author.Tests.{not-true, not-false}
 use mathlib.Core.Path.{refl}
-use Rattle.payload.proofs.Spare.{Clearing, clearing-user, clearing-room, clearing-set, clearing-next, clearing-end}
+use Rattle.payload.proofs.Lengths.{bits-are}
+use Rattle.payload.proofs.Spare.{Clearing, clearing-room, clearing-set, clearing-next, clearing-end}
 use Rattle.payload.proofs.users_clear.Statement.{statement}
 use Rattle.payload.proofs.users_clear.Tie as tie
 
 abbrev Inv-loop : tie.InvT-loop
-Inv-loop plan c f start count payload first byte₀ at₀ rest₀ byte at rest = Clearing plan c f start count payload first byte at rest
+Inv-loop plan p payload first shape byte₀ at₀ rest₀ byte at rest = Clearing plan (p .cell) (p .frame) (p .users .at) (p .users .count) payload first byte at rest
 
 abbrev μ-loop : tie.MeasureT-loop
-μ-loop plan c f start count payload first byte₀ at₀ rest₀ byte at rest = rest
+μ-loop plan p payload first shape byte₀ at₀ rest₀ byte at rest = rest
+
+shape-of-requires : tie.Need-shape-of-requires Inv-loop μ-loop
+shape-of-requires c κs = tt
 
 loop-holds : tie.Need-loop-holds Inv-loop μ-loop
-loop-holds c = record { ready = c .before .before .pre .0; room = c .before .before .pre .1; same = refl }
+loop-holds c = record { room = c .before .before .before .pre; same = refl }
 
 user-at-requires : tie.Need-user-at-requires Inv-loop μ-loop
 user-at-requires c κs = tt
 
 user-bits-requires : tie.Need-user-bits-requires Inv-loop μ-loop
-user-bits-requires c κs = clearing-user (c .before .before .loop .inv) (omega arith) _ (c .user-at .ensures)
+user-bits-requires c κs =
+    let a = c .before .before .before .before .before .before .args in
+    let x = c .before .before .before .shape-of in
+    shape-in (a .p .cell) (a .p .frame) _ (x .ensures)
 
 section-clear-requires : tie.Need-section-clear-requires Inv-loop μ-loop
-section-clear-requires c κs = clearing-room (c .before .before .before .loop .inv) (omega arith) _ (c .before .user-at .ensures) _ (c .user-bits .ensures)
+section-clear-requires c κs =
+    let a = c .before .before .before .before .before .before .before .args in
+    let x = c .before .before .before .before .shape-of in
+    let l = c .before .before .before .loop in
+    let u = c .before .user-at in
+    let n = c .user-bits in
+    let e = bits-are (a .p .cell) (a .p .frame) (u .result) _ _ (x .ensures) (n .ensures) in
+    clearing-room (l .inv) (omega arith) _ (u .ensures) _ e
 
 returns : tie.Need-returns Inv-loop μ-loop
-returns c = clearing-set (c .before .before .before .before .before .loop .inv) (omega arith) _ (c .before .before .before .user-at .ensures) _ (c .before .before .user-bits .ensures) _ (c .before .section-clear .ensures) (not-true _ (c .if1 .taken))
+returns c =
+    let a = c .before .before .before .before .before .before .before .before .before .args in
+    let x = c .before .before .before .before .before .before .shape-of in
+    let l = c .before .before .before .before .before .loop in
+    let u = c .before .before .before .user-at in
+    let n = c .before .before .user-bits in
+    let t = c .before .section-clear in
+    let i = c .if1 in
+    let e = bits-are (a .p .cell) (a .p .frame) (u .result) _ _ (x .ensures) (n .ensures) in
+    clearing-set (l .inv) (omega arith) _ (u .ensures) _ e _ (t .ensures) (not-true _ (i .taken))
 
 section-bytes-requires : tie.Need-section-bytes-requires Inv-loop μ-loop
 section-bytes-requires c κs = tt
 
 add-byte : tie.Need-add-byte Inv-loop μ-loop
 add-byte c =
-    let a = c .before .before .before .before .before .before .before .before .before .args in
+    let s = c .before .before .before .before .before .before .before .before .before .before in
     let l = c .before .before .before .before .before .before .loop in
-    let n = c .before .before .before .user-bits in
-    let room : l .byte + sectionBytes (n .result) ≤ length (a .payload .now) = clearing-room (l .inv) (omega arith) _ (c .before .before .before .before .user-at .ensures) _ (n .ensures) in
-    omega (arith, c .section-bytes .ensures)
+    let u = c .before .before .before .before .user-at in
+    let x = c .before .before .before .before .before .before .before .shape-of .ensures in
+    let e = bits-are (s .args .p .cell) (s .args .p .frame) (u .result) _ _ x (c .before .before .before .user-bits .ensures) in
+    omega (arith, clearing-room (l .inv) (omega arith) _ (u .ensures) _ e, c .section-bytes .ensures, s .good)
 
 next-at-requires : tie.Need-next-at-requires Inv-loop μ-loop
 next-at-requires c κs = tt
@@ -51,7 +73,18 @@ loop-less : tie.Need-loop-less Inv-loop μ-loop
 loop-less c = omega arith
 
 loop-again : tie.Need-loop-again Inv-loop μ-loop
-loop-again c = clearing-next (c .before .before .before .before .before .before .before .loop .inv) (omega arith) _ (c .before .before .before .before .before .user-at .ensures) _ (c .before .before .before .before .user-bits .ensures) _ (c .before .before .before .section-clear .ensures) (not-false _ (c .before .before .if1 .left)) _ (c .before .section-bytes .ensures) _ (c .next-at .ensures)
+loop-again c =
+    let a = c .before .before .before .before .before .before .before .before .before .before .before .args in
+    let x = c .before .before .before .before .before .before .before .before .shape-of in
+    let l = c .before .before .before .before .before .before .before .loop in
+    let u = c .before .before .before .before .before .user-at in
+    let n = c .before .before .before .before .user-bits in
+    let t = c .before .before .before .section-clear in
+    let i = c .before .before .if1 in
+    let s = c .before .section-bytes in
+    let to = c .next-at in
+    let e = bits-are (a .p .cell) (a .p .frame) (u .result) _ _ (x .ensures) (n .ensures) in
+    clearing-next (l .inv) (omega arith) _ (u .ensures) _ e _ (t .ensures) (not-false _ (i .left)) _ (s .ensures) _ (to .ensures)
 
 returns-2 : tie.Need-returns-2 Inv-loop μ-loop
 returns-2 c = clearing-end (c .before .loop .inv) (omega arith)
@@ -62,6 +95,7 @@ users-clear-spec =
     (tie.spec
     Inv-loop
     μ-loop
+    shape-of-requires
     loop-holds
     user-at-requires
     user-bits-requires
