@@ -1,8 +1,8 @@
--- The bits of or, and, exclusive or, 2^k and 2^k - 1; a number that is not 0 has a bit that is 1. Assumes nothing.
+-- Some number below n passes a test. The bits of or, and, exclusive or, 2^k and 2^k - 1; a number that is not 0 has a bit that is 1. Assumes nothing.
 use Prim.Native.Nat.{ℕ, zero, suc, _+_, _-_, _*_, _/_, _%_, _^_, _≤_, _<_, min, max}
-use mathlib.Core.Path.{_≡_, refl, sym, ap, _∙_}
-use mathlib.Core.Bool.{Bool, true, false, not, cond, _&&_, _||_}
-use native.Mathlib.Nat.{zero-div, div-self, div-eq-of-lt, pow-suc, max-le, min-le-left}
+use mathlib.Core.Path.{_≡_, refl, sym, ap, ap₂, _∙_}
+use mathlib.Core.Bool.{Bool, true, false, not, cond, _&&_, _||_, or-assoc}
+use native.Mathlib.Nat.{zero-div, div-self, div-eq-of-lt, pow-suc, max-le, min-le-left, not-suc-le-zero, le-of-suc-le-suc, zero-add, suc-add}
 use native.Mathlib.Numerals.{add-one}
 use native.Mathlib.Omega.{arith}
 use lib.Pow.{pow-pos, pow-mono, pow-lt, pow-add, shl-shr, high, ones-lt, ones-split}
@@ -10,11 +10,51 @@ use lib.Bits.{bitAnd, bitOr, bitXor, or-step, and-step, or-shr, and-shr}
 use lib.Dec.{eqb, ltb}
 use borrow.Author.Tests.{eq-eqb, ne-eqb, eqb-true, eqb-false, ltb-true, ltb-false}
 use Rattle.base.specs.Digits.{dig, dig-xor, dig-shr}
-use Rattle.base.proofs.Tests.{by-test}
+use Rattle.base.proofs.Tests.{by-test, clash, or-right}
 use Rattle.bitset.specs.Sets.{bit, someBelow}
-use Rattle.bitset.proofs.Below.{some-same}
 
--- a function of two bits, by its four values
+-- ---- some number below n passes: one that does, equal tests, either of two tests, two stretches
+pub or-four : (a b d e : Bool) → a || b || (d || e) ≡ a || d || (b || e)
+or-four true b d e = refl
+or-four false true true e = refl
+or-four false true false e = refl
+or-four false false d e = refl
+
+-- the next number's test
+abbrev next : (ℕ → Bool) → ℕ → Bool
+next f i = f (suc i)
+
+pub some-at : (n : ℕ) (f : ℕ → Bool) (i : ℕ) → i < n → f i ≡ true → someBelow n f ≡ true
+unfolding someBelow
+some-at zero f i l e = absurd (not-suc-le-zero l)
+some-at (suc n) f zero l e = rw e refl
+some-at (suc n) f (suc i) l e = or-right (f 0) _ (some-at n (next f) i (le-of-suc-le-suc l) e)
+
+pub some-is : (n : ℕ) (f : ℕ → Bool) → someBelow n f ≡ true → (i : ℕ) × (i < n) × (f i ≡ true)
+unfolding someBelow
+some-is zero f e = clash e refl
+some-is (suc n) f e =
+    by-test (f 0) (λ t. (0, omega arith, t))
+    (λ t. let r = some-is n (next f) (rw t at e) in (suc (r .0), omega (arith, r .1), r .2))
+
+pub some-same : (n : ℕ) (f g : ℕ → Bool) → ((i : ℕ) → i < n → f i ≡ g i) → someBelow n f ≡ someBelow n g
+unfolding someBelow
+some-same zero f g h = refl
+some-same (suc n) f g h = ap₂ (λ (a b : Bool). a || b) (h 0 (omega arith)) (some-same n (next f) (next g) (λ i l. h (suc i) (omega arith)))
+
+pub some-or : (n : ℕ) (f g : ℕ → Bool) → someBelow n (λ (i : ℕ). f i || g i) ≡ someBelow n f || someBelow n g
+unfolding someBelow
+some-or zero f g = refl
+some-or (suc n) f g = rw (some-or n (next f) (next g)) (or-four (f 0) (g 0) (someBelow n (next f)) (someBelow n (next g)))
+
+pub some-add : (n d : ℕ) (f : ℕ → Bool) → someBelow (n + d) f ≡ someBelow n f || someBelow d (λ (i : ℕ). f (n + i))
+unfolding someBelow
+some-add zero d f = rw zero-add (some-same d f (λ (i : ℕ). f (0 + i)) (λ i l. ap f (sym (zero-add i))))
+some-add (suc n) d f =
+    rw (suc-add n d, some-add n d (next f))
+    (sym (or-assoc (f 0) _ _) ∙ ap (λ (t : Bool). f 0 || someBelow n (next f) || t) (some-same d _ _ (λ i l. ap f (sym (suc-add n i)))))
+
+-- ---- a function of two bits, by its four values
 table : (op : ℕ → ℕ → ℕ) (f : Bool → Bool → Bool) → (eqb (op 0 0) 1 ≡ f false false) → (eqb (op 0 1) 1 ≡ f false true) →
     (eqb (op 1 0) 1 ≡ f true false) → (eqb (op 1 1) 1 ≡ f true true) → (x y : ℕ) → x < 2 → y < 2 → eqb (op x y) 1 ≡ f (eqb x 1) (eqb y 1)
 table op f p q r s zero zero a b = p

@@ -1,4 +1,3 @@
 -- Laws that the proofs here and in the crates above cite.
-pub mod Below
 pub mod Bits
 pub mod Sets

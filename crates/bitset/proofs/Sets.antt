@@ -1,20 +1,19 @@
 -- Who is a member: of a set with one number more, of a run, of two sets joined; what `meet` says. Assumes nothing.
-use Prim.Native.Nat.{ℕ, _+_, _-_, _*_, _/_, _%_, _^_, _≤_, _<_, min}
+use Prim.Native.Nat.{ℕ, _+_, _-_, _/_, _%_, _^_, _≤_, _<_, min}
 use mathlib.Core.Path.{_≡_, refl, sym, ap, ap₂, _∙_}
-use mathlib.Core.Bool.{Bool, true, false, not, _&&_, _||_, or-false}
-use mathlib.Core.List.{List, [], _∷_}
+use mathlib.Core.Bool.{Bool, true, false, _&&_, _||_, or-false}
+use mathlib.Core.List.{List}
 use native.Mathlib.Nat.{min-le-left, min-le-right, le-min, min-eq-left, min-eq-right}
 use native.Mathlib.Omega.{arith}
 use lib.Pow.{pow-pos, pow-mono, shl-exact}
 use lib.Bits.{bitAnd, bitOr, bitXor, xor-lt, or-lt, and-le-r}
 use lib.Dec.{eqb, leb, ltb}
-use lib.ListN.{length, getD, set}
+use lib.ListN.{length, getD}
 use lib.Seq.{getD-set-same, getD-set-other}
 use borrow.Author.Tests.{eq-eqb, ne-eqb, eqb-true, eqb-false, lt-ltb, le-leb, lt-leb, ltb-true, ltb-false, leb-true, leb-false}
 use Rattle.base.proofs.Tests.{by-test, clash, both, same-test}
 use Rattle.bitset.specs.Sets.{bit, member, shifted, added, onesOf, runWord, runOf, meet, joined, within, overlap, someBelow}
-use Rattle.bitset.proofs.Below.{some-at, some-is, some-same, some-or, some-add}
-use Rattle.bitset.proofs.Bits.{unlike, bit-or, bit-and, bit-xor, bit-zero, bit-pow, bit-ones, not-zero}
+use Rattle.bitset.proofs.Bits.{some-at, some-is, some-same, some-or, some-add, unlike, bit-or, bit-and, bit-xor, bit-zero, bit-pow, bit-ones, not-zero}
 
 -- ---- as the code makes the words
 pub shifted-is : (k : ℕ) → k < 64 → shifted k ≡ 2 ^ k
@@ -34,10 +33,6 @@ ones-part n h = rw (shifted-is n h, min-eq-left {n = n} {m = 64} (omega arith)) 
 pub ones-all : (n : ℕ) → 64 ≤ n → 2 ^ 64 - 1 ≡ onesOf n
 unfolding onesOf
 ones-all n h = rw (min-eq-right {n = 64} {m = n} h) refl
-
-pub run-made : {first k from size a b d e : ℕ} → from ≡ first → size ≡ k → a ≡ onesOf (from + size - 0) → b ≡ onesOf (from - 0) →
-    d ≡ onesOf (from + size - 64) → e ≡ onesOf (from - 64) → bitXor a b ∷ bitXor d e ∷ [] ≡ runOf first k
-run-made ef es ea eb ed ee = rw (ea, eb, ed, ee, ef, es) refl
 
 -- ---- the members
 pub in-none : (l : List ℕ) → ((i : ℕ) → getD l i 0 ≡ 0) → (n : ℕ) → member l n ≡ false
@@ -121,23 +116,19 @@ ones-fit n = let h : 2 ^ min n 64 ≤ 2 ^ 64 = pow-mono (min-le-right n 64) in o
 abbrev common : List ℕ → List ℕ → ℕ → Bool
 common a b n = member a n && member b n
 
-pub record Fits (l : List ℕ) : Type 0 where
-  pub low : getD l 0 0 < 2 ^ 64
-  pub high : getD l 1 0 < 2 ^ 64
+abbrev pub Fits : List ℕ → Type 0
+Fits l = (getD l 0 0 < 2 ^ 64) × (getD l 1 0 < 2 ^ 64)
 
 pub run-fits : (first k : ℕ) → Fits (runOf first k)
 run-fits first k =
-    record {
-      low = xor-lt 64 _ _ (ones-fit (first + k - 0)) (ones-fit (first - 0));
-      high = xor-lt 64 _ _ (ones-fit (first + k - 64)) (ones-fit (first - 64));
-    }
+    (xor-lt 64 _ _ (ones-fit (first + k - 0)) (ones-fit (first - 0)), xor-lt 64 _ _ (ones-fit (first + k - 64)) (ones-fit (first - 64)))
 
 pub meet-some : (a b : List ℕ) → Fits b → meet a b ≡ someBelow 128 (common a b)
 meet-some a b f =
     let x : ℕ = bitAnd (getD a 0 0) (getD b 0 0) in
     let y : ℕ = bitAnd (getD a 1 0) (getD b 1 0) in
-    let lx : x < 2 ^ 64 = omega (arith, and-le-r (getD a 0 0) (getD b 0 0), f .low) in
-    let ly : y < 2 ^ 64 = omega (arith, and-le-r (getD a 1 0) (getD b 1 0), f .high) in
+    let lx : x < 2 ^ 64 = omega (arith, and-le-r (getD a 0 0) (getD b 0 0), f .0) in
+    let ly : y < 2 ^ 64 = omega (arith, and-le-r (getD a 1 0) (getD b 1 0), f .1) in
     not-zero 64 (bitOr x y) (or-lt 64 x y lx ly)
     ∙ some-same 64 _ (λ (i : ℕ). bit x i || bit y i) (λ i l. bit-or x y i)
     ∙ some-or 64 (bit x) (bit y)

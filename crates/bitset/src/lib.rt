@@ -42,8 +42,8 @@ fn ones(n: usize, least: usize) -> u64
 pub fn run_of(first: u8, count: u8) -> [u64; 2]
     ensures { λ r. ⌜ r ≡ runOf first count ⌝ }
 {
-    let from = base::wide(first);
-    let to = from + base::wide(count);
+    let from = first as usize;
+    let to = from + (count as usize);
     [ones(to, 0) ^ ones(from, 0), ones(to, 64) ^ ones(from, 64)]
 }
 

@@ -10,7 +10,7 @@ use lib.ListN.{length, getD, set, replicate}
 use borrow.Author.Tests.{eq-eqb, ne-eqb, eqb-true}
 use Rattle.base.proofs.Tests.{both, same-test}
 use Rattle.bitset.specs.Sets.{member, added, meet, joined, overlap}
-use Rattle.bitset.proofs.Below.{or-four}
+use Rattle.bitset.proofs.Bits.{or-four}
 use Rattle.bitset.proofs.Sets.{in-none, in-added, run-fits, meet-joined, meet-runs}
 use Rattle.plan.specs.Lists.{oneOf, noneOf}
 use Rattle.plan.specs.Fields.{cellOk, hiOk, samePair, userOk, clash}
@@ -131,12 +131,7 @@ module _ (c : Cell) (rntis blocks : List ℕ) (u : User) {o : Bool} (eo : o ≡ 
   unfolding userFault
   user-bad f us s = rw (← eo, f) refl
 
-  module _ (to : o ≡ true) {p : Bool} (ep : p ≡ oneOf (u .rnti) rntis) where
-    pub user-used : p ≡ true → (us : List User) → UsersUsed c rntis blocks us → Is Used ≡ userFault c us u
-    unfolding userFault
-    user-used t us s = rw (← eo, to, s .at u (user-in c u (sym eo ∙ to)), ← ep, t) refl
-
-    pub user-tested : p ≡ false → {own : List ℕ} → own ≡ blocksOf u → {q : Bool} → q ≡ meet blocks own →
-        (us : List User) → UsersUsed c rntis blocks us → need (not q) Used Nothing ≡ userFault c us u
-    unfolding userFault
-    user-tested f en eq us s = rw (← eo, to, s .at u (user-in c u (sym eo ∙ to)), ← ep, f, eq, en) refl
+  pub user-tested : o ≡ true → {p : Bool} → p ≡ oneOf (u .rnti) rntis → {own : List ℕ} → own ≡ blocksOf u → {q : Bool} → q ≡ meet blocks own →
+      (us : List User) → UsersUsed c rntis blocks us → need (not (p || q)) Used Nothing ≡ userFault c us u
+  unfolding userFault
+  user-tested to ep en eq us s = rw (← eo, to, s .at u (user-in c u (sym eo ∙ to)), ep, eq, en) refl

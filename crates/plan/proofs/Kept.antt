@@ -1,12 +1,12 @@
--- What the check has made sure of at each turn: the HIs and the USERs so far are in range, and no two of them share anything. Assumes nothing.
+-- What an HI or a USER without a fault has passed, and so what the check has made sure of at each turn: the HIs and the USERs so far are in range, and no two of them share anything. Assumes nothing.
 use Prim.Native.Nat.{ℕ, _+_}
 use mathlib.Core.Path.{_≡_, refl, sym, _∙_}
 use mathlib.Core.Bool.{Bool, true, false, _&&_, _||_, false≢true}
 use mathlib.Core.List.{List, [], _∷_, _++_}
 use native.Mathlib.Omega.{arith}
 use lib.Dec.{leb, ltb, eqb}
-use borrow.Author.Tests.{eq-eqb, lt-ltb, ltb-true, leb-true}
-use Rattle.plan.specs.Lists.{oneOf, Every, Apart}
+use borrow.Author.Tests.{eq-eqb, eqb-true, lt-ltb, ltb-true, leb-true}
+use Rattle.plan.specs.Lists.{oneOf, noneOf, Every, Apart}
 use Rattle.plan.specs.Fields.{widths, portCounts, sixthCounts, orders, cellOk, frameOk, groupsOf, hiOk, samePair, userOk, clash}
 use Rattle.plan.specs.Check.{need, hiFault, userFault}
 use Rattle.plan.specs.Valid.{CellIn, FrameIn, HiIn, UserIn, OtherPair, Disjoint}
@@ -14,11 +14,48 @@ use Rattle.plan.specs.declared.Cell.{Cell}
 use Rattle.plan.specs.declared.Frame.{Frame}
 use Rattle.plan.specs.declared.Hi.{Hi}
 use Rattle.plan.specs.declared.User.{User}
-use Rattle.plan.specs.declared.Refusal.the-variants.{Order}
+use Rattle.plan.specs.declared.Refusal.{Refusal}
+use Rattle.plan.specs.declared.Refusal.the-variants.{Order, HiField, UserField, Used}
+use Rattle.plan.specs.declared.Fault.{Fault}
 use Rattle.plan.specs.declared.Fault.the-variants.{Nothing}
 use Rattle.plan.proofs.OneOf.{among}
 use Rattle.plan.proofs.Listed.{and-left, and-right, every-snoc, apart-snoc, none-every}
-use Rattle.plan.proofs.FaultLaws.{hi-in-range, hi-new, user-in-range, user-new}
+
+-- no fault: the test held, and there is none after it
+pub need-nothing : (t : Bool) (r : Refusal) (f : Fault) → Nothing ≡ need t r f → t ≡ true
+need-nothing true r f e = refl
+need-nothing false r f e = cc
+
+pub need-next : (t : Bool) (r : Refusal) (f : Fault) → Nothing ≡ need t r f → Nothing ≡ f
+need-next true r f e = e
+need-next false r f e = cc
+
+module _ (c : Cell) (hs : List Hi) (h : Hi) (m : ℕ) where
+  abbrev Its : Fault
+  Its = need (eqb m 0) Order (hiFault c hs h)
+
+  -- an HI without a fault stands before every USER, is in range and new
+  module _ (q : Nothing ≡ Its) where
+    pub no-user : m ≡ 0
+    no-user = eqb-true m 0 (need-nothing (eqb m 0) Order (hiFault c hs h) q)
+
+    pub hi-in-range : hiOk c h ≡ true
+    unfolding hiFault
+    hi-in-range = need-nothing (hiOk c h) HiField _ (need-next (eqb m 0) Order _ q)
+
+    pub hi-new : noneOf (samePair h) hs ≡ true
+    unfolding hiFault
+    hi-new = need-nothing (noneOf (samePair h) hs) HiField _ (need-next (hiOk c h) HiField _ (need-next (eqb m 0) Order _ q))
+
+module _ (c : Cell) (us : List User) (u : User) where
+  module _ (q : Nothing ≡ userFault c us u) where
+    pub user-in-range : userOk c u ≡ true
+    unfolding userFault
+    user-in-range = need-nothing (userOk c u) UserField _ q
+
+    pub user-new : noneOf (clash u) us ≡ true
+    unfolding userFault
+    user-new = need-nothing (noneOf (clash u) us) Used _ (need-next (userOk c u) UserField _ q)
 
 -- ---- what the tests of the fields say
 all-four : (a b d e : Bool) → a && b && d && e ≡ true → (a ≡ true) × (b ≡ true) × (d ≡ true) × (e ≡ true)

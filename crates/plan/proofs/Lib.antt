@@ -6,9 +6,8 @@ pub mod Entries
 pub mod Reading
 pub mod RowLaws
 mod FieldLaws
-mod FaultLaws
-mod Turns
 mod Kept
+mod Turns
 mod Opening
 pub mod Valid
 pub mod Counts

@@ -29,8 +29,7 @@ use Rattle.plan.proofs.RowLaws.{row-length, past-none}
 use Rattle.plan.proofs.Turns.{Standing, standing-first, on-no-lists}
 use Rattle.plan.proofs.Turns.{hi-refused, hi-next, hi-room, standing-hi, on-more-his, hi-turn}
 use Rattle.plan.proofs.Turns.{user-refused, user-next, user-room, standing-user, on-more-users, user-turn}
-use Rattle.plan.proofs.FaultLaws.{hi-in-range, user-in-range}
-use Rattle.plan.proofs.Kept.{cell-in, hi-in, user-in, Kept, kept-first, kept-user}
+use Rattle.plan.proofs.Kept.{hi-in-range, user-in-range, cell-in, hi-in, user-in, Kept, kept-first, kept-user}
 use Rattle.plan.proofs.Counts.{blocks-most, few-users}
 use Rattle.plan.proofs.Before.{pairs-none, pair-word, pairs-more, zeros, users-none, users-more}
 

@@ -4,7 +4,6 @@ use mathlib.Core.Path.{_≡_, refl, sym, ap, ap₂, _∙_, subst}
 use mathlib.Core.Bool.{Bool, true, false, cond}
 use mathlib.Core.List.{List, [], _∷_, _++_}
 use native.Mathlib.Omega.{arith}
-use mathlib.Core.Logic.{inl, inr}
 use types.Run.{OneOf}
 use denote.Enum.Declared.{tagOf}
 use lib.Dec.{eqb}
@@ -35,7 +34,7 @@ use Rattle.plan.proofs.OneOf.{not-in}
 use Rattle.plan.proofs.Entries.{told, next}
 use Rattle.plan.proofs.Reading.{next-in, drop-next}
 use Rattle.plan.proofs.RowLaws.{row-length, row-none, row-more, past-more, past-none}
-use Rattle.plan.proofs.FaultLaws.{no-user}
+use Rattle.plan.proofs.Kept.{no-user}
 
 -- ---- any state
 module _ (st : State) (l : List ℕ) where
@@ -228,14 +227,13 @@ module _ (w : List ℕ) (c : Cell) (f : Frame) (start n mid m at : ℕ) where
     end-turn = run-at St here end e (omega (arith, told here end e .2)) ∙ rw (stage-due, told here end e .1, drop-drop) refl
 
   -- ---- a second CELL or FRAME; a broken command
-  pub late-body : (x : Command) → commandOf here ≡ x → OneOf (0 ∷ 1 ∷ []) (tagOf the-type x) → run St (commands here) ≡ refused Order
-  unfolding bodyState fault oneOf
-  late-body (cell y) e h = refused-at St here (cell y) Order e (omega (arith, told here (cell y) e .2)) (rw stage-first refl)
-  late-body (frame y) e h = refused-at St here (frame y) Order e (omega (arith, told here (frame y) e .2)) (rw stage-second refl)
-  late-body (hi y) e h = absurd (not-in (0 ∷ 1 ∷ []) 2 h refl)
-  late-body (user y) e h = absurd (not-in (0 ∷ 1 ∷ []) 3 h refl)
-  late-body end e h = absurd (not-in (0 ∷ 1 ∷ []) 4 h refl)
-  late-body broken e h = absurd (not-in (0 ∷ 1 ∷ []) 5 h refl)
+  pub late-cell : (y : Cell) → commandOf here ≡ cell y → run St (commands here) ≡ refused Order
+  unfolding bodyState fault
+  late-cell y e = refused-at St here (cell y) Order e (omega (arith, told here (cell y) e .2)) (rw stage-first refl)
+
+  pub late-frame : (y : Frame) → commandOf here ≡ frame y → run St (commands here) ≡ refused Order
+  unfolding bodyState fault
+  late-frame y e = refused-at St here (frame y) Order e (omega (arith, told here (frame y) e .2)) (rw stage-second refl)
 
   pub body-broken : commandOf here ≡ broken → run St (commands here) ≡ refused Unreadable
   unfolding bodyState
@@ -290,8 +288,8 @@ module _ {w : List ℕ} {p : Plan} {at : ℕ} (d : EndDue w p at) where
   end-late {x} e h = sym (by x e h)
     where
       by : (x : Command) → commandOf (drop at w) ≡ x → OneOf (0 ∷ 1 ∷ 2 ∷ 3 ∷ []) (tagOf the-type x) → Rest ≡ refused Order
-      by (cell y) e h = late-body w (p .cell) (p .frame) (p .his .at) (p .his .count) (p .users .at) (p .users .count) at (cell y) e (inl refl)
-      by (frame y) e h = late-body w (p .cell) (p .frame) (p .his .at) (p .his .count) (p .users .at) (p .users .count) at (frame y) e (inr refl)
+      by (cell y) e h = late-cell w (p .cell) (p .frame) (p .his .at) (p .his .count) (p .users .at) (p .users .count) at y e
+      by (frame y) e h = late-frame w (p .cell) (p .frame) (p .his .at) (p .his .count) (p .users .at) (p .users .count) at y e
       by (hi y) e h =
           hi-refused w (p .cell) (p .frame) (p .his .at) (p .his .count) (p .users .at) (p .users .count) at y e Order
           (rw (ne-eqb (p .users .count) 0 (λ z. d .no-hi z y e)) refl)

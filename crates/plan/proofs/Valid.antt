@@ -31,7 +31,7 @@ use Rattle.plan.proofs.Entries.{told}
 use Rattle.plan.proofs.Reading.{gone}
 use Rattle.plan.proofs.RowLaws.{row-length}
 use Rattle.plan.proofs.Kept.{cell-in, frame-in, Kept, kept-first, kept-hi, kept-user}
-use Rattle.plan.proofs.Turns.{Standing, standing-first, on-no-lists, hi-refused, standing-hi, on-more-his, hi-next, hi-turn, user-refused, standing-user, on-more-users, user-next, user-turn, end-room, end-turn, late-body, body-broken, not-last, last}
+use Rattle.plan.proofs.Turns.{Standing, standing-first, on-no-lists, hi-refused, standing-hi, on-more-his, hi-next, hi-turn, user-refused, standing-user, on-more-users, user-next, user-turn, end-room, end-turn, late-cell, late-frame, body-broken, not-last, last}
 use Rattle.plan.proofs.Opening.{first-broken, late-first, cell-refused, cell-turn, second-broken, late-second, frame-room, frame-refused, frame-turn}
 
 -- ---- answers
@@ -116,8 +116,8 @@ module _ (w : List ℕ) (p : Plan) (c : Cell) (f : Frame) (ci : CellIn c) (fi : 
       (sym (user-turn w c f start n mid m at u e (g .standing) (nextOf w at) refl q) ∙ r)
 
   turn : (k n mid m at : ℕ) → Rest k → length w ≤ at + suc k → Good n mid m at → (x : Command) → commandOf (drop at w) ≡ x → Runs n mid m at → Valid w p
-  turn k n mid m at ih l g (cell y) e r = absurd (not-both _ _ p (late-body w c f start n mid m at (cell y) e (inl refl)) r)
-  turn k n mid m at ih l g (frame y) e r = absurd (not-both _ _ p (late-body w c f start n mid m at (frame y) e (inr refl)) r)
+  turn k n mid m at ih l g (cell y) e r = absurd (not-both _ _ p (late-cell w c f start n mid m at y e) r)
+  turn k n mid m at ih l g (frame y) e r = absurd (not-both _ _ p (late-frame w c f start n mid m at y e) r)
   turn k n mid m at ih l g (hi h) e r = at-hi k n mid m at ih l g h e (need (eqb m 0) Order (hiFault c (His n) h)) refl r
   turn k n mid m at ih l g (user u) e r = at-user k n mid m at ih l g u e (userFault c (Users mid m) u) refl r
   turn k n mid m at ih l g end e r = at-end n mid m at (ltb (at + 1) (length w)) refl g e (sym (end-turn w c f start n mid m at e) ∙ r)

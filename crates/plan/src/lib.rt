@@ -402,14 +402,12 @@ fn user_fault(cell: Cell, rntis: &[u16; 104], blocks: &[u64; 2], u: User) -> Fau
     ensures { λ r. ⌜ ((us : List User) → UsersUsed cell (now (rntis .entry)) (now (blocks .entry)) us → r ≡ userFault cell us u) ⌝ }
 {
     if user_ok(cell, u) {
-        if has_rnti(rntis, u.rnti) {
-            return Fault::Is(Refusal::Used);
-        }
         let own = blocks_of(u);
-        if bitset::meets(blocks, &own) {
-            return Fault::Is(Refusal::Used);
+        if has_rnti(rntis, u.rnti) | bitset::meets(blocks, &own) {
+            Fault::Is(Refusal::Used)
+        } else {
+            Fault::Nothing
         }
-        Fault::Nothing
     } else {
         Fault::Is(Refusal::UserField)
     }

@@ -50,7 +50,8 @@ loop-again c =
     let at-loop = at-shares .before .before in
     let a = at-loop .before .before .args .a in
     let w = at-loop .before .before .args .plan .now in
-    scan-passed (λ (x : List ℕ). x) (sharesAt a) w (at-loop .loop .at) _ refl _ (at-shares .shares .ensures) (at-loop .loop .left) (omega arith) (at-if1 .if1 .left) _ (c .next-at .ensures) ∙ at-loop .loop .inv
+    scan-passed (λ (x : List ℕ). x) (sharesAt a) w (at-loop .loop .at) _ refl _ (at-shares .shares .ensures) (at-loop .loop .left) (omega arith) (at-if1 .if1 .left) _ (c .next-at .ensures)
+    ∙ at-loop .loop .inv
 
 returns-2 : tie.Need-returns-2 Inv-loop μ-loop
 returns-2 c =

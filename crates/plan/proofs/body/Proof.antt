@@ -26,7 +26,8 @@ returns c =
     let at-his = c .before .before in
     let at-his-from = at-his .before .before in
     let at-args = at-his-from .before .before in
-    c .users-from .ensures ∙ (subst (HisRead (at-args .args .plan .now) (at-args .args .cell) (at-args .args .start)) (at-his .his .given .1) (at-his-from .his-from .ensures)) .1 (at-args .args .frame)
+    c .users-from .ensures
+    ∙ (subst (HisRead (at-args .args .plan .now) (at-args .args .cell) (at-args .args .start)) (at-his .his .given .1) (at-his-from .his-from .ensures)) .1 (at-args .args .frame)
 
 returns-2 : tie.Need-returns-2
 returns-2 c =

@@ -1,14 +1,6 @@
 -- `plan::hi_fault` meets its contract: an HI beyond the count, used before, or without a fault. Assumes nothing.
-use mathlib.Core.Path.{_≡_}
-use mathlib.Core.Bool.{not}
-use mathlib.Core.List.{List}
 use native.Mathlib.Omega.{arith}
 use borrow.Author.Needs.{needs}
-use Rattle.plan.specs.Check.{need, hiFault}
-use Rattle.plan.specs.Loops.{PairsUsed}
-use Rattle.plan.specs.declared.Hi.{Hi}
-use Rattle.plan.specs.declared.Refusal.the-variants.{HiField}
-use Rattle.plan.specs.declared.Fault.the-variants.{Nothing}
 use Rattle.plan.proofs.Before.{hi-bad, hi-word, hi-tested}
 use Rattle.plan.proofs.hi_fault.Tie as tie
 use Rattle.plan.proofs.hi_fault.Statement.{statement}
@@ -26,22 +18,23 @@ has-requires c κs =
     let at-args = at-hi-ok .before in
     omega (arith, hi-word (at-args .args .cell) (at-args .args .pairs .now) (at-args .args .h) (at-hi-ok .hi-ok .ensures) (at-args .pre) (at-if1 .if1 .taken) (c .pair-of .ensures))
 
--- its pair was looked for
-tested : (c : tie.After-has) →
-    let a = c .before .before .before .before .before .args in
-    (hs : List Hi) → PairsUsed (a .cell) (a .pairs .now) hs → need (not (c .has .result)) HiField Nothing ≡ hiFault (a .cell) hs (a .h)
-tested c =
-    let at-pair-of = c .before in
-    let at-if1 = at-pair-of .before .before in
+returns : tie.Need-returns
+returns c hs s =
+    let at-has = c .before in
+    let at-if1 = at-has .before .before .before in
     let at-hi-ok = at-if1 .before in
     let a = at-hi-ok .before .args in
-    hi-tested (a .cell) (a .pairs .now) (a .h) (at-hi-ok .hi-ok .ensures) (at-if1 .if1 .taken) (at-pair-of .pair-of .ensures) (c .has .ensures)
-
-returns : tie.Need-returns
-returns c = λ hs s. rw (c .if2 .taken) at (tested (c .before) hs s)
+    rw (c .if2 .taken) at
+    (hi-tested (a .cell) (a .pairs .now) (a .h) (at-hi-ok .hi-ok .ensures) (at-if1 .if1 .taken) (at-has .before .pair-of .ensures) (at-has .has .ensures) hs s)
 
 returns-2 : tie.Need-returns-2
-returns-2 c = λ hs s. rw (c .if2 .left) at (tested (c .before) hs s)
+returns-2 c hs s =
+    let at-has = c .before in
+    let at-if1 = at-has .before .before .before in
+    let at-hi-ok = at-if1 .before in
+    let a = at-hi-ok .before .args in
+    rw (c .if2 .left) at
+    (hi-tested (a .cell) (a .pairs .now) (a .h) (at-hi-ok .hi-ok .ensures) (at-if1 .if1 .taken) (at-has .before .pair-of .ensures) (at-has .has .ensures) hs s)
 
 returns-3 : tie.Need-returns-3
 returns-3 c =

@@ -60,7 +60,7 @@ add-requires : tie.Need-add-requires Inv-loop μ-loop
 add-requires c κs = his-word (turn (c .before .before .before .before)) (c .before .before .enum-told .given .1) (c .pair-of .ensures)
 
 add-count : tie.Need-add-count Inv-loop μ-loop
-add-count c = let at-loop = c .before .before .before .before .before .before .before .before .before .before .before .loop in omega (arith, at-loop .inv .standing .mid-at, at-loop .inv .standing .room)
+add-count c = omega arith
 
 next-at-requires : tie.Need-next-at-requires Inv-loop μ-loop
 next-at-requires c κs = tt
