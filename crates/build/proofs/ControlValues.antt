@@ -1,11 +1,13 @@
 -- PCFICH and the PHICH units: the elements they write are their owners', and their values the subframe's. Assumes nothing beyond the plan
--- check's answer and that the slice has the HIs' bits.
-use Prim.Native.Nat.{ℕ, _+_, _/_, _%_, _<_}
+-- check's answer, and sums over the plan's HIs with the payload's bits.
+use Prim.Native.Nat.{ℕ, _+_, _*_, _/_, _%_, _<_}
 use mathlib.Core.Path.{_≡_, refl, sym, _∙_}
 use mathlib.Core.Bool.{true}
 use mathlib.Core.List.{List}
-use Rattle.base.specs.Bits.{bitAt}
+use lib.ListN.{take, drop}
 use Rattle.gold.specs.Sequence.{pairAt}
+use Rattle.phich.specs.Spreading.{spreadLength}
+use Rattle.phich.specs.Loops.{QuadSums}
 use Rattle.plan.specs.Check.{checkOf}
 use Rattle.plan.specs.Fields.{unitsOf}
 use Rattle.plan.specs.Rows.{hisOf}
@@ -44,10 +46,11 @@ module _ (w : List ℕ) (p : Plan) (ok : checkOf w ≡ accepted p) (payload : Li
     phich-owned e = rw (phich-owns w p ok m (e % T), phich-index w p ok m (e % T)) refl
 
     pub phich-numbered :
-        (bits : List ℕ) → ((n : ℕ) → n < p .his .count → bitAt bits n ≡ hiBit w p payload n) → (e : ℕ) → phichSends (p .cell) m e ≡ true
-        → phichSent (p .cell) m (pairAt (controlInit (p .cell) (p .frame)) 0) (hisOf w p) bits e ≡ elementNumbered w p payload e
+        {bit : ℕ → ℕ} {s : List ℕ} → QuadSums (spreadLength (p .cell)) bit (hisOf w p) s → ((n : ℕ) → n < p .his .count → bit n ≡ hiBit w p payload n)
+        → (e : ℕ) → phichSends (p .cell) m e ≡ true
+        → phichSent (p .cell) m (pairAt (controlInit (p .cell) (p .frame)) 0) (take 8 (drop (8 * m) s)) e ≡ elementNumbered w p payload e
     unfolding ownerSends active
-    phich-numbered bits same e h =
+    phich-numbered q same e h =
         let o = and-true (ownsAt w p (Phich m) (e % T)) (sends (p .cell .ports) ((indexOf w p (Phich m) (e % T) / 4 + m) % 2) (e / T)) (sym (phich-owned e) ∙ h) in
-        phich-value w p ok payload bits m in-m e h (sends-port room ((indexOf w p (Phich m) (e % T) / 4 + m) % 2) (e / T) (o .1)) same
+        phich-value w p ok q m in-m payload same e h (sends-port room ((indexOf w p (Phich m) (e % T) / 4 + m) % 2) (e / T) (o .1))
         ∙ sym (numbered w p ok payload (Phich m) e (o .0))

@@ -10,11 +10,15 @@ use Rattle.base.specs.declared.Element.{Element}
 use Rattle.base.specs.Bytes.{byteIn}
 use Rattle.base.specs.Tables.{table}
 use Rattle.base.proofs.Tables.{table-length}
+use Rattle.base.specs.Bits.{bitAt}
 use Rattle.gold.specs.Sequence.{pairAt}
+use Rattle.phich.specs.Spreading.{spreadLength}
+use Rattle.phich.specs.Loops.{HisIn, QuadSums, Levels}
+use Rattle.phich.proofs.Scrambled.{part-is}
 use Rattle.plan.specs.Check.{checkOf}
 use Rattle.plan.specs.Commands.{userOf}
 use Rattle.plan.specs.Fields.{unitsOf}
-use Rattle.plan.specs.Rows.{nextOf, usersOf, nthUser}
+use Rattle.plan.specs.Rows.{hisFrom, hisOf, nextOf, usersOf, nthUser}
 use Rattle.plan.specs.declared.User.{User}
 use Rattle.plan.specs.declared.Plan.{Plan}
 use Rattle.plan.specs.declared.Checked.the-variants.{Plan as accepted}
@@ -32,6 +36,9 @@ use Rattle.grid.proofs.Writing.{none, same, over, room-kept, whole}
 use Rattle.subframe.specs.Grid.{elementNumbered, gridOf}
 use Rattle.subframe.proofs.Bytes.{length-by-port}
 use Rattle.signals.specs.Signals.{markSends, pssSent, sssSent}
+use Rattle.control.proofs.ControlOwners.{part-levels}
+use Rattle.control.proofs.Reading.{his-in}
+use Rattle.control.proofs.ReadingOwners.{his-read}
 use Rattle.channels.specs.declared.Channel.{Channel}
 use Rattle.channels.specs.declared.Channel.the-variants.{Crs, Pbch as PbchChannel, Pcfich as PcfichChannel, Phich as PhichChannel, User as UserChannel}
 use Rattle.channels.specs.Channels.{initOf, firstBit, sendsOf, sentOf, Among, Planned, ChannelIn}
@@ -66,26 +73,26 @@ module _ (w : List ℕ) (p : Plan) (payload : List ℕ) {g₀ : List ℕ} (start
 
   -- what the channels need, at any point of the filling
   module _ {D : ℕ → Bool} {W : ℕ → Element} {g : List ℕ} (r : Written D W g₀ g) where
-    channel-in : (ch : Channel) → Among p ch → Planned w p ch → ChannelIn w p ch g
+    channel-in : {bits : List ℕ} (ch : Channel) → Among p ch → Planned w p bits ch → ChannelIn w p ch bits g
     channel-in ch a h = record { plan = start .answer; among = a; planned = h; room = room-kept (start .room) r }
 
-    pub crs-in : (s q : ℕ) → s < symbols (p .cell) → q < p .cell .ports → ChannelIn w p (Crs s q) g
+    pub crs-in : {bits : List ℕ} (s q : ℕ) → s < symbols (p .cell) → q < p .cell .ports → ChannelIn w p (Crs s q) bits g
     unfolding Among Planned
     crs-in s q a b = channel-in (Crs s q) (a, b) tt
 
-    pub pbch-in : p .frame .subframe ≡ 0 → ChannelIn w p PbchChannel g
+    pub pbch-in : {bits : List ℕ} → p .frame .subframe ≡ 0 → ChannelIn w p PbchChannel bits g
     unfolding Among Planned
     pbch-in z = channel-in PbchChannel tt z
 
-    pub pcfich-in : ChannelIn w p PcfichChannel g
+    pub pcfich-in : {bits : List ℕ} → ChannelIn w p PcfichChannel bits g
     unfolding Among Planned
     pcfich-in = channel-in PcfichChannel tt tt
 
-    pub unit-in : (m : ℕ) → m < unitsOf (p .cell) → ChannelIn w p (PhichChannel m) g
+    pub unit-in : {bits : List ℕ} (m : ℕ) → m < unitsOf (p .cell) → Levels 8 bits → ChannelIn w p (PhichChannel m) bits g
     unfolding Among Planned
-    unit-in m a = channel-in (PhichChannel m) a tt
+    unit-in m a l = channel-in (PhichChannel m) a l
 
-    pub user-in : (u : User) (i : ℕ) → i < length (usersOf w p) → u ≡ nthUser w p i → ChannelIn w p (UserChannel u) g
+    pub user-in : {bits : List ℕ} (u : User) (i : ℕ) → i < length (usersOf w p) → u ≡ nthUser w p i → ChannelIn w p (UserChannel u) bits g
     unfolding Among Planned
     user-in u i l e = channel-in (UserChannel u) (rw e (user-valid w p ok payload i l)) (i, l, e)
 
@@ -163,15 +170,27 @@ module _ (w : List ℕ) (p : Plan) (payload : List ℕ) {g₀ : List ℕ} (start
   unfolding unitsSend
   units-none = turn-none (λ (i e : ℕ). ownerSends w p (Phich i) e)
 
-  pub units-more :
-      (m : ℕ) {g h : List ℕ} (from end : ℕ) → m < unitsOf (p .cell) → from ≡ sectionBytes (pbchBits (p .cell) (p .frame)) → end ≡ usersStart p
-      → Written (unitsSend w p m) E g₀ g
-      → Written (sendsOf p (PhichChannel m)) (sentOf w p (take (end - from) (drop from payload)) (pairAt (initOf p (PhichChannel m)) (firstBit p (PhichChannel m))) (PhichChannel m)) g h
-      → Written (unitsSend w p (m + 1)) E g₀ h
-  unfolding unitsSend sendsOf sentOf initOf firstBit
-  units-more m from end l ef ee so-far r =
-      turn-more (λ (i e : ℕ). ownerSends w p (Phich i) e) m so-far r (λ e. phich-owned w p ok payload (start .room) m l e)
-      (λ e k. phich-numbered w p ok payload (start .room) m l (take (end - from) (drop from payload)) (hi-slice w p ok payload from end ef ee) e k)
+  -- what the sums of all units are made from
+  pub his-ready : {l : ℕ} → l ≡ spreadLength (p .cell) → HisIn l w (p .his .at) (p .his .count)
+  his-ready e = his-in (his-read w p ok (start .room)) e
+
+  module _ {l : ℕ} (el : l ≡ spreadLength (p .cell)) (from end : ℕ) (ef : from ≡ sectionBytes (pbchBits (p .cell) (p .frame))) (ee : end ≡ usersStart p) {s : List ℕ}
+      (q : QuadSums l (bitAt (take (end - from) (drop from payload))) (hisFrom (drop (p .his .at) w) (p .his .count)) s) (m : ℕ) (in-m : m < unitsOf (p .cell)) where
+    sums : QuadSums (spreadLength (p .cell)) (bitAt (take (end - from) (drop from payload))) (hisOf w p) s
+    unfolding hisOf
+    sums = rw (← el) q
+
+    pub part-in : Levels 8 (take (8 * m + 8 - 8 * m) (drop (8 * m) s))
+    part-in = rw (part-is m s) (part-levels w p ok sums m in-m)
+
+    pub units-more :
+        {g h : List ℕ} → Written (unitsSend w p m) E g₀ g
+        → Written (sendsOf p (PhichChannel m)) (sentOf w p (take (8 * m + 8 - 8 * m) (drop (8 * m) s)) (pairAt (initOf p (PhichChannel m)) (firstBit p (PhichChannel m))) (PhichChannel m)) g h
+        → Written (unitsSend w p (m + 1)) E g₀ h
+    unfolding unitsSend sendsOf sentOf initOf firstBit
+    units-more so-far r =
+        turn-more (λ (i e : ℕ). ownerSends w p (Phich i) e) m so-far r (λ e. phich-owned w p ok payload (start .room) m in-m e)
+        (λ e k. rw (part-is m s) (phich-numbered w p ok payload (start .room) m in-m sums (hi-slice w p ok payload from end ef ee) e k))
 
   pub units-end : (m n : ℕ) {g : List ℕ} → m ≤ unitsOf (p .cell) → n ≤ m → n ≡ unitsOf (p .cell) → Written (unitsSend w p m) E g₀ g → Written (unitsSend w p (unitsOf (p .cell))) E g₀ g
   units-end m n {g} a b c r = let e : m ≡ unitsOf (p .cell) = omega arith in subst (λ (x : ℕ). Written (unitsSend w p x) E g₀ g) e r
@@ -195,7 +214,7 @@ module _ (w : List ℕ) (p : Plan) (payload : List ℕ) {g₀ : List ℕ} (start
     user-is : u ≡ nthUser w p i
     user-is = eu ∙ from-user w p at i (so .users) in-i more
 
-    pub going-valid : ChannelIn w p (UserChannel u) g
+    pub going-valid : {bits : List ℕ} → ChannelIn w p (UserChannel u) bits g
     going-valid = user-in (so .written) u i in-i user-is
 
     module _ (end : ℕ) (ee : end ≡ from + sectionBytes (computedBits (p .cell) (p .frame) u)) where

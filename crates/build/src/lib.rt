@@ -86,7 +86,7 @@ fn fill_pbch(plan: &[u8], p: Plan, payload: &[u8], grid: &mut [u8])
     }
 }
 
-// PHICH, unit by unit.
+// PHICH: the sums of all units in one pass over the HIs, then unit by unit.
 fn fill_units(plan: &[u8], p: Plan, payload: &[u8], grid: &mut [u8])
     requires { ⌜ Ready (now plan) p (now payload) (now grid) ⌝ }
     ensures { λ _. ⌜ Written (unitsSend (now (plan .entry)) p (unitsOf (p .cell))) (elementNumbered (now (plan .entry)) p (now (payload .entry))) (now (grid .entry)) (now (grid .exit)) ⌝ }
@@ -94,9 +94,21 @@ fn fill_units(plan: &[u8], p: Plan, payload: &[u8], grid: &mut [u8])
     let units = plan::units(p.cell);
     let start = payload::section_bytes(payload::pbch_bits(p.cell, p.frame));
     let end = payload::users_start(p);
+    let l = control::spread_length(p.cell);
+    let mut sums = [0; 200];
+    phich::quad_sums(
+        l,
+        plan,
+        p.his.at,
+        p.his.count,
+        &payload[start..end],
+        &mut sums,
+    );
     let mut m: usize = 0;
     while m < units {
-        map(p, Channel::Phich(m as u8), plan, &payload[start..end], grid);
+        let from = 8 * m;
+        let to = 8 * m + 8;
+        map(p, Channel::Phich(m as u8), plan, &sums[from..to], grid);
         m += 1;
     }
 }

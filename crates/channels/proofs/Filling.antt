@@ -12,7 +12,7 @@ use Rattle.modulation.specs.Symbols.{Order, unitOf}
 use Rattle.modulation.proofs.Formulas.{unit-small}
 use Rattle.plan.specs.Lists.{Among as OneOf}
 use Rattle.plan.specs.Fields.{orders}
-use Rattle.plan.specs.Rows.{hisOf, nthUser}
+use Rattle.plan.specs.Rows.{nthUser}
 use Rattle.plan.specs.Valid.{Valid, CellIn, FrameIn, UserIn}
 use Rattle.plan.specs.declared.Plan.{Plan}
 use Rattle.plan.specs.declared.User.{User}
@@ -24,7 +24,6 @@ use Rattle.counts.specs.Users.{userElements}
 use Rattle.counts.proofs.UserElements.{user-elements}
 use Rattle.payload.specs.Payload.{pbchBits}
 use Rattle.grid.specs.Writing.{Written}
-use Rattle.subframe.proofs.Acknowledged.{within, distinct}
 use Rattle.subframe.proofs.OwnerBits.{pbch-both}
 use Rattle.data.specs.Areas.{areaCount, areaSends, areaElement, pbchArea, userArea, AreaIn}
 use Rattle.data.specs.declared.Area.{Area}
@@ -46,7 +45,7 @@ order-ok q h = (
 )
 
 -- ---- what the functions require
-module _ (w : List ℕ) (p : Plan) (ch : Channel) (grid : List ℕ) (ok : ChannelIn w p ch grid) where
+module _ (w : List ℕ) (p : Plan) (ch : Channel) (grid : List ℕ) {bits : List ℕ} (ok : ChannelIn w p ch bits grid) where
   v : Valid w p
   v = valid w p (ok .plan)
 
@@ -79,16 +78,10 @@ module _ (w : List ℕ) (p : Plan) (ch : Channel) (grid : List ℕ) (ok : Channe
   pub pcfich-in : PcfichIn (p .cell) (p .frame .cfi) grid
   pcfich-in = record { cell = v .cell; some = v .frame .some; most = v .frame .most; room = ok .room }
 
-  pub phich-in : (m x : ℕ) → ch ≡ Phich m → x ≡ m → PhichIn (p .cell) x (p .his) w grid
-  unfolding Among hisOf
+  pub phich-in : (m x : ℕ) → ch ≡ Phich m → x ≡ m → PhichIn (p .cell) x bits grid
+  unfolding Among Planned
   phich-in m x e ex =
-      record {
-        cell = v .cell;
-        unit = omega (arith, subst (Among p) e (ok .among), ex);
-        room = ok .room;
-        known = within w p (ok .plan);
-        apart = distinct w p (ok .plan);
-      }
+      record { cell = v .cell; unit = omega (arith, subst (Among p) e (ok .among), ex); room = ok .room; levels = subst (Planned w p bits) e (ok .planned) }
 
   pub user-in : (u : User) (a : Area) (unit : ℕ) → ch ≡ UserOf u → a ≡ userArea (p .cell) (p .frame) u → unit ≡ unitOf (u .order) → AreaIn a (u .order) unit grid
   unfolding Among
@@ -113,7 +106,7 @@ module _ (w : List ℕ) (p : Plan) (ch : Channel) (grid : List ℕ) (ok : Channe
     pub pbch-after : (a : Area) → ch ≡ Pbch → a ≡ pbchArea (p .cell) (p .frame) → x ≡ after r (2 * areaCount a) → x ≡ after r (bitsUsed p ch)
     unfolding Planned bitsUsed
     pbch-after a e ea k =
-        let z : p .frame .subframe ≡ 0 = subst (Planned w p) e (ok .planned) in
+        let z : p .frame .subframe ≡ 0 = subst (Planned w p bits) e (ok .planned) in
         let n : 2 * areaCount a ≡ pbchBits (p .cell) (p .frame) = ap (λ (b : Area). 2 * areaCount b) ea ∙ ap (λ (m : ℕ). 2 * m) (pbch-count w p (ok .plan) z) ∙ sym (pbch-both w p (ok .plan)) in
         k ∙ ap (after r) n ∙ sym (ap (λ (c : Channel). after r (bitsUsed p c)) e)
 
@@ -129,7 +122,7 @@ module _ (w : List ℕ) (p : Plan) (ch : Channel) (grid : List ℕ) (ok : Channe
     unfolding Planned bitsUsed nthUser
     user-after u a e ea k =
         let none : User = record { rnti = 0; order = 0; first = 0; count = 0 } in
-        let d = subst (Planned w p) e (ok .planned) in
+        let d = subst (Planned w p bits) e (ok .planned) in
         let n : areaCount a ≡ userElements (p .cell) (p .frame) (u .first) (u .count) =
         ap areaCount ea ∙ rw (d .2) (user-count w p (ok .plan) (d .0) (d .1) none ∙ user-elements w p (ok .plan) none (d .0) (d .1)) in
         k ∙ ap (λ (m : ℕ). after r (u .order * m)) n ∙ sym (ap (λ (c : Channel). after r (bitsUsed p c)) e)
@@ -153,9 +146,9 @@ module _ (w : List ℕ) (p : Plan) (bits : List ℕ) (r : Registers) (g h : List
     unfolding sendsOf sentOf
     of-pcfich e k = subst Fills (sym e) k
 
-    pub of-phich : (m x : ℕ) → ch ≡ Phich m → x ≡ m → Written (phichSends (p .cell) x) (phichSent (p .cell) x r (hisOf w p) bits) g h → Fills ch
+    pub of-phich : (m x : ℕ) → ch ≡ Phich m → x ≡ m → Written (phichSends (p .cell) x) (phichSent (p .cell) x r bits) g h → Fills ch
     unfolding sendsOf sentOf
-    of-phich m x e ex k = subst Fills (sym e) (subst (λ (y : ℕ). Written (phichSends (p .cell) y) (phichSent (p .cell) y r (hisOf w p) bits) g h) ex k)
+    of-phich m x e ex k = subst Fills (sym e) (subst (λ (y : ℕ). Written (phichSends (p .cell) y) (phichSent (p .cell) y r bits) g h) ex k)
 
     pub of-user : (u : User) (a : Area) (unit : ℕ) → ch ≡ UserOf u → a ≡ userArea (p .cell) (p .frame) u → unit ≡ unitOf (u .order)
         → Written (areaSends a) (areaElement a (u .order) unit bits r) g h → Fills ch

@@ -1,5 +1,6 @@
 -- For the inner contracts only: the channels that have a scrambling or reference sequence, each filled through a lent register pair.
--- w is a plan's bytes, p the plan that the plan check answers with, bits the channel's section of the payload.
+-- w is a plan's bytes, p the plan that the plan check answers with, bits the channel's section of the payload; a PHICH unit has the bytes of
+-- its quad's sums instead, which are made for all units at once.
 use Prim.Native.Nat.{ℕ, _+_, _-_, _*_, _<_}
 use mathlib.Core.Path.{_≡_}
 use mathlib.Core.Bool.{Bool}
@@ -10,9 +11,10 @@ use Rattle.gold.specs.declared.Registers.{Registers}
 use Rattle.modulation.specs.Symbols.{unitOf}
 use Rattle.crs.specs.Crs.{crsInit}
 use Rattle.phich.specs.Spreading.{spreadLength}
+use Rattle.phich.specs.Loops.{Levels}
 use Rattle.plan.specs.Check.{checkOf}
 use Rattle.plan.specs.Fields.{unitsOf}
-use Rattle.plan.specs.Rows.{hisOf, usersOf, nthUser}
+use Rattle.plan.specs.Rows.{usersOf, nthUser}
 use Rattle.plan.specs.Valid.{UserIn}
 use Rattle.plan.specs.declared.Plan.{Plan}
 use Rattle.plan.specs.declared.Checked.the-variants.{Plan as accepted}
@@ -57,7 +59,7 @@ unfoldable pub sentOf : List ℕ → Plan → List ℕ → Registers → Channel
 sentOf w p bits r (Crs s q) e = crsSent (p .cell) r e
 sentOf w p bits r Pbch e = areaElement (pbchArea (p .cell) (p .frame)) 2 2 bits r e
 sentOf w p bits r Pcfich e = pcfichSent (p .cell) (p .frame .cfi) r e
-sentOf w p bits r (Phich m) e = phichSent (p .cell) m r (hisOf w p) bits e
+sentOf w p bits r (Phich m) e = phichSent (p .cell) m r bits e
 sentOf w p bits r (User u) e = areaElement (userArea (p .cell) (p .frame) u) (u .order) (unitOf (u .order)) bits r e
 
 -- how many bits of the sequence it uses
@@ -81,16 +83,16 @@ Among p Pcfich = Unit {0}
 Among p (Phich m) = m < unitsOf (p .cell)
 Among p (User u) = UserIn (p .cell) u
 
--- and what filling it needs: a channel of the plan, "PBCH, f = 0" or one of the plan's users
-unfoldable pub Planned : List ℕ → Plan → Channel → Type 0
-Planned w p (Crs s q) = Unit {0}
-Planned w p Pbch = p .frame .subframe ≡ 0
-Planned w p Pcfich = Unit {0}
-Planned w p (Phich m) = Unit {0}
-Planned w p (User u) = (i : ℕ) × (i < length (usersOf w p)) × (u ≡ nthUser w p i)
+-- and what filling it needs: a channel of the plan, "PBCH, f = 0" or one of the plan's users, and for a PHICH unit sums of at most eight HIs
+unfoldable pub Planned : List ℕ → Plan → List ℕ → Channel → Type 0
+Planned w p bits (Crs s q) = Unit {0}
+Planned w p bits Pbch = p .frame .subframe ≡ 0
+Planned w p bits Pcfich = Unit {0}
+Planned w p bits (Phich m) = Levels 8 bits
+Planned w p bits (User u) = (i : ℕ) × (i < length (usersOf w p)) × (u ≡ nthUser w p i)
 
-pub record ChannelIn (w : List ℕ) (p : Plan) (ch : Channel) (grid : List ℕ) : Type 0 where
+pub record ChannelIn (w : List ℕ) (p : Plan) (ch : Channel) (bits grid : List ℕ) : Type 0 where
   pub plan : checkOf w ≡ accepted p
   pub among : Among p ch
-  pub planned : Planned w p ch
+  pub planned : Planned w p bits ch
   pub room : Room (p .cell .ports) (placesOf (p .cell)) grid

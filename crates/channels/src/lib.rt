@@ -118,12 +118,11 @@ fn filled(
     bits: &[u8],
     grid: &mut [u8],
 ) -> Registers
-    requires { ⌜ ChannelIn (now plan) p ch (now grid) ⌝ }
+    requires { ⌜ ChannelIn (now plan) p ch (now bits) (now grid) ⌝ }
     ensures { λ s. ⌜ Written (sendsOf p ch) (sentOf (now (plan .entry)) p (now (bits .entry)) r ch) (now (grid .entry)) (now (grid .exit)) × (s ≡ after r (bitsUsed p ch)) ⌝ }
 {
     let cell = p.cell;
     let frame = p.frame;
-    let his = p.his;
     match ch {
         Channel::Crs(s, port) => signals::fill_crs(r, cell, base::wide(s), port, grid),
         Channel::Pbch => {
@@ -131,7 +130,7 @@ fn filled(
             data::fill_area(r, area, 2, 2, bits, grid)
         }
         Channel::Pcfich => control::fill_pcfich(r, cell, frame.cfi, grid),
-        Channel::Phich(m) => control::fill_phich(r, cell, base::wide(m), his, plan, bits, grid),
+        Channel::Phich(m) => control::fill_phich(r, cell, base::wide(m), bits, grid),
         Channel::User(u) => {
             let area = data::user_area(cell, frame, u);
             let order = u.order as u32;
@@ -142,7 +141,7 @@ fn filled(
 
 // The pair is lent to the channel being filled and advanced in place, by the bits that the channel uses.
 pub fn fill(r: &mut Registers, p: Plan, ch: Channel, plan: &[u8], bits: &[u8], grid: &mut [u8])
-    requires { ⌜ ChannelIn (now plan) p ch (now grid) ⌝ }
+    requires { ⌜ ChannelIn (now plan) p ch (now bits) (now grid) ⌝ }
     ensures { λ _. ⌜ Written (sendsOf p ch) (sentOf (now (plan .entry)) p (now (bits .entry)) (now (r .entry)) ch) (now (grid .entry)) (now (grid .exit)) × (now (r .exit) ≡ after (now (r .entry)) (bitsUsed p ch)) ⌝ }
 {
     let was = *r;
@@ -151,7 +150,7 @@ pub fn fill(r: &mut Registers, p: Plan, ch: Channel, plan: &[u8], bits: &[u8], g
 
 // The channel filled, with a pair of its own that it lends. Its parameters are plain, so that its callers need no proof by hand.
 pub fn map(p: Plan, ch: Channel, plan: &[u8], bits: &[u8], grid: &mut [u8])
-    requires { ⌜ ChannelIn (now plan) p ch (now grid) ⌝ }
+    requires { ⌜ ChannelIn (now plan) p ch (now bits) (now grid) ⌝ }
     ensures { λ _. ⌜ Written (sendsOf p ch) (sentOf (now (plan .entry)) p (now (bits .entry)) (pairAt (initOf p ch) (firstBit p ch)) ch) (now (grid .entry)) (now (grid .exit)) ⌝ }
 {
     let mut r = started(p, ch);

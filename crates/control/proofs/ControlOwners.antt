@@ -6,9 +6,8 @@ use mathlib.Core.Bool.{true}
 use mathlib.Core.List.{List}
 use native.Mathlib.Nat.{mod-lt}
 use native.Mathlib.Omega.{arith}
-use lib.ListN.{getD}
+use lib.ListN.{getD, take, drop}
 use Rattle.base.specs.declared.Pair.{Pair}
-use Rattle.base.specs.Bits.{bitAt}
 use Rattle.base.specs.Pairs.{nil}
 use Rattle.gold.specs.Sequence.{c, pairAt}
 use Rattle.codeword.specs.Codewords.{dataSymbol, cfiBit}
@@ -18,8 +17,10 @@ use Rattle.precoding.specs.Matrices.{precoded}
 use Rattle.precoding.specs.Phich.{phichPrecoded}
 use Rattle.precoding.specs.Places.{placed}
 use Rattle.precoding.proofs.Diversity.{by-place, phich-by-place}
-use Rattle.phich.specs.Units.{unitSums, SameHiBits}
-use Rattle.phich.proofs.Units.{bit-le, exactly, length-ok}
+use Rattle.phich.specs.Units.{SameHiBits}
+use Rattle.phich.specs.Loops.{QuadSums, Levels, scrambledSums}
+use Rattle.phich.proofs.Scrambled.{unit-levels, unit-scrambled}
+use Rattle.phich.proofs.Units.{same-sums, length-ok}
 use Rattle.phich.specs.Spreading.{spreadLength}
 use Rattle.plan.specs.Check.{checkOf}
 use Rattle.plan.specs.Fields.{unitsOf}
@@ -27,6 +28,7 @@ use Rattle.plan.specs.Rows.{hisOf}
 use Rattle.plan.specs.Valid.{CellIn}
 use Rattle.plan.specs.declared.Plan.{Plan}
 use Rattle.plan.specs.declared.Checked.the-variants.{Plan as accepted}
+use Rattle.plan.proofs.Counts.{units-most}
 use Rattle.plan.proofs.Listed.{and-left}
 use Rattle.plan.proofs.Valid.{valid}
 use Rattle.layout.specs.Rules.{pcfich, phich}
@@ -38,7 +40,7 @@ use Rattle.grid.specs.Writing.{sends, Room}
 use Rattle.subframe.specs.Elements.{controlInit, pcfichSymbol, hiBit, phichSum, elementFor}
 use Rattle.subframe.proofs.Acknowledged.{within, distinct}
 use Rattle.subframe.proofs.Occurs.{even-occurs}
-use Rattle.control.specs.Control.{pcfichIndex, pcfichSends, pcfichSent, phichIndex, phichSends, sumsFrom, phichSent}
+use Rattle.control.specs.Control.{pcfichIndex, pcfichSends, pcfichSent, phichIndex, phichSends, unitSent, phichSent}
 use Rattle.control.specs.Filling.{PcfichIn, PhichIn}
 use Rattle.control.proofs.Listings.{some-places, pcfich-listed, phich-listed}
 
@@ -50,9 +52,8 @@ module _ (w : List ℕ) (p : Plan) (ok : checkOf w ≡ accepted p) where
   pub pcfich-in : {grid : List ℕ} → Room (p .cell .ports) (placesOf (p .cell)) grid → PcfichIn (p .cell) (p .frame .cfi) grid
   pcfich-in r = record { cell = cell-ok; some = valid w p ok .frame .some; most = valid w p ok .frame .most; room = r }
 
-  pub phich-in : (m : ℕ) → m < unitsOf (p .cell) → {grid : List ℕ} → Room (p .cell .ports) (placesOf (p .cell)) grid → PhichIn (p .cell) m (p .his) w grid
-  unfolding hisOf
-  phich-in m h r = record { cell = cell-ok; unit = h; room = r; known = within w p ok; apart = distinct w p ok }
+  pub phich-in : (m : ℕ) → m < unitsOf (p .cell) → {part grid : List ℕ} → Room (p .cell .ports) (placesOf (p .cell)) grid → Levels 8 part → PhichIn (p .cell) m part grid
+  phich-in m h r l = record { cell = cell-ok; unit = h; room = r; levels = l }
 
   -- ---- places
   pub pcfich-index : (t : ℕ) → pcfichIndex (p .cell) t ≡ indexOf w p Pcfich t
@@ -107,20 +108,8 @@ module _ (w : List ℕ) (p : Plan) (ok : checkOf w ≡ accepted p) where
       ∙ sym (by-place (even-occurs w p ok 16 refl) 2 (pcfichSymbol (p .cell) (p .frame)) j (e / placesOf (p .cell)) (pcfich-below e h) q)
       ∙ ap (λ (x : ℕ). precoded (p .cell .ports) 16 2 (pcfichSymbol (p .cell) (p .frame)) x (e / placesOf (p .cell))) (sym at)
 
-  phich-sums :
-      (payload bits : List ℕ) (m : ℕ) → ((n : ℕ) → n < p .his .count → bitAt bits n ≡ hiBit w p payload n) → (i : ℕ)
-      → sumsFrom (p .cell) m (pairAt (controlInit (p .cell) (p .frame)) 0) (hisOf w p) bits i ≡ phichSum w p payload m i
-  unfolding sumsFrom phichSum SameHiBits hiBit
-  phich-sums payload bits m same i =
-      let l = spreadLength (p .cell) in
-      let x = c (controlInit (p .cell) (p .frame)) in
-      ap (λ (y : ℕ → ℕ). getD (unitSums l y m (bitAt bits) (hisOf w p)) i nil) (outputs-start (controlInit (p .cell) (p .frame)))
-      ∙ ap (λ (y : List Pair). getD y i nil)
-      (exactly l (length-ok (p .cell)) x (hisOf w p) (within w p ok) (distinct w p ok) m (bitAt bits) (hiBit w p payload) (λ n. bit-le bits n) (λ n. bit-le payload _)
-      .1 (λ n r u. same n (omega (arith, valid w p ok .his-count))))
-
   -- the symbols of a unit's sums stand where its owner's do
-  pub phich-placed :
+  phich-placed :
       (payload : List ℕ) (m : ℕ) → m < unitsOf (p .cell) → (e : ℕ) → phichSends (p .cell) m e ≡ true → e / placesOf (p .cell) < p .cell .ports
       → placed (p .cell .ports) ((phichIndex (p .cell) m (e % placesOf (p .cell)) / 4 + m) % 2) 2 (phichSum w p payload m) (phichIndex (p .cell) m (e % placesOf (p .cell))) (e / placesOf (p .cell))
       ≡ elementFor w p payload (Phich m) (e / placesOf (p .cell)) (symbolAt (p .cell) (e % placesOf (p .cell))) (carrierAt (p .cell) (e % placesOf (p .cell)))
@@ -136,13 +125,32 @@ module _ (w : List ℕ) (p : Plan) (ok : checkOf w ≡ accepted p) where
       ∙ sym (phich-by-place (even-occurs w p ok 12 refl) m 2 (phichSum w p payload m) (j / 4) (j % 4) (e / placesOf (p .cell)) (omega arith) (omega arith) q)
       ∙ ap (λ (y : ℕ). phichPrecoded P m 2 (phichSum w p payload m) (y / 4) (y % 4) (e / placesOf (p .cell))) (sym at)
 
-  pub phich-value :
-      (payload bits : List ℕ) (m : ℕ) → m < unitsOf (p .cell) → (e : ℕ) → phichSends (p .cell) m e ≡ true → e / placesOf (p .cell) < p .cell .ports
-      → ((n : ℕ) → n < p .his .count → bitAt bits n ≡ hiBit w p payload n)
-      → phichSent (p .cell) m (pairAt (controlInit (p .cell) (p .frame)) 0) (hisOf w p) bits e
-      ≡ elementFor w p payload (Phich m) (e / placesOf (p .cell)) (symbolAt (p .cell) (e % placesOf (p .cell))) (carrierAt (p .cell) (e % placesOf (p .cell)))
-  unfolding phichSent
-  phich-value payload bits m in-m e h q same =
-      let j = phichIndex (p .cell) m (e % placesOf (p .cell)) in
-      ap (λ (d : ℕ → Pair). placed (p .cell .ports) ((j / 4 + m) % 2) 2 d j (e / placesOf (p .cell))) (λ i x. phich-sums payload bits m same x i)
-      ∙ phich-placed payload m in-m e h q
+  -- ---- the bytes of unit m, of sums over the plan's HIs, whose bits are the payload's
+  module _ {bit : ℕ → ℕ} {s : List ℕ} (q : QuadSums (spreadLength (p .cell)) bit (hisOf w p) s) (m : ℕ) (in-m : m < unitsOf (p .cell)) where
+    few-units : m < 25
+    few-units = omega (arith, units-most (p .cell) cell-ok)
+
+    pub part-levels : Levels 8 (take 8 (drop (8 * m) s))
+    part-levels = unit-levels q (length-ok (p .cell)) (within w p ok) (distinct w p ok) m few-units
+
+    module _ (payload : List ℕ) (same : (n : ℕ) → n < p .his .count → bit n ≡ hiBit w p payload n) where
+      phich-sums :
+          (i : ℕ) → getD (scrambledSums (spreadLength (p .cell)) (outputs (pairAt (controlInit (p .cell) (p .frame)) 0)) (take 8 (drop (8 * m) s))) i nil ≡ phichSum w p payload m i
+      unfolding phichSum SameHiBits
+      phich-sums i =
+          let l = spreadLength (p .cell) in
+          let x = c (controlInit (p .cell) (p .frame)) in
+          ap (λ (y : ℕ → ℕ). getD (scrambledSums l y (take 8 (drop (8 * m) s))) i nil) (outputs-start (controlInit (p .cell) (p .frame)))
+          ∙ ap (λ (y : List Pair). getD y i nil)
+          (unit-scrambled q (length-ok (p .cell)) (within w p ok) (distinct w p ok) m few-units x
+          ∙ same-sums l x m bit (hiBit w p payload) (hisOf w p) (λ n r u. same n (omega (arith, valid w p ok .his-count))))
+
+      pub phich-value :
+          (e : ℕ) → phichSends (p .cell) m e ≡ true → e / placesOf (p .cell) < p .cell .ports
+          → phichSent (p .cell) m (pairAt (controlInit (p .cell) (p .frame)) 0) (take 8 (drop (8 * m) s)) e
+          ≡ elementFor w p payload (Phich m) (e / placesOf (p .cell)) (symbolAt (p .cell) (e % placesOf (p .cell))) (carrierAt (p .cell) (e % placesOf (p .cell)))
+      unfolding phichSent unitSent
+      phich-value e h k =
+          let j = phichIndex (p .cell) m (e % placesOf (p .cell)) in
+          ap (λ (d : ℕ → Pair). placed (p .cell .ports) ((j / 4 + m) % 2) 2 d j (e / placesOf (p .cell))) (λ i x. phich-sums x i)
+          ∙ phich-placed payload m in-m e h k

@@ -1,10 +1,10 @@
--- A unit's sums read from a grid place by place, and the loop over a plan's HIs that writes their bits. Assumes nothing.
+-- The units' first quads read from a grid place by place, and the loop over a plan's HIs that writes their bits. Assumes nothing.
 use Prim.Native.Nat.{ℕ, zero, suc, _+_, _-_, _*_, _/_, _%_, _^_, _≤_, _<_}
 use mathlib.Core.Path.{_≡_, refl, sym, ap, ap₂, _∙_}
 use mathlib.Core.Bool.{cond}
 use mathlib.Core.List.{List, [], _∷_}
 use native.Mathlib.Nat.{not-suc-le-zero}
-use native.Mathlib.Numerals.{sub-one}
+use native.Mathlib.Decide.{ℕ-discrete}
 use native.Mathlib.Omega.{arith}
 use lib.Dec.{eqb}
 use lib.IntN.{ℤ, pos, negsuc}
@@ -14,7 +14,8 @@ use Rattle.base.specs.declared.Element.{Element}
 use Rattle.base.specs.Bytes.{signedOf, pairOf}
 use Rattle.base.specs.Pairs.{nil}
 use Rattle.base.specs.Signs.{below}
-use Rattle.base.proofs.Tables.{set-more, filled}
+use Rattle.base.proofs.Pairs.{pair-of}
+use Rattle.base.proofs.Tables.{table-at}
 use Rattle.gold.specs.declared.Registers.{Registers}
 use Rattle.gold.specs.Steps.{wordOf}
 use Rattle.codeword.specs.Streams.{outputs}
@@ -22,94 +23,124 @@ use Rattle.precoding.specs.Places.{ownPort}
 use Rattle.grid.specs.Elements.{elementIn}
 use Rattle.grid.proofs.Sending.{own-fits}
 use Rattle.phich.specs.His.{hiNumber}
-use Rattle.phich.specs.Spreading.{Length, wordBit, spreadLength}
+use Rattle.phich.specs.Spreading.{wordBit, spreadLength}
 use Rattle.phich.specs.Units.{mappingUnit, Within}
 use Rattle.phich.specs.Recovery.{along, bitIn}
+use Rattle.phich.specs.Loops.{HiIn, HisIn, levelsAt, quadOf}
+use Rattle.phich.proofs.Adding.{set-even, set-odd, set-others}
+use Rattle.phich.proofs.Along.{along-same}
 use Rattle.phich.proofs.Chips.{bit-chips}
+use Rattle.phich.proofs.Turns.{At, at-start, here, at-next, here-in}
 use Rattle.phich.proofs.Units.{length-ok}
 use Rattle.plan.specs.Commands.{hiOf}
 use Rattle.plan.specs.Rows.{hisFrom, nextOf}
 use Rattle.plan.specs.declared.Cell.{Cell}
 use Rattle.plan.specs.declared.Hi.{Hi}
 use Rattle.plan.specs.declared.Row.{Row}
-use Rattle.plan.proofs.RowLaws.{row-length, row-next}
+use Rattle.plan.specs.Fields.{unitsOf}
+use Rattle.plan.proofs.Counts.{units-most}
+use Rattle.plan.proofs.RowLaws.{row-length}
 use Rattle.places.specs.Places.{placesOf}
 use Rattle.places.specs.Quads.{quadPlace}
 use Rattle.payload.specs.Sections.{sectionBytes}
 use Rattle.recovery.specs.Recovery.{sectionOf}
-use Rattle.control.specs.Reading.{ownElement, sumRead, sumsOf, ackRead, ackFrom, pushed, PushIn, UnitRead, HiRead, ReadIn}
+use Rattle.control.specs.Reading.{ownElement, sumRead, sumsOf, ackFrom, pushed, PushIn, UnitRead, FirstRead, QuadsIn, HisRead, ReadIn}
 use Rattle.control.proofs.Listings.{place-inside, phich-groups}
 use Rattle.control.proofs.Packing.{Packed, push-ok, push-more, pushed-length, packed-none, packed-all}
 use Rattle.control.proofs.Words.{word-bits}
 use Rattle.layout.specs.Rules.{unitGroup}
 
--- ---- one sum
+-- ---- the first quads
 turn-odd : (P x : ℕ) → ownPort P (x % 2) ≡ ownPort P x
 unfolding ownPort
 turn-odd P x = let e : x % 2 % 2 ≡ x % 2 = omega arith in ap (λ (y : ℕ). cond (eqb P 4) y 0) e
 
-module _ {c : Cell} {m : ℕ} {grid : List ℕ} (ok : UnitRead c m grid) {i : ℕ} (in-i : i < 12) {g : ℕ} (eg : g ≡ unitGroup c m (i / 4)) where
+module _ {c : Cell} {m : ℕ} {grid : List ℕ} (ok : UnitRead c m grid) {i : ℕ} (in-i : i < 4) {g : ℕ} (eg : g ≡ unitGroup c m 0) where
   pub group-in : g < 2 * c .blocks
-  group-in = rw eg (phich-groups c (ok .cell) m (ok .unit) .small (i / 4) (omega arith))
+  group-in = rw eg (phich-groups c (ok .cell) m (ok .unit) .small 0 (omega arith))
 
-  module _ {t port q T : ℕ} (et : t ≡ quadPlace c 0 g (i % 4)) (ep : port ≡ ownPort (c .ports) ((i / 4 + m) % 2)) (eq : q ≡ port) (eT : T ≡ placesOf c) where
+  module _ {t port q T : ℕ} (et : t ≡ quadPlace c 0 g i) (ep : port ≡ ownPort (c .ports) (m % 2)) (eq : q ≡ port) (eT : T ≡ placesOf c) where
     pub element-fits : (q * T < 2 ^ 64) × (q * T + t < 2 ^ 64) × (3 * (q * T + t) + 2 < length grid)
-    element-fits =
-        rw eT (own-fits (ok .room) ((i / 4 + m) % 2) q t (eq ∙ ep) (rw et (place-inside c g (i % 4) group-in (omega arith))))
+    element-fits = rw eT (own-fits (ok .room) (m % 2) q t (eq ∙ ep) (rw et (place-inside c g i group-in in-i)))
 
-    element-is : q * T + t ≡ ownElement c m i
+    element-is : q * T + t ≡ ownElement c ((4 * m + i) / 4) ((4 * m + i) % 4)
     unfolding ownElement
     element-is =
-        ap₂ (λ (x y : ℕ). x * y + t) (eq ∙ ep ∙ turn-odd (c .ports) (i / 4 + m)) eT
-        ∙ ap (λ (x : ℕ). ownPort (c .ports) (i / 4 + m) * placesOf c + x) (et ∙ ap (λ (x : ℕ). quadPlace c 0 x (i % 4)) eg)
+        let u : m ≡ (4 * m + i) / 4 = omega arith in
+        let v : i ≡ (4 * m + i) % 4 = omega arith in
+        let z : 0 ≡ i / 4 = omega arith in
+        let o : m ≡ i / 4 + m = omega arith in
+        let k : i ≡ i % 4 = omega arith in
+        ap₂ (λ (x y : ℕ). x * y + t) (eq ∙ ep ∙ turn-odd (c .ports) m) eT
+        ∙ ap (λ (x : ℕ). ownPort (c .ports) m * placesOf c + x) (et ∙ ap (λ (x : ℕ). quadPlace c 0 x i) eg)
+        ∙ ap₂ (λ (x y : ℕ). ownPort (c .ports) x * placesOf c + y) o (ap₂ (λ (x y : ℕ). quadPlace c 0 (unitGroup c m x) y) z k)
+        ∙ ap₂ (ownElement c) u v
 
-    pub sum-is : {e : Element} {a b : ℤ} → e ≡ elementIn grid (q * T + t) → a ≡ signedOf (e .i) → b ≡ signedOf (e .j) → record { re = a; im = b } ≡ sumRead c m grid i
-    unfolding sumRead pairOf
-    sum-is {e = e} ee ea eb =
-        ap₂ (λ (x y : ℤ). record { re = x; im = y }) ea eb ∙ ap pairOf (ee ∙ ap (elementIn grid) element-is)
+    -- one more place is read
+    pub first-next :
+        {e : Element} {first : List ℕ} → FirstRead c grid (4 * m + i) first → e ≡ elementIn grid (q * T + t)
+        → FirstRead c grid (4 * m + (i + 1)) (set (set first (2 * (4 * m + i)) (e .i)) (2 * (4 * m + i) + 1) (e .j))
+    first-next {e = e} {first = first} f ee =
+        let y : ℕ = 4 * m + i in
+        let room : 2 * y + 1 < length first = omega (arith, f .size, units-most c (ok .cell), ok .unit) in
+        let is = ee ∙ ap (elementIn grid) element-is in
+        record {
+          size = length-set (set first (2 * y) (e .i)) (2 * y + 1) (e .j) ∙ length-set first (2 * y) (e .i) ∙ f .size;
+          read = λ z r. pick room is z r (ℕ-discrete z y);
+        }
+      where
+        pick :
+            2 * (4 * m + i) + 1 < length first → e ≡ elementIn grid (ownElement c ((4 * m + i) / 4) ((4 * m + i) % 4)) → (z : ℕ) → z < 4 * m + (i + 1) → Dec (z ≡ 4 * m + i)
+            → (getD (set (set first (2 * (4 * m + i)) (e .i)) (2 * (4 * m + i) + 1) (e .j)) (2 * z) 0 ≡ elementIn grid (ownElement c (z / 4) (z % 4)) .i)
+            × (getD (set (set first (2 * (4 * m + i)) (e .i)) (2 * (4 * m + i) + 1) (e .j)) (2 * z + 1) 0 ≡ elementIn grid (ownElement c (z / 4) (z % 4)) .j)
+        pick room is z r (yes q) =
+            rw q
+            (set-even first (4 * m + i) (e .i) (e .j) room ∙ ap (λ (x : Element). x .i) is, set-odd first (4 * m + i) (e .i) (e .j) room ∙ ap (λ (x : Element). x .j) is)
+        pick room is z r (no n) =
+            let o = set-others first (4 * m + i) (e .i) (e .j) room z n in
+            let s = f .read z (omega (arith, n)) in
+            (o .0 ∙ s .0, o .1 ∙ s .1)
 
--- ---- the twelve sums: those below i are read
-pub record SumsRead (c : Cell) (m : ℕ) (grid : List ℕ) (sums : List Pair) (i : ℕ) : Type 0 where
-  pub done : i ≤ 12
-  pub full : length sums ≡ 12
-  pub below : (j : ℕ) → j < i → getD sums j nil ≡ sumRead c m grid j
+pub first-start : {c : Cell} {grid first : List ℕ} → length first ≡ 200 → FirstRead c grid 0 first
+first-start e = record { size = e; read = λ y r. absurd (not-suc-le-zero r) }
 
-module _ {c : Cell} {m : ℕ} {grid : List ℕ} where
-  pub sums-start : {sums : List Pair} → length sums ≡ 12 → SumsRead c m grid sums 0
-  sums-start e = record { done = omega arith; full = e; below = λ j r. absurd (not-suc-le-zero r) }
+pub first-to : {c : Cell} {grid first : List ℕ} (n : ℕ) {k : ℕ} → n ≤ k → FirstRead c grid k first → FirstRead c grid n first
+first-to n e f = record { size = f .size; read = λ y r. f .read y (omega arith) }
 
-  pub sums-next : {sums : List Pair} {i : ℕ} {x : Pair} → SumsRead c m grid sums i → i < 12 → x ≡ sumRead c m grid i → SumsRead c m grid (set sums i x) (i + 1)
-  sums-next {sums = sums} {i = i} {x = x} t r e =
-      record {
-        done = omega arith;
-        full = length-set sums i x ∙ t .full;
-        below = set-more nil (sumRead c m grid) sums i x (omega (arith, t .full)) e (t .below);
-      }
+-- what `read_quad` requires
+pub unit-read : {c : Cell} {grid first : List ℕ} → QuadsIn c grid first → {m n : ℕ} → m < n → n ≡ unitsOf c → UnitRead c m grid
+unit-read ok r e = record { cell = ok .cell; unit = omega arith; room = ok .room }
 
-  pub sums-finish : {sums : List Pair} {i : ℕ} → SumsRead c m grid sums i → 12 ≤ i → sums ≡ sumsOf c m grid
-  unfolding sumsOf
-  sums-finish {sums = sums} t r = filled nil (sumRead c m grid) 12 sums (t .full) (λ j k. t .below j (omega arith))
+-- ---- the bits that they give
+module _ {c : Cell} {grid first : List ℕ} (f : FirstRead c grid (4 * unitsOf c) first) where
+  levels-read : (m i : ℕ) → m < unitsOf c → i < 4 → levelsAt first (4 * m + i) ≡ sumRead c m grid i
+  unfolding sumRead pairOf
+  levels-read m i r k =
+      let u : (4 * m + i) / 4 ≡ m = omega arith in
+      let v : (4 * m + i) % 4 ≡ i = omega arith in
+      let x = f .read (4 * m + i) (omega arith) in
+      let e = ap (elementIn grid) (ap₂ (ownElement c) u v) in
+      pair-of (ap signedOf (x .0 ∙ ap (λ (z : Element). z .i) e)) (ap signedOf (x .1 ∙ ap (λ (z : Element). z .j) e))
 
--- ---- the bit of one HI
-module _ {c : Cell} {h₀ : Hi} {grid : List ℕ} (ok : HiRead c h₀ grid) where
-  pub hi-ready : {l : ℕ} {h : Hi} → l ≡ spreadLength c → h ≡ h₀ → Length l × (h .sequence < 2 * l)
-  hi-ready el eh = rw (el, eh) (length-ok c, ok .known)
-
-  pub unit-read : {l m : ℕ} {h : Hi} → l ≡ spreadLength c → h ≡ h₀ → m ≡ mappingUnit l h → UnitRead c m grid
-  unit-read el eh em = rw (em, el, eh) (record { cell = ok .cell; unit = ok .unit; room = ok .room })
-
-  pub bit-read :
-      {l m : ℕ} {h : Hi} {sums : List Pair} {b : ℕ} (x : ℕ → ℕ)
-      → l ≡ spreadLength c → h ≡ h₀ → m ≡ mappingUnit l h → sums ≡ sumsOf c m grid → b ≡ bitIn l x h sums → b ≡ ackRead c x h₀ grid
-  unfolding ackRead
-  bit-read x el eh em es eb = eb ∙ rw (es, em, el, eh) refl
+  -- THE LAW: they are those of all the sums in the grid
+  quad-bit : (l : ℕ) (x : ℕ → ℕ) (h : Hi) → mappingUnit l h < unitsOf c → bitIn l x h (quadOf first (mappingUnit l h)) ≡ bitIn l x h (sumsOf c (mappingUnit l h) grid)
+  unfolding bitIn quadOf sumsOf
+  quad-bit l x h r =
+      ap below
+      (along-same l x h _ _ (λ i k.
+      table-at 4 (λ (j : ℕ). levelsAt first (4 * mappingUnit l h + j)) nil i k
+      ∙ levels-read (mappingUnit l h) i r k
+      ∙ sym (table-at 12 (sumRead c (mappingUnit l h) grid) nil i (omega arith))))
 
 -- by the word's bits or the pair's
-ack-word : (c : Cell) (r : Registers) (w : ℕ) (hs : List Hi) (n : ℕ) (h : Hi) (g : List ℕ) → w ≡ wordOf r 12 → h ≡ hiNumber hs n → ackRead c (wordBit w) h g ≡ ackFrom c r hs g n
-unfolding ackRead ackFrom
-ack-word c r w hs n h g ew eh =
-    bit-chips (spreadLength c) (length-ok c) (wordBit w) (outputs r) (word-bits r w ew) h (sumsOf c (mappingUnit (spreadLength c) h) g)
-    ∙ ap (λ (y : Hi). bitIn (spreadLength c) (outputs r) y (sumsOf c (mappingUnit (spreadLength c) y) g)) eh
+pub quad-ack :
+    {c : Cell} {grid first : List ℕ} → FirstRead c grid (4 * unitsOf c) first → (r : Registers) (w l : ℕ) → w ≡ wordOf r 12 → l ≡ spreadLength c → (hs : List Hi) (n : ℕ)
+    → mappingUnit (spreadLength c) (hiNumber hs n) < unitsOf c → {h : Hi} → h ≡ hiNumber hs n → bitIn l (wordBit w) h (quadOf first (mappingUnit l h)) ≡ ackFrom c r hs grid n
+unfolding ackFrom
+quad-ack {c = c} {grid = grid} {first = first} f r w l ew el hs n in-u eh =
+    rw (el, eh)
+    (quad-bit f (spreadLength c) (wordBit w) (hiNumber hs n) in-u
+    ∙ bit-chips (spreadLength c) (length-ok c) (wordBit w) (outputs r) (word-bits r w ew) (hiNumber hs n) (sumsOf c (mappingUnit (spreadLength c) (hiNumber hs n)) grid))
 
 below-two : (z : ℤ) → below z < 2
 below-two (pos n) = omega arith
@@ -128,14 +159,25 @@ within-at l [] n k h = absurd (not-suc-le-zero h)
 within-at l (x ∷ hs) zero k h = k .0
 within-at l (x ∷ hs) (suc n) k h = within-at l hs n (k .1) (omega arith)
 
-first : (plan : List ℕ) (from n : ℕ) → 0 < n → hisFrom (drop from plan) n ≡ hiOf (drop from plan) ∷ hisFrom (drop (nextOf plan from) plan) (n - 1)
-first plan from zero h = absurd (not-suc-le-zero h)
-first plan from (suc n) h = rw sub-one (row-next hiOf plan from n)
+-- what `first_sums` requires, and the loops over the HIs
+module _ {c : Cell} {his : Row} {plan grid : List ℕ} (ok : HisRead c his plan grid) where
+  pub quads-in : {first : List ℕ} → length first ≡ 200 → QuadsIn c grid first
+  quads-in e = record { cell = ok .cell; room = ok .room; size = e }
 
--- n bits are written; the HIs from number n on stand from position `at` on
+  pub his-in : {l : ℕ} → l ≡ spreadLength c → HisIn l plan (his .at) (his .count)
+  his-in is =
+      rw is
+      (record {
+        each = λ n r. record {
+          spread = length-ok c;
+          known = within-at (spreadLength c) (hisFrom (drop (his .at) plan) (his .count)) n (ok .known) (omega (arith, row-length hiOf (drop (his .at) plan) (his .count)));
+          unit = omega (arith, ok .units n r, units-most c (ok .cell));
+        };
+      })
+
+-- n bits are written
 pub record ReadTurn (c : Cell) (r : Registers) (his : Row) (plan grid part : List ℕ) (at n : ℕ) : Type 0 where
-  pub done : n ≤ his .count
-  pub rest : (i : ℕ) → hiNumber (hisFrom (drop at plan) (his .count - n)) i ≡ hiNumber (hisFrom (drop (his .at) plan) (his .count)) (n + i)
+  pub where-at : At plan (his .at) (his .count) at n
   pub size : length part ≡ sectionBytes (his .count)
   pub bits : Packed (ackFrom c r (hisFrom (drop (his .at) plan) (his .count)) grid) n part
 
@@ -147,41 +189,17 @@ module _ {c : Cell} {his : Row} {plan grid part₀ : List ℕ} (ok : ReadIn c hi
   bit = ackFrom c r hs grid
 
   pub read-start : ReadTurn c r his plan grid part₀ (his .at) 0
-  read-start =
-      let e : his .count - 0 ≡ his .count = omega arith in
-      record {
-        done = omega arith;
-        rest = λ i. let z : i ≡ 0 + i = omega arith in rw e (ap (hiNumber hs) z);
-        size = ok .size;
-        bits = packed-none bit part₀;
-      }
+  read-start = record { where-at = at-start plan (his .at) (his .count); size = ok .size; bits = packed-none bit part₀ }
 
   module _ {part : List ℕ} {at n : ℕ} (t : ReadTurn c r his plan grid part at n) (more : n < his .count) where
-    split : hisFrom (drop at plan) (his .count - n) ≡ hiOf (drop at plan) ∷ hisFrom (drop (nextOf plan at) plan) (his .count - (n + 1))
-    split =
-        let e : his .count - n - 1 ≡ his .count - (n + 1) = omega arith in
-        first plan at (his .count - n) (omega arith) ∙ ap (λ (k : ℕ). hiOf (drop at plan) ∷ hisFrom (drop (nextOf plan at) plan) k) e
+    -- what `bit_of` and `push` require
+    pub hi-read : {l : ℕ} {h : Hi} → l ≡ spreadLength c → h ≡ hiOf (drop at plan) → HiIn l h
+    hi-read el eh = here-in (t .where-at) more (his-in (ok .each) el) eh
 
-    here : hiOf (drop at plan) ≡ hiNumber hs n
-    here =
-        let z : n + 0 ≡ n = omega arith in
-        ap (λ (xs : List Hi). hiNumber xs 0) (sym split) ∙ t .rest 0 ∙ ap (hiNumber hs) z
-
-    later : (i : ℕ) → hiNumber (hisFrom (drop (nextOf plan at) plan) (his .count - (n + 1))) i ≡ hiNumber hs (n + 1 + i)
-    later i =
-        let z : n + suc i ≡ n + 1 + i = omega arith in
-        ap (λ (xs : List Hi). hiNumber xs (suc i)) (sym split) ∙ t .rest (suc i) ∙ ap (hiNumber hs) z
-
-    listed : n < length hs
-    listed = omega (arith, row-length hiOf (drop (his .at) plan) (his .count))
-
-    -- what `bit_in` and `push` require
-    pub hi-read : HiRead c (hiOf (drop at plan)) grid
-    hi-read = rw here (record { cell = ok .cell; known = within-at (spreadLength c) hs n (ok .known) listed; unit = ok .units n more; room = ok .room })
-
-    module _ {w b : ℕ} (ew : w ≡ wordOf r 12) (eb : b ≡ ackRead c (wordBit w) (hiOf (drop at plan)) grid) where
+    module _ {first : List ℕ} (f : FirstRead c grid (4 * unitsOf c) first) {w l b : ℕ} (ew : w ≡ wordOf r 12) (el : l ≡ spreadLength c) {h : Hi} (eh : h ≡ hiOf (drop at plan))
+        (eb : b ≡ bitIn l (wordBit w) h (quadOf first (mappingUnit l h))) where
       bit-is : b ≡ bit n
-      bit-is = eb ∙ ack-word c r w hs n (hiOf (drop at plan)) grid ew here
+      bit-is = eb ∙ quad-ack f r w l ew el hs n (ok .each .units n more) (eh ∙ here (t .where-at) more)
 
       inside : n / 8 < length part
       inside = omega (arith, t .size)
@@ -192,13 +210,12 @@ module _ {c : Cell} {his : Row} {plan grid part₀ : List ℕ} (ok : ReadIn c hi
       pub read-next : {new : List ℕ} {next : ℕ} → new ≡ pushed part n b → next ≡ nextOf plan at → ReadTurn c r his plan grid new next (n + 1)
       read-next en ex =
           record {
-            done = omega arith;
-            rest = rw ex later;
+            where-at = at-next (t .where-at) more ex;
             size = ap length en ∙ pushed-length part n b ∙ t .size;
             bits = push-more bit n (t .bits) b bit-is inside en;
           }
 
   pub read-finish : {part : List ℕ} {at n : ℕ} → ReadTurn c r his plan grid part at n → his .count ≤ n → part ≡ sectionOf bit (his .count)
   read-finish {part = part} {n = n} t h =
-      let e : n ≡ his .count = omega (arith, t .done) in
+      let e : n ≡ his .count = omega (arith, t .where-at .done) in
       packed-all bit (his .count) part (t .size) (rw e at (t .bits))

@@ -35,7 +35,7 @@ use Rattle.payload.specs.Sections.{sectionBytes}
 use Rattle.subframe.specs.Elements.{controlInit}
 use Rattle.subframe.proofs.Acknowledged.{within}
 use Rattle.recovery.specs.Recovery.{symbolIn, sumsIn, ackBit}
-use Rattle.control.specs.Reading.{ownElement, sumRead, sumsOf, ackFrom, ReadIn}
+use Rattle.control.specs.Reading.{ownElement, sumRead, sumsOf, ackFrom, HisRead, ReadIn}
 
 module _ (w : List ℕ) (p : Plan) (g : List ℕ) where
   place-is : (m i : ℕ) → quadPlace (p .cell) 0 (unitGroup (p .cell) m (i / 4)) (i % 4) ≡ placeOf w p (Phich m) i
@@ -62,10 +62,10 @@ module _ (w : List ℕ) (p : Plan) (g : List ℕ) where
       ∙ ap (bitIn l (c (controlInit (p .cell) (p .frame))) h) (sums-are (mappingUnit l h))
 
 module _ (w : List ℕ) (p : Plan) (ok : checkOf w ≡ accepted p) where
-  -- what `read_his` requires
-  pub read-in : {grid part : List ℕ} → Room (p .cell .ports) (placesOf (p .cell)) grid → length part ≡ sectionBytes (p .his .count) → ReadIn (p .cell) (p .his) w grid part
+  -- what the loops over the HIs and `read_his` require
+  pub his-read : {grid : List ℕ} → Room (p .cell .ports) (placesOf (p .cell)) grid → HisRead (p .cell) (p .his) w grid
   unfolding hisOf
-  read-in r s =
+  his-read r =
       record {
         cell = valid w p ok .cell;
         room = r;
@@ -73,5 +73,7 @@ module _ (w : List ℕ) (p : Plan) (ok : checkOf w ≡ accepted p) where
         units = λ n l.
             hi-unit (p .cell) (hiNumber (hisOf w p) n)
             (every-at (HiIn (p .cell)) (record { group = 0; sequence = 0 }) (hisOf w p) n (valid w p ok .his) (omega (arith, valid w p ok .his-count)));
-        size = s;
       }
+
+  pub read-in : {grid part : List ℕ} → Room (p .cell .ports) (placesOf (p .cell)) grid → length part ≡ sectionBytes (p .his .count) → ReadIn (p .cell) (p .his) w grid part
+  read-in r s = record { each = his-read r; size = s }

@@ -1,25 +1,25 @@
 -- What `fill_phich` hands to `unit_sums` and `put_unit`, and that the sums by the word's bits are those by the pair's. Assumes nothing.
-use Prim.Native.Nat.{ℕ, _*_, _≤_}
-use mathlib.Core.Path.{_≡_, refl, ap, _∙_}
+use Prim.Native.Nat.{ℕ, _*_, _%_, _≤_}
+use mathlib.Core.Path.{_≡_, refl, sym, ap, _∙_, subst}
 use mathlib.Core.List.{List}
 use native.Mathlib.Omega.{arith}
-use lib.ListN.{drop}
+use lib.ListN.{getD}
 use borrow.Author.Tests.{eq-eqb, ne-eqb}
 use Rattle.base.specs.declared.Pair.{Pair}
-use Rattle.base.specs.Bits.{bitAt}
+use Rattle.base.specs.Pairs.{nil, turned, Small}
+use Rattle.base.proofs.Pairs.{turned-small}
+use Rattle.base.proofs.Tables.{table-at}
 use Rattle.gold.specs.declared.Registers.{Registers}
 use Rattle.gold.specs.Steps.{after, wordOf}
 use Rattle.codeword.specs.Streams.{outputs}
-use Rattle.phich.specs.Spreading.{wordBit, spreadLength}
-use Rattle.phich.specs.Units.{unitSums, Ready}
-use Rattle.phich.proofs.Units.{ready, small, length-ok}
-use Rattle.phich.proofs.Chips.{sums-chips}
-use Rattle.plan.specs.Rows.{hisFrom}
+use Rattle.phich.specs.Spreading.{Length, wordBit, spreadLength}
+use Rattle.phich.specs.Loops.{chipOf, levelsAt, Levels, scrambledSums}
+use Rattle.phich.proofs.Units.{length-ok}
+use Rattle.phich.proofs.Scrambled.{scrambled-chips}
 use Rattle.plan.specs.declared.Cell.{Cell}
-use Rattle.plan.specs.declared.Row.{Row}
 use Rattle.grid.specs.Writing.{Written}
-use Rattle.control.specs.Control.{phichSends, sumsFrom, phichSent}
-use Rattle.control.specs.Filling.{PhichIn, UnitIn, unitSent}
+use Rattle.control.specs.Control.{phichSends, unitSent, phichSent}
+use Rattle.control.specs.Filling.{PhichIn, UnitIn}
 use Rattle.control.proofs.Words.{word-bits}
 
 -- ---- the length of the spreading sequences
@@ -38,27 +38,30 @@ length-most c e = omega (arith, length-ok c .1)
 pub after-three : (c : Cell) (r : Registers) {l : ℕ} {s : Registers} → l ≡ spreadLength c → s ≡ after r (3 * l) → s ≡ after r (3 * spreadLength c)
 after-three c r is e = e ∙ ap (λ (l : ℕ). after r (3 * l)) is
 
-module _ {c : Cell} {m : ℕ} {his : Row} {plan grid : List ℕ} (ok : PhichIn c m his plan grid) {l : ℕ} (is : l ≡ spreadLength c) where
-  pub sums-ready : Ready l m plan (his .at) (his .count)
-  sums-ready = rw is (ready (spreadLength c) m plan (his .at) (his .count) (length-ok c) (ok .known) (ok .apart))
+module _ {c : Cell} {m : ℕ} {part grid : List ℕ} (ok : PhichIn c m part grid) {l : ℕ} (is : l ≡ spreadLength c) where
+  -- what `unit_sums` requires
+  pub part-ready : Length l × Levels 127 part
+  part-ready =
+      rw is
+      (length-ok c, record { size = ok .levels .size; small = λ i r. let s = ok .levels .small i r in (omega (arith, s .0), omega (arith, s .1)) })
 
-  module _ (w : ℕ) (bits : List ℕ) {sums : List Pair} (e : sums ≡ unitSums l (wordBit w) m (bitAt bits) (hisFrom (drop (his .at) plan) (his .count))) where
+  module _ (w : ℕ) {sums : List Pair} (e : sums ≡ scrambledSums l (wordBit w) part) where
     pub unit-ready : UnitIn c m sums grid
+    unfolding scrambledSums
     unit-ready =
         record {
           cell = ok .cell;
           unit = ok .unit;
           room = ok .room;
-          small = λ i r. rw (e, is) (small (spreadLength c) (length-ok c) (wordBit w) (hisFrom (drop (his .at) plan) (his .count)) (ok .known) (ok .apart) m (bitAt bits) i r);
+          small = λ i r.
+              subst (λ (p : Pair). Small 8 p) (sym (ap (λ (s : List Pair). getD s i nil) e ∙ table-at 12 (λ (j : ℕ). turned (wordBit w (chipOf l j)) (levelsAt part (j % 4))) nil i r))
+              (turned-small (wordBit w (chipOf l i)) 8 (levelsAt part (i % 4)) (ok .levels .small (i % 4) (omega arith)));
         }
 
     -- the sums by the word's bits are those by the pair's
-    by-pair : (r : Registers) → w ≡ wordOf r 12 → sums ≡ unitSums (spreadLength c) (outputs r) m (bitAt bits) (hisFrom (drop (his .at) plan) (his .count))
-    by-pair r h =
-        e ∙ ap (λ (x : ℕ). unitSums x (wordBit w) m (bitAt bits) (hisFrom (drop (his .at) plan) (his .count))) is
-        ∙ sums-chips (spreadLength c) (length-ok c) (wordBit w) (outputs r) (word-bits r w h) m (bitAt bits) (hisFrom (drop (his .at) plan) (his .count))
+    pub by-pair : (r : Registers) → w ≡ wordOf r 12 → sums ≡ scrambledSums (spreadLength c) (outputs r) part
+    by-pair r h = e ∙ ap (λ (x : ℕ). scrambledSums x (wordBit w) part) is ∙ scrambled-chips (spreadLength c) (length-ok c) (wordBit w) (outputs r) (word-bits r w h) part
 
-    pub unit-done : (r : Registers) → w ≡ wordOf r 12 → {g : List ℕ} → Written (phichSends c m) (unitSent c m sums) grid g
-        → Written (phichSends c m) (phichSent c m r (hisFrom (drop (his .at) plan) (his .count)) bits) grid g
-    unfolding phichSent sumsFrom unitSent
+    pub unit-done : (r : Registers) → w ≡ wordOf r 12 → {g : List ℕ} → Written (phichSends c m) (unitSent c m sums) grid g → Written (phichSends c m) (phichSent c m r part) grid g
+    unfolding phichSent
     unit-done r h v = rw (by-pair r h) at v

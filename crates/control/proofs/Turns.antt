@@ -1,4 +1,4 @@
--- The loops of `fill_pcfich` and `put_unit`: after n pairs of places those of the indices below 2n are written. Assumes nothing.
+-- The loops of `fill_pcfich` and `put_unit`: after p pairs of places those of the indices below 2p are written. Assumes nothing.
 use Prim.Native.Nat.{ℕ, _+_, _*_, _/_, _%_, _≤_, _<_}
 use mathlib.Core.Path.{_≡_, refl, sym, ap, _∙_}
 use mathlib.Core.Bool.{Bool}
@@ -22,8 +22,8 @@ use Rattle.places.specs.Quads.{quadPlace}
 use Rattle.places.specs.Places.{symbolAt, carrierAt, placesOf}
 use Rattle.grid.specs.Writing.{Written}
 use Rattle.grid.proofs.Writing.{room-kept}
-use Rattle.control.specs.Control.{pcfichIndex, pcfichSends, pcfichSent, phichIndex, phichSends}
-use Rattle.control.specs.Filling.{PcfichIn, UnitIn, PairIn, PairWritten, unitSent}
+use Rattle.control.specs.Control.{pcfichIndex, pcfichSends, pcfichSent, phichIndex, phichSends, unitSent}
+use Rattle.control.specs.Filling.{PcfichIn, UnitIn, PairIn, PairWritten}
 use Rattle.control.proofs.Filling as filling
 use Rattle.control.proofs.Filling.{upTo, valueBy}
 use Rattle.control.proofs.Listings.{place-at, some-places, pcfich-groups, pcfich-listed, phich-groups, phich-listed}
@@ -108,23 +108,23 @@ phichHas c m t = phich c m (symbolAt c t) (carrierAt c t)
 abbrev byQuad : ℕ → ℕ → ℕ
 byQuad m j = (j / 4 + m) % 2
 
-pub record UnitTurn (c : Cell) (m : ℕ) (sums : List Pair) (n : ℕ) (g₀ g : List ℕ) : Type 0 where
-  pub most : n ≤ 6
+pub record UnitTurn (c : Cell) (m : ℕ) (sums : List Pair) (p : ℕ) (g₀ g : List ℕ) : Type 0 where
+  pub most : p ≤ 6
   pub written :
-      Written (upTo (c .ports) (placesOf c) (phichHas c m) (phichIndex c m) (byQuad m) (2 * n))
+      Written (upTo (c .ports) (placesOf c) (phichHas c m) (phichIndex c m) (byQuad m) (2 * p))
       (valueBy (c .ports) (placesOf c) (phichIndex c m) (byQuad m) (λ (i : ℕ). getD sums i nil)) g₀ g
 
--- the two sums of turn n and their group, in any grid of the cell
-pub unit-in :
-    {c : Cell} {m : ℕ} {sums : List Pair} {g : List ℕ} → UnitIn c m sums g → {n k : ℕ} → n < 6
-    → k ≡ unitGroup c m (n / 2) → PairIn c k (n % 2) (getD sums (2 * n) nil) (getD sums (2 * n + 1) nil) g
-unit-in {c = c} {m = m} {sums = sums} ok {n = n} in-n q =
+-- half i of quad n and the quad's group, in any grid of the cell
+pub half-in :
+    {c : Cell} {m : ℕ} {sums : List Pair} {g : List ℕ} → UnitIn c m sums g → {n i k x y : ℕ} → n < 3 → i < 2
+    → k ≡ unitGroup c m n → x ≡ 4 * n + 2 * i → y ≡ 4 * n + 2 * i + 1 → PairIn c k i (getD sums x nil) (getD sums y nil) g
+half-in {c = c} {m = m} {sums = sums} ok {n = n} {x = x} {y = y} in-n in-i q ex ey =
     record {
       cell = ok .cell;
-      group = omega (arith, q, phich-groups c (ok .cell) m (ok .unit) .small (n / 2) (omega arith));
-      half = omega arith;
-      first = small-sum (2 * n) (omega arith);
-      second = small-sum (2 * n + 1) (omega arith);
+      group = omega (arith, q, phich-groups c (ok .cell) m (ok .unit) .small n in-n);
+      half = in-i;
+      first = small-sum x (omega arith);
+      second = small-sum y (omega arith);
       room = ok .room;
     }
   where
@@ -139,30 +139,50 @@ module _ (c : Cell) (m : ℕ) (sums : List Pair) (g₀ : List ℕ) (ok : UnitIn 
         written = filling.start (c .ports) (placesOf c) (byQuad m) (λ (i : ℕ). getD sums i nil) (some-places c (ok .cell)) (phich-listed c (ok .cell) m (ok .unit)) g₀;
       }
 
-  module _ {n : ℕ} {g : List ℕ} (t : UnitTurn c m sums n g₀ g) (in-n : n < 6) where
-    pub unit-pair : {k : ℕ} → k ≡ unitGroup c m (n / 2) → PairIn c k (n % 2) (getD sums (2 * n) nil) (getD sums (2 * n + 1) nil) g
-    unit-pair q = unit-in {sums = sums} (record { cell = ok .cell; unit = ok .unit; room = room-kept (ok .room) (t .written); small = ok .small }) {n = n} in-n q
+  -- pair p of the places, half i of quad n, is written
+  half-next :
+      {p n i k x y : ℕ} {g g′ : List ℕ} → UnitTurn c m sums p g₀ g → p ≡ 2 * n + i → i < 2 → n < 3 → k ≡ unitGroup c m n → x ≡ 4 * n + 2 * i → y ≡ 4 * n + 2 * i + 1
+      → PairWritten (c .ports) (placesOf c) ((n + m) % 2) (quadPlace c 0 k (2 * i)) (quadPlace c 0 k (2 * i + 1)) (getD sums x nil) (getD sums y nil) g g′
+      → UnitTurn c m sums (p + 1) g₀ g′
+  half-next {p = p} {n = n} {i = i} {x = x} {y = y} t ep in-i in-n q ex ey w =
+      let group : ℕ → ℕ = unitGroup c m in
+      let one = place-at c group (2 * p) n (2 * i) (omega arith) (omega arith) ∙ ap (λ (z : ℕ). quadPlace c 0 z (2 * i)) (sym q) in
+      let two = place-at c group (2 * p + 1) n (2 * i + 1) (omega arith) (omega arith) ∙ ap (λ (z : ℕ). quadPlace c 0 z (2 * i + 1)) (sym q) in
+      let u : 2 * p / 4 ≡ n = omega arith in
+      let v : (2 * p + 1) / 4 ≡ n = omega arith in
+      let dx : x ≡ 2 * p = omega arith in
+      let dy : y ≡ 2 * p + 1 = omega arith in
+      record {
+        most = omega arith;
+        written =
+            filling.pair-more (c .ports) (placesOf c) (byQuad m) (λ (z : ℕ). getD sums z nil) (some-places c (ok .cell)) (phich-listed c (ok .cell) m (ok .unit)) p ((n + m) % 2) _ _
+            (getD sums x nil) (getD sums y nil) (omega arith) (ap (λ (z : ℕ). (z + m) % 2) u) (ap (λ (z : ℕ). (z + m) % 2) v) one two
+            (ap (λ (z : ℕ). getD sums z nil) dx) (ap (λ (z : ℕ). getD sums z nil) dy) (t .written) w;
+      }
 
-    pub unit-next :
-        {k : ℕ} {g′ : List ℕ} → k ≡ unitGroup c m (n / 2)
-        → PairWritten (c .ports) (placesOf c) ((n / 2 + m) % 2) (quadPlace c 0 k (2 * (n % 2))) (quadPlace c 0 k (2 * (n % 2) + 1)) (getD sums (2 * n) nil) (getD sums (2 * n + 1) nil) g g′
-        → UnitTurn c m sums (n + 1) g₀ g′
-    unit-next q p =
-        let group : ℕ → ℕ = unitGroup c m in
-        let i : ℕ = 2 * (n % 2) in
-        let one = place-at c group (2 * n) (n / 2) i (omega arith) (omega arith) ∙ ap (λ (y : ℕ). quadPlace c 0 y i) (sym q) in
-        let two = place-at c group (2 * n + 1) (n / 2) (i + 1) (omega arith) (omega arith) ∙ ap (λ (y : ℕ). quadPlace c 0 y (i + 1)) (sym q) in
-        let u : 2 * n / 4 ≡ n / 2 = omega arith in
-        let v : (2 * n + 1) / 4 ≡ n / 2 = omega arith in
-        record {
-          most = omega arith;
-          written =
-              filling.pair-more (c .ports) (placesOf c) (byQuad m) (λ (i : ℕ). getD sums i nil) (some-places c (ok .cell)) (phich-listed c (ok .cell) m (ok .unit)) n ((n / 2 + m) % 2) _ _
-              (getD sums (2 * n) nil) (getD sums (2 * n + 1) nil) (omega arith) (ap (λ (y : ℕ). (y + m) % 2) u) (ap (λ (y : ℕ). (y + m) % 2) v) one two refl refl (t .written) p;
-        }
+  module _ {n : ℕ} {g : List ℕ} (t : UnitTurn c m sums (2 * n) g₀ g) (in-n : n < 3) {k : ℕ} (q : k ≡ unitGroup c m n) where
+    -- what `put_pair` requires for the first half of quad n
+    pub first-in : PairIn c k 0 (getD sums (4 * n) nil) (getD sums (4 * n + 1) nil) g
+    first-in = half-in {sums = sums} (record { cell = ok .cell; unit = ok .unit; room = room-kept (ok .room) (t .written); small = ok .small }) {n = n} {i = 0} in-n (omega arith) q (omega arith) (omega arith)
 
-  pub unit-finish : {n : ℕ} {g : List ℕ} → UnitTurn c m sums n g₀ g → 6 ≤ n → Written (phichSends c m) (unitSent c m sums) g₀ g
+    module _ {g₁ : List ℕ} (one : PairWritten (c .ports) (placesOf c) ((n + m) % 2) (quadPlace c 0 k 0) (quadPlace c 0 k 1) (getD sums (4 * n) nil) (getD sums (4 * n + 1) nil) g g₁) where
+      half-done : UnitTurn c m sums (2 * n + 1) g₀ g₁
+      half-done = half-next {p = 2 * n} {n = n} {i = 0} t (omega arith) (omega arith) in-n q (omega arith) (omega arith) one
+
+      -- and for the second
+      pub second-in : PairIn c k 1 (getD sums (4 * n + 2) nil) (getD sums (4 * n + 3) nil) g₁
+      second-in = half-in {sums = sums} (record { cell = ok .cell; unit = ok .unit; room = room-kept (ok .room) (half-done .written); small = ok .small }) {n = n} {i = 1} in-n (omega arith) q (omega arith) (omega arith)
+
+      -- the quad is written
+      pub quad-next :
+          {g₂ : List ℕ} → PairWritten (c .ports) (placesOf c) ((n + m) % 2) (quadPlace c 0 k 2) (quadPlace c 0 k 3) (getD sums (4 * n + 2) nil) (getD sums (4 * n + 3) nil) g₁ g₂
+          → UnitTurn c m sums (2 * (n + 1)) g₀ g₂
+      quad-next two =
+          let e : 2 * n + 1 + 1 ≡ 2 * (n + 1) = omega arith in
+          rw e at (half-next {p = 2 * n + 1} {n = n} {i = 1} half-done refl (omega arith) in-n q (omega arith) (omega arith) two)
+
+  pub unit-finish : {n : ℕ} {g : List ℕ} → UnitTurn c m sums (2 * n) g₀ g → 3 ≤ n → Written (phichSends c m) (unitSent c m sums) g₀ g
   unfolding phichSends unitSent
   unit-finish {n = n} t last =
-      let e : 2 * n ≡ 12 = omega (arith, t .most, last) in
+      let e : 2 * (2 * n) ≡ 12 = omega (arith, t .most, last) in
       filling.finish (c .ports) (placesOf c) (byQuad m) (λ (i : ℕ). getD sums i nil) (some-places c (ok .cell)) (phich-listed c (ok .cell) m (ok .unit)) (rw e at (t .written))

@@ -6,17 +6,15 @@ use mathlib.Core.List.{List}
 use lib.ListN.{getD}
 use Rattle.base.specs.declared.Pair.{Pair}
 use Rattle.base.specs.declared.Element.{Element}
-use Rattle.base.specs.Bits.{bitAt}
 use Rattle.base.specs.Pairs.{nil}
 use Rattle.gold.specs.declared.Registers.{Registers}
 use Rattle.codeword.specs.Codewords.{dataSymbol, cfiBit}
 use Rattle.codeword.specs.Streams.{outputs}
 use Rattle.precoding.specs.Places.{placed}
-use Rattle.phich.specs.Units.{unitSums}
+use Rattle.phich.specs.Loops.{scrambledSums}
 use Rattle.phich.specs.Spreading.{spreadLength}
 use Rattle.plan.specs.Fields.{unitsOf}
 use Rattle.plan.specs.declared.Cell.{Cell}
-use Rattle.plan.specs.declared.Hi.{Hi}
 use Rattle.layout.specs.Rules.{unitGroup, pcfich, phich, formatGroup}
 use Rattle.places.specs.Places.{symbolAt, carrierAt, placesOf}
 use Rattle.places.specs.Quads.{quadsIndex}
@@ -46,11 +44,12 @@ phichSends c m e =
     let t = e % placesOf c in
     phich c m (symbolAt c t) (carrierAt c t) && sends (c .ports) ((phichIndex c m t / 4 + m) % 2) (e / placesOf c)
 
--- the sums of the unit over the HIs hs, whose bits are those of a slice
-unfoldable pub sumsFrom : Cell → ℕ → Registers → List Hi → List ℕ → ℕ → Pair
-sumsFrom c m r hs bits i = getD (unitSums (spreadLength c) (outputs r) m (bitAt bits) hs) i nil
-
-unfoldable pub phichSent : Cell → ℕ → Registers → List Hi → List ℕ → ℕ → Element
-phichSent c m r hs bits e =
+-- by the sums at its places
+unfoldable pub unitSent : Cell → ℕ → List Pair → ℕ → Element
+unitSent c m sums e =
     let j = phichIndex c m (e % placesOf c) in
-    placed (c .ports) ((j / 4 + m) % 2) 2 (sumsFrom c m r hs bits) j (e / placesOf c)
+    placed (c .ports) ((j / 4 + m) % 2) 2 (λ (i : ℕ). getD sums i nil) j (e / placesOf c)
+
+-- those that the bytes of its quad's sums give, scrambled with a pair
+unfoldable pub phichSent : Cell → ℕ → Registers → List ℕ → ℕ → Element
+phichSent c m r part = unitSent c m (scrambledSums (spreadLength c) (outputs r) part)

@@ -40,10 +40,7 @@ sumRead c m g i = pairOf (elementIn g (ownElement c m i))
 unfoldable pub sumsOf : Cell → ℕ → List ℕ → List Pair
 sumsOf c m g = table 12 (sumRead c m g)
 
--- the bit of an HI with the scrambling bits x, and of HI n of the HIs hs with those of a register pair
-unfoldable pub ackRead : Cell → (ℕ → ℕ) → Hi → List ℕ → ℕ
-ackRead c x h g = bitIn (spreadLength c) x h (sumsOf c (mappingUnit (spreadLength c) h) g)
-
+-- the bit of HI n of the HIs hs, with the scrambling bits of a register pair
 unfoldable pub ackFrom : Cell → Registers → List Hi → List ℕ → ℕ → ℕ
 ackFrom c r hs g n = bitIn (spreadLength c) (outputs r) (hiNumber hs n) (sumsOf c (mappingUnit (spreadLength c) (hiNumber hs n)) g)
 
@@ -53,19 +50,27 @@ pub record UnitRead (c : Cell) (m : ℕ) (grid : List ℕ) : Type 0 where
   pub unit : m < unitsOf c
   pub room : Room (c .ports) (placesOf c) grid
 
--- an HI of the cell and a grid of the cell
-pub record HiRead (c : Cell) (h : Hi) (grid : List ℕ) : Type 0 where
-  pub cell : CellIn c
-  pub known : h .sequence < 2 * spreadLength c
-  pub unit : mappingUnit (spreadLength c) h < unitsOf c
-  pub room : Room (c .ports) (placesOf c) grid
+-- the levels of the first n places of the units' first quads are read: place y is place y % 4 of unit y / 4
+pub record FirstRead (c : Cell) (grid : List ℕ) (n : ℕ) (first : List ℕ) : Type 0 where
+  pub size : length first ≡ 200
+  pub read : (y : ℕ) → y < n → (getD first (2 * y) 0 ≡ elementIn grid (ownElement c (y / 4) (y % 4)) .i) × (getD first (2 * y + 1) 0 ≡ elementIn grid (ownElement c (y / 4) (y % 4)) .j)
 
--- HIs of the cell, a grid of the cell, and the bytes of their section
-pub record ReadIn (c : Cell) (his : Row) (plan grid part : List ℕ) : Type 0 where
+-- a grid of the cell, and bytes for them
+pub record QuadsIn (c : Cell) (grid first : List ℕ) : Type 0 where
+  pub cell : CellIn c
+  pub room : Room (c .ports) (placesOf c) grid
+  pub size : length first ≡ 200
+
+-- HIs of the cell and a grid of the cell
+pub record HisRead (c : Cell) (his : Row) (plan grid : List ℕ) : Type 0 where
   pub cell : CellIn c
   pub room : Room (c .ports) (placesOf c) grid
   pub known : Within (spreadLength c) (hisFrom (drop (his .at) plan) (his .count))
   pub units : (n : ℕ) → n < his .count → mappingUnit (spreadLength c) (hiNumber (hisFrom (drop (his .at) plan) (his .count)) n) < unitsOf c
+
+-- and the bytes of their section
+pub record ReadIn (c : Cell) (his : Row) (plan grid part : List ℕ) : Type 0 where
+  pub each : HisRead c his plan grid
   pub size : length part ≡ sectionBytes (his .count)
 
 -- bit n written after those before it, most significant first: with the first bit of a byte the others are 0

@@ -10,16 +10,16 @@ ghost use lib.ListN.{drop};
 ghost use Rattle.gold.specs.Sequence.{binary};
 ghost use Rattle.gold.specs.Steps.{after};
 ghost use Rattle.codeword.specs.Codewords.{cfiBit};
-ghost use Rattle.plan.specs.Commands.{hiOf};
+ghost use Rattle.plan.specs.Fields.{unitsOf};
 ghost use Rattle.plan.specs.Rows.{hisFrom};
-ghost use Rattle.phich.specs.Spreading.{wordBit, spreadLength};
+ghost use Rattle.phich.specs.Spreading.{spreadLength};
 ghost use Rattle.recovery.specs.Recovery.{sectionOf};
 ghost use Rattle.places.specs.Places.{placesOf};
 ghost use Rattle.places.specs.Quads.{quadPlace};
 ghost use Rattle.grid.specs.Writing.{Written};
-ghost use Rattle.control.specs.Control.{pcfichSends, pcfichSent, phichSends, phichSent};
-ghost use Rattle.control.specs.Filling.{PcfichIn, PhichIn, UnitIn, PairIn, PairWritten, unitSent};
-ghost use Rattle.control.specs.Reading.{sumRead, sumsOf, ackRead, ackFrom, pushed, PushIn, UnitRead, HiRead, ReadIn};
+ghost use Rattle.control.specs.Control.{pcfichSends, pcfichSent, phichSends, unitSent, phichSent};
+ghost use Rattle.control.specs.Filling.{PcfichIn, PhichIn, UnitIn, PairIn, PairWritten};
+ghost use Rattle.control.specs.Reading.{ackFrom, pushed, PushIn, UnitRead, FirstRead, QuadsIn, ReadIn};
 
 // TS 36.212 table 5.3.4-1: the codewords of CFI 1, 2 and 3 repeat these bits.
 const CODEWORDS: [[u32; 3]; 3] = [[0, 1, 1], [1, 0, 1], [1, 1, 0]];
@@ -92,84 +92,70 @@ pub fn spread_length(cell: Cell) -> usize
     if cell.prefix == 1 { 2 } else { 4 }
 }
 
-// The twelve sums of unit m at its places.
+// The twelve sums of unit m at its places, quad by quad.
 fn put_unit(cell: Cell, m: usize, sums: [Pair; 12], grid: &mut [u8])
     requires { ⌜ UnitIn cell m sums (now grid) ⌝ }
     ensures { λ _. ⌜ Written (phichSends cell m) (unitSent cell m sums) (now (grid .entry)) (now (grid .exit)) ⌝ }
 {
     let mut n: usize = 0;
-    while n < 6 {
-        let j = 2 * n;
-        let k = 2 * n + 1;
-        let d = sums[j];
-        let e = sums[k];
-        let g = places::unit_group(cell, m, n / 2);
-        put_pair(cell, g, n % 2, ((n / 2 + m) % 2) as u8, d, e, grid);
+    while n < 3 {
+        let i = 4 * n;
+        let j = 4 * n + 1;
+        let k = 4 * n + 2;
+        let h = 4 * n + 3;
+        let a = sums[i];
+        let b = sums[j];
+        let c = sums[k];
+        let d = sums[h];
+        let g = places::unit_group(cell, m, n);
+        let turn = ((n + m) % 2) as u8;
+        put_pair(cell, g, 0, turn, a, b, grid);
+        put_pair(cell, g, 1, turn, c, d, grid);
         n += 1;
     }
 }
 
-// Unit m of the PHICH: the sums over the HIs of the plan, scrambled by the pair r; bit k of `bits` is that of HI k. Callers pass the
-// cell, the HIs and a grid of an accepted plan.
-pub fn fill_phich(
-    r: Registers,
-    cell: Cell,
-    m: usize,
-    his: Row,
-    plan: &[u8],
-    bits: &[u8],
-    grid: &mut [u8],
-) -> Registers
-    requires { ⌜ PhichIn cell m his (now plan) (now grid) ⌝ }
-    ensures { λ s. ⌜ Written (phichSends cell m) (phichSent cell m r (hisFrom (drop (his .at) (now (plan .entry))) (his .count)) (now (bits .entry))) (now (grid .entry)) (now (grid .exit)) × (s ≡ after r (3 * spreadLength cell)) ⌝ }
+// Unit m of the PHICH, scrambled by the pair r: `part` has the sums at the four places of its quads before that. Callers pass the cell,
+// the bytes of sums over the HIs and a grid of an accepted plan.
+pub fn fill_phich(r: Registers, cell: Cell, m: usize, part: &[u8], grid: &mut [u8]) -> Registers
+    requires { ⌜ PhichIn cell m (now part) (now grid) ⌝ }
+    ensures { λ s. ⌜ Written (phichSends cell m) (phichSent cell m r (now (part .entry))) (now (grid .entry)) (now (grid .exit)) × (s ≡ after r (3 * spreadLength cell)) ⌝ }
 {
     let w = gold::word(r, 12);
     let l = spread_length(cell);
-    let sums = phich::unit_sums(l, w, m, plan, his.at, his.count, bits);
-    put_unit(cell, m, sums, grid);
+    put_unit(cell, m, phich::unit_sums(l, w, part), grid);
     gold::skip(r, 3 * l)
 }
 
-// The levels at place i of unit m, on the port that sends the sum itself.
-fn sum_at(cell: Cell, m: usize, i: usize, grid: &[u8]) -> Pair
-    requires { ⌜ UnitRead cell m (now grid) × (i < 12) ⌝ }
-    ensures { λ r. ⌜ r ≡ sumRead cell m (now (grid .entry)) i ⌝ }
+// The first quad of unit m as it stands, on the port that sends the sums themselves: four pairs of levels, as bytes of the unit's places.
+fn read_quad(cell: Cell, m: usize, grid: &[u8], first: &mut [u8; 200])
+    requires { ⌜ UnitRead cell m (now grid) × FirstRead cell (now grid) (4 * m) (now first) ⌝ }
+    ensures { λ _. ⌜ FirstRead cell (now (grid .entry)) (4 * m + 4) (now (first .exit)) ⌝ }
 {
-    let g = places::unit_group(cell, m, i / 4);
-    let t = places::quad_place(cell, g, i % 4);
-    let port = precoding::own_port(cell.ports, ((i / 4 + m) % 2) as u8);
-    let places = places_of(cell);
-    let e = grid::get(grid, base::wide(port) * places + t);
-    Pair {
-        re: base::signed(e.i),
-        im: base::signed(e.j),
-    }
-}
-
-// The twelve sums of unit m.
-pub fn sums_in(cell: Cell, m: usize, grid: &[u8]) -> [Pair; 12]
-    requires { ⌜ UnitRead cell m (now grid) ⌝ }
-    ensures { λ r. ⌜ r ≡ sumsOf cell m (now (grid .entry)) ⌝ }
-{
-    let mut sums = [Pair { re: 0, im: 0 }; 12];
+    let g = places::unit_group(cell, m, 0);
+    let port = precoding::own_port(cell.ports, (m % 2) as u8);
+    let own = base::wide(port) * places_of(cell);
     let mut i: usize = 0;
-    while i < 12 {
-        sums[i] = sum_at(cell, m, i, grid);
+    while i < 4 {
+        let e = grid::get(grid, own + places::quad_place(cell, g, i));
+        let at = 2 * (4 * m + i);
+        first[at] = e.i;
+        first[at + 1] = e.j;
         i += 1;
     }
-    sums
 }
 
-// The bit of the HI at a position of the plan; the word w has the scrambling bits.
-fn bit_in(cell: Cell, w: u32, plan: &[u8], at: usize, grid: &[u8]) -> u8
-    requires { ⌜ HiRead cell (hiOf (drop at (now plan))) (now grid) ⌝ }
-    ensures { λ r. ⌜ r ≡ ackRead cell (wordBit w) (hiOf (drop at (now (plan .entry)))) (now (grid .entry)) ⌝ }
+// The first quads of all units. Callers pass a cell and a grid of an accepted plan.
+pub fn first_sums(cell: Cell, grid: &[u8], first: &mut [u8; 200])
+    requires { ⌜ QuadsIn cell (now grid) (now first) ⌝ }
+    ensures { λ _. ⌜ FirstRead cell (now (grid .entry)) (4 * unitsOf cell) (now (first .exit)) ⌝ }
 {
-    let l = spread_length(cell);
-    let h = plan::hi_at(plan, at);
-    let m = phich::unit_of(l, h);
-    let sums = sums_in(cell, m, grid);
-    phich::bit_of(sums, l, w, h)
+    let units = plan::units(cell);
+    let mut m: usize = 0;
+    while m < units {
+        read_quad(cell, m, grid, first);
+        m += 1;
+    }
 }
 
 // Bit n of a section, after those before it: the first bit of a byte clears the others.
@@ -187,8 +173,8 @@ fn push(part: &mut [u8], n: usize, bit: u8)
     part[m] = part[m] + bit * weight;
 }
 
-// The section of the HIs' bits, each from the sums of its unit, scrambled by the pair r. Callers pass the cell, the HIs and a grid of
-// an accepted plan, and the section's bytes.
+// The section of the HIs' bits, each from the first quad of its unit, scrambled by the pair r. Callers pass the cell, the HIs and a grid
+// of an accepted plan, and the section's bytes.
 pub fn read_his(
     r: Registers,
     cell: Cell,
@@ -201,10 +187,13 @@ pub fn read_his(
     ensures { λ s. ⌜ (now (part .exit) ≡ sectionOf (ackFrom cell r (hisFrom (drop (his .at) (now (plan .entry))) (his .count)) (now (grid .entry))) (his .count)) × (s ≡ after r (3 * spreadLength cell)) ⌝ }
 {
     let w = gold::word(r, 12);
+    let l = spread_length(cell);
+    let mut first = [0; 200];
+    first_sums(cell, grid, &mut first);
     let mut at = his.at;
     let mut n: usize = 0;
     while n < his.count {
-        let bit = bit_in(cell, w, plan, at, grid);
+        let bit = phich::bit_of(l, w, plan::hi_at(plan, at), &first);
         push(part, n, bit);
         at = plan::next_at(plan, at);
         n += 1;

@@ -1,5 +1,5 @@
--- The two places of `compare_pair`, and the loops of `compare_pcfich` and `compare_sums`: after n pairs of places those of the indices below
--- 2n are compared. Assumes nothing.
+-- The two places of `compare_pair`, and the loops of `compare_pcfich` and `compare_sums`: after p pairs of places those of the indices below
+-- 2p are compared. Assumes nothing.
 use Prim.Native.Nat.{ℕ, _+_, _*_, _/_, _%_, _≤_, _<_}
 use mathlib.Core.Path.{_≡_, refl, sym, ap, _∙_}
 use mathlib.Core.Bool.{Bool}
@@ -28,10 +28,11 @@ use Rattle.compare.specs.declared.Seen.{Seen}
 use Rattle.compare.specs.declared.Seen.the-variants.{Weight}
 use Rattle.compare.specs.Comparing.{Compared, bothOf, Few}
 use Rattle.compare.proofs.Comparing.{few}
-use Rattle.control.specs.Control.{pcfichIndex, pcfichSends, pcfichSent, phichIndex, phichSends}
-use Rattle.control.specs.Filling.{PcfichIn, UnitIn, PairIn, unitSent}
+use Rattle.control.specs.Control.{pcfichIndex, pcfichSends, pcfichSent, phichIndex, phichSends, unitSent}
+use Rattle.control.specs.Filling.{PcfichIn, UnitIn, PairIn}
 use Rattle.control.proofs.Filling.{upTo, valueBy}
 use Rattle.control.proofs.Listings.{place-at, place-inside, some-places, pcfich-listed, phich-listed}
+use Rattle.control.proofs.Turns.{half-in}
 use Rattle.control.proofs.Words.{first-symbol, second-symbol}
 use Rattle.control_compare.specs.Pairs.{pairSends, pairSent}
 use Rattle.control_compare.proofs.Pairs as pairs
@@ -124,10 +125,10 @@ phichHas c m t = phich c m (symbolAt c t) (carrierAt c t)
 abbrev byQuad : ℕ → ℕ → ℕ
 byQuad m j = (j / 4 + m) % 2
 
-pub record UnitTurn (c : Cell) (m : ℕ) (sums : List Pair) (n : ℕ) (g : List ℕ) (seen : Seen) : Type 0 where
-  pub most : n ≤ 6
+pub record UnitTurn (c : Cell) (m : ℕ) (sums : List Pair) (p : ℕ) (g : List ℕ) (seen : Seen) : Type 0 where
+  pub most : p ≤ 6
   pub compared :
-      Compared (upTo (c .ports) (placesOf c) (phichHas c m) (phichIndex c m) (byQuad m) (2 * n))
+      Compared (upTo (c .ports) (placesOf c) (phichHas c m) (phichIndex c m) (byQuad m) (2 * p))
       (valueBy (c .ports) (placesOf c) (phichIndex c m) (byQuad m) (λ (i : ℕ). getD sums i nil)) g seen
 
 module _ (c : Cell) (m : ℕ) (sums : List Pair) (g : List ℕ) (ok : UnitIn c m sums g) where
@@ -141,28 +142,53 @@ module _ (c : Cell) (m : ℕ) (sums : List Pair) (g : List ℕ) (ok : UnitIn c m
   pub unit-small : {n : ℕ} {seen x : Seen} {D : ℕ → Bool} {W : ℕ → Element} → UnitTurn c m sums n g seen → Compared D W g x → Few seen × Few x
   unit-small t p = (few {P = c .ports} {T = placesOf c} (ok .room) (t .compared), few {P = c .ports} {T = placesOf c} (ok .room) p)
 
-  module _ {n : ℕ} {seen : Seen} (t : UnitTurn c m sums n g seen) (in-n : n < 6) where
-    pub unit-next :
-        {k : ℕ} {x y : Seen} → k ≡ unitGroup c m (n / 2)
-        → Compared (pairSends (c .ports) (placesOf c) ((n / 2 + m) % 2) (quadPlace c 0 k (2 * (n % 2))) (quadPlace c 0 k (2 * (n % 2) + 1))) (pairSent (c .ports) (placesOf c) ((n / 2 + m) % 2) (quadPlace c 0 k (2 * (n % 2))) (getD sums (2 * n) nil) (getD sums (2 * n + 1) nil)) g x
-        → y ≡ bothOf seen x → UnitTurn c m sums (n + 1) g y
-    unit-next q p b =
-        let group : ℕ → ℕ = unitGroup c m in
-        let i : ℕ = 2 * (n % 2) in
-        let one = place-at c group (2 * n) (n / 2) i (omega arith) (omega arith) ∙ ap (λ (y : ℕ). quadPlace c 0 y i) (sym q) in
-        let two = place-at c group (2 * n + 1) (n / 2) (i + 1) (omega arith) (omega arith) ∙ ap (λ (y : ℕ). quadPlace c 0 y (i + 1)) (sym q) in
-        let u : 2 * n / 4 ≡ n / 2 = omega arith in
-        let v : (2 * n + 1) / 4 ≡ n / 2 = omega arith in
-        record {
-          most = omega arith;
-          compared =
-              rw b
-              (pairs.pair-more (c .ports) (placesOf c) (byQuad m) (λ (i : ℕ). getD sums i nil) (some-places c (ok .cell)) (phich-listed c (ok .cell) m (ok .unit)) n (omega arith) ((n / 2 + m) % 2) _ _
-              (getD sums (2 * n) nil) (getD sums (2 * n + 1) nil) (ap (λ (y : ℕ). (y + m) % 2) u) (ap (λ (y : ℕ). (y + m) % 2) v) one two refl refl (t .compared) p);
-        }
+  -- pair p of the places, half i of quad n, is compared
+  half-next :
+      {p n i k x y : ℕ} {seen r s : Seen} → UnitTurn c m sums p g seen → p ≡ 2 * n + i → i < 2 → n < 3 → k ≡ unitGroup c m n → x ≡ 4 * n + 2 * i → y ≡ 4 * n + 2 * i + 1
+      → Compared (pairSends (c .ports) (placesOf c) ((n + m) % 2) (quadPlace c 0 k (2 * i)) (quadPlace c 0 k (2 * i + 1))) (pairSent (c .ports) (placesOf c) ((n + m) % 2) (quadPlace c 0 k (2 * i)) (getD sums x nil) (getD sums y nil)) g r
+      → s ≡ bothOf seen r → UnitTurn c m sums (p + 1) g s
+  half-next {p = p} {n = n} {i = i} {x = x} {y = y} t ep in-i in-n q ex ey w b =
+      let group : ℕ → ℕ = unitGroup c m in
+      let one = place-at c group (2 * p) n (2 * i) (omega arith) (omega arith) ∙ ap (λ (z : ℕ). quadPlace c 0 z (2 * i)) (sym q) in
+      let two = place-at c group (2 * p + 1) n (2 * i + 1) (omega arith) (omega arith) ∙ ap (λ (z : ℕ). quadPlace c 0 z (2 * i + 1)) (sym q) in
+      let u : 2 * p / 4 ≡ n = omega arith in
+      let v : (2 * p + 1) / 4 ≡ n = omega arith in
+      let dx : x ≡ 2 * p = omega arith in
+      let dy : y ≡ 2 * p + 1 = omega arith in
+      record {
+        most = omega arith;
+        compared =
+            rw b
+            (pairs.pair-more (c .ports) (placesOf c) (byQuad m) (λ (z : ℕ). getD sums z nil) (some-places c (ok .cell)) (phich-listed c (ok .cell) m (ok .unit)) p (omega arith) ((n + m) % 2) _ _
+            (getD sums x nil) (getD sums y nil) (ap (λ (z : ℕ). (z + m) % 2) u) (ap (λ (z : ℕ). (z + m) % 2) v) one two
+            (ap (λ (z : ℕ). getD sums z nil) dx) (ap (λ (z : ℕ). getD sums z nil) dy) (t .compared) w);
+      }
 
-  pub unit-finish : {n : ℕ} {seen : Seen} → UnitTurn c m sums n g seen → 6 ≤ n → Compared (phichSends c m) (unitSent c m sums) g seen
+  -- the quad n is compared
+  module _ {n : ℕ} {seen : Seen} (t : UnitTurn c m sums (2 * n) g seen) (in-n : n < 3) {k : ℕ} (q : k ≡ unitGroup c m n) where
+    -- what `compare_pair` requires for both halves
+    pub first-in : PairIn c k 0 (getD sums (4 * n) nil) (getD sums (4 * n + 1) nil) g
+    first-in = half-in {sums = sums} ok {n = n} {i = 0} in-n (omega arith) q (omega arith) (omega arith)
+
+    pub second-in : PairIn c k 1 (getD sums (4 * n + 2) nil) (getD sums (4 * n + 3) nil) g
+    second-in = half-in {sums = sums} ok {n = n} {i = 1} in-n (omega arith) q (omega arith) (omega arith)
+
+    module _ {r s : Seen}
+        (one : Compared (pairSends (c .ports) (placesOf c) ((n + m) % 2) (quadPlace c 0 k 0) (quadPlace c 0 k 1)) (pairSent (c .ports) (placesOf c) ((n + m) % 2) (quadPlace c 0 k 0) (getD sums (4 * n) nil) (getD sums (4 * n + 1) nil)) g r)
+        (es : s ≡ bothOf seen r) where
+      pub half-done : UnitTurn c m sums (2 * n + 1) g s
+      half-done = half-next {p = 2 * n} {n = n} {i = 0} t (omega arith) (omega arith) in-n q (omega arith) (omega arith) one es
+
+      pub quad-next :
+          {x y : Seen}
+          → Compared (pairSends (c .ports) (placesOf c) ((n + m) % 2) (quadPlace c 0 k 2) (quadPlace c 0 k 3)) (pairSent (c .ports) (placesOf c) ((n + m) % 2) (quadPlace c 0 k 2) (getD sums (4 * n + 2) nil) (getD sums (4 * n + 3) nil)) g x
+          → y ≡ bothOf s x → UnitTurn c m sums (2 * (n + 1)) g y
+      quad-next two ey =
+          let e : 2 * n + 1 + 1 ≡ 2 * (n + 1) = omega arith in
+          rw e at (half-next {p = 2 * n + 1} {n = n} {i = 1} half-done refl (omega arith) in-n q (omega arith) (omega arith) two ey)
+
+  pub unit-finish : {n : ℕ} {seen : Seen} → UnitTurn c m sums (2 * n) g seen → 3 ≤ n → Compared (phichSends c m) (unitSent c m sums) g seen
   unfolding phichSends unitSent
   unit-finish {n = n} t last =
-      let e : 2 * n ≡ 12 = omega (arith, t .most, last) in
+      let e : 2 * (2 * n) ≡ 12 = omega (arith, t .most, last) in
       pairs.finish (c .ports) (placesOf c) (byQuad m) (λ (i : ℕ). getD sums i nil) (some-places c (ok .cell)) (phich-listed c (ok .cell) m (ok .unit)) (rw e at (t .compared))

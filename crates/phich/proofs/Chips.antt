@@ -1,20 +1,18 @@
--- The sums and the bits back from them depend on the scrambling bits at the chips below 12 alone. Assumes nothing.
-use Prim.Native.Nat.{ℕ, suc, _+_, _*_, _/_, _%_, _<_}
-use mathlib.Core.Path.{_≡_, refl, sym, ap, ap₂, _∙_}
-use mathlib.Core.Bool.{cond}
-use mathlib.Core.List.{List, [], _∷_}
+-- Parts and bits depend on the scrambling bits at the chips below 12 alone. Assumes nothing.
+use Prim.Native.Nat.{ℕ, _+_, _*_, _/_, _%_, _<_}
+use mathlib.Core.Path.{_≡_, sym, ap, _∙_}
+use mathlib.Core.List.{List}
 use native.Mathlib.Nat.{mod-lt}
 use native.Mathlib.Omega.{arith}
-use lib.Dec.{eqb}
 use lib.ListN.{getD}
 use Rattle.base.specs.declared.Pair.{Pair}
 use Rattle.base.specs.Signs.{below}
-use Rattle.base.specs.Pairs.{nil, plus, turned}
+use Rattle.base.specs.Pairs.{nil, turned}
 use Rattle.base.specs.Tables.{table}
 use Rattle.base.proofs.Tables.{table-length, table-at, filled}
 use Rattle.plan.specs.declared.Hi.{Hi}
 use Rattle.phich.specs.Spreading.{Length}
-use Rattle.phich.specs.Units.{mappingUnit, firstPlace, partAt, addedAt, sumAt, unitSums}
+use Rattle.phich.specs.Units.{firstPlace, partAt}
 use Rattle.phich.specs.Recovery.{dot, along, bitIn}
 use Rattle.phich.proofs.Correlation.{total-same}
 use Rattle.phich.proofs.Lengths.{chip-lt}
@@ -31,16 +29,7 @@ module _ (l : ℕ) (ok : Length l) (c c′ : ℕ → ℕ) (same : (e : ℕ) → 
       ∙ ap (λ (x : ℕ). turned x (turned b (waveAt l (firstPlace l h) (h .sequence) i))) (same (i / 4 * l + i % 4 % l) (chip-lt l ok i (i % 4 % l) k (mod-lt (i % 4) (ok .0))))
       ∙ sym (part-wave l ok c′ h b i)
 
-  sum-chips : (m : ℕ) (bit : ℕ → ℕ) (i : ℕ) → i < 12 → (hs : List Hi) (k : ℕ) → sumAt l c m bit i hs k ≡ sumAt l c′ m bit i hs k
-  unfolding sumAt addedAt
-  sum-chips m bit i r [] k = refl
-  sum-chips m bit i r (h ∷ hs) k = ap₂ plus (ap (λ (p : Pair). cond (eqb (mappingUnit l h) m) p nil) (part-chips h (bit k) i r)) (sum-chips m bit i r hs (suc k))
-
   -- from a word's bits to the sequence they are of
-  pub sums-chips : (m : ℕ) (bit : ℕ → ℕ) (hs : List Hi) → unitSums l c m bit hs ≡ unitSums l c′ m bit hs
-  unfolding unitSums
-  sums-chips m bit hs = table-agree nil 12 _ _ (λ i r. sum-chips m bit i r hs 0)
-
   pub bit-chips : (h : Hi) (sums : List Pair) → bitIn l c h sums ≡ bitIn l c′ h sums
   unfolding bitIn along
   bit-chips h sums = ap below (total-same 4 _ _ (λ i r. ap (λ (p : Pair). dot p (getD sums i nil)) (part-chips h 0 i (omega arith))))

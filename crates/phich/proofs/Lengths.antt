@@ -2,7 +2,7 @@
 use Prim.Native.Nat.{ℕ, _+_, _-_, _*_, _/_, _%_, _≤_, _<_}
 use mathlib.Core.Path.{_≡_, sym, subst, _∙_}
 use native.Mathlib.Decide.{ℕ-discrete}
-use native.Mathlib.Nat.{mul-add-mod-self-right, mod-eq-of-lt, mul-le-mul}
+use native.Mathlib.Nat.{mul-add-mod-self-right, mod-eq-of-lt}
 use native.Mathlib.Omega.{arith}
 use Rattle.phich.specs.Spreading.{Length}
 
@@ -14,9 +14,6 @@ by-length P two four l h = pick (ℕ-discrete l 2)
     pick (no e) = let f : 4 ≡ l = omega arith in subst P f four
 
 -- ---- chip number n of quad i / 4
-pub row-le : (l : ℕ) → Length l → (i : ℕ) → i < 12 → i / 4 * l ≤ 8
-row-le l h i k = by-length (λ m. i / 4 * m ≤ 8) (omega arith) (omega arith) l h
-
 pub chip-lt : (l : ℕ) → Length l → (i n : ℕ) → i < 12 → n < l → i / 4 * l + n < 12
 chip-lt l h i n k = by-length (λ m. n < m → i / 4 * m + n < 12) (λ b. omega arith) (λ b. omega arith) l h
 
@@ -28,5 +25,9 @@ pub place-mod : (l : ℕ) → Length l → (g t : ℕ) → t < 4 → g * l % 4 �
 place-mod l h g t k =
     by-length (λ m. g * m % 4 ≤ t → t < g * m % 4 + m → t - g * m % 4 ≡ t % m) (λ x y. omega arith) (λ x y. omega arith) l h
 
-pub group-le : (g l : ℕ) → g < 256 → l ≤ 4 → g * l ≤ 1020
-group-le g l h k = mul-le-mul {n₁ = g} {m₁ = l} {n₂ = 255} {m₂ = 4} (omega arith) k
+-- ---- the number of the chip at place i of a unit, by the length
+pub chip-four : (l : ℕ) → Length l → (i : ℕ) → i < 12 → l ≡ 4 → (i ≡ i / 4 * l + i % 4 % l) × (i < 12)
+chip-four l ok i k e = rw e (omega arith, omega arith)
+
+pub chip-two : (l : ℕ) → Length l → (i : ℕ) → i < 12 → (l ≡ 4 → ⊥) → (i / 4 * 2 + i % 2 ≡ i / 4 * l + i % 4 % l) × (i / 4 * 2 + i % 2 < 12)
+chip-two l ok i k n = let e : l ≡ 2 = omega (arith, n) in rw e (omega arith, omega arith)

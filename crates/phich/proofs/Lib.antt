@@ -9,6 +9,10 @@ pub mod Recovered
 pub mod Few
 pub mod Units
 pub mod Signed
+pub mod Residues
+pub mod Adding
+pub mod Own
+pub mod Quad
+pub mod Scrambled
 pub mod Turns
 pub mod Places
-pub mod Quad

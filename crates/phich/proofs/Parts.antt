@@ -90,12 +90,9 @@ chip-small l q t =
     let w = signAt l q t in
     (omega (arith, entry l q t, abs-minus (w .re) (w .im)), omega (arith, entry l q t, abs-add (w .re) (w .im)))
 
--- none is -128, so its signs can be turned, and once more
+-- none is -128, so its signs can be turned
 pub chip-turns : (l q t : ℕ) {p : Pair} → p ≡ plainChip (signAt l q t) → Small 127 p
 chip-turns l q t e = let s = chip-small l q t in rw e (omega (arith, s .0), omega (arith, s .1))
-
-pub chip-turns-twice : (l q t b : ℕ) {p r : Pair} → p ≡ plainChip (signAt l q t) → r ≡ turned b p → Small 127 r
-chip-turns-twice l q t b {p} e f = rw f (turned-small b 127 p (chip-turns l q t e))
 
 pub part-small : (l : ℕ) (c : ℕ → ℕ) (h : Hi) (b i : ℕ) → Small 1 (partAt l c h b i)
 unfolding partAt chipAt

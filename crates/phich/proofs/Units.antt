@@ -9,7 +9,7 @@ use native.Mathlib.Decide.{ℕ-discrete}
 use native.Mathlib.Omega.{arith}
 use borrow.Author.Tests.{ne-eqb}
 use lib.Dec.{eqb}
-use lib.ListN.{length, getD, drop}
+use lib.ListN.{length, getD}
 use Rattle.base.specs.Choice.{if_then_else_}
 use Rattle.base.specs.Signs.{below}
 use Rattle.base.specs.Pairs.{nil, plus, Small}
@@ -20,11 +20,10 @@ use Rattle.base.proofs.Tables.{table-at, table-same}
 use Rattle.plan.specs.declared.Cell.{Cell}
 use Rattle.plan.specs.declared.Hi.{Hi}
 use Rattle.plan.specs.Fields.{unitsOf, groupsOf}
-use Rattle.plan.specs.Rows.{hisFrom}
 use Rattle.plan.specs.Valid.{HiIn}
 use Rattle.phich.specs.His.{hiNumber, Distinct}
 use Rattle.phich.specs.Spreading.{spreadLength, Length}
-use Rattle.phich.specs.Units.{mappingUnit, firstPlace, partAt, addedAt, sumAt, unitSums, countIn, Within, Ready, SameHiBits}
+use Rattle.phich.specs.Units.{mappingUnit, firstPlace, partAt, addedAt, sumAt, unitSums, countIn, Within, SameHiBits}
 use Rattle.phich.specs.Recovery.{bitIn}
 use Rattle.phich.proofs.Parts.{part-small}
 use Rattle.phich.proofs.Along.{along-same}
@@ -71,10 +70,6 @@ pub bit-le : (s : List ℕ) (n : ℕ) → bitAt s n ≤ 1
 unfolding bitAt
 bit-le s n = omega arith
 
--- ---- what a plan of distinct pairs gives
-pub ready : (l m : ℕ) (plan : List ℕ) (at count : ℕ) → Length l → Within l (hisFrom (drop at plan) count) → Distinct (hisFrom (drop at plan) count) → Ready l m plan at count
-ready l m plan at count ok w d = record { spread = ok; known = w; few = few l ok m (hisFrom (drop at plan) count) w d }
-
 -- ---- sizes: an HI adds at most 1 either way, and only to its unit
 module _ (l : ℕ) (c : ℕ → ℕ) (m : ℕ) (i : ℕ) where
   added-small : (h : Hi) (b : ℕ) → Small (cond (eqb (mappingUnit l h) m) 1 0) (addedAt l c m h b i)
@@ -105,7 +100,7 @@ unfolding unitSums
 empty l c m bit hs e = table-same 12 _ _ (λ i. none-sum l c m bit i hs 0 e)
 
 -- ---- the same bits of a unit's HIs make the same sums
-agreed : (l : ℕ) (c : ℕ → ℕ) (m : ℕ) (bit bit′ : ℕ → ℕ) (i : ℕ) (hs : List Hi) (k : ℕ) → ((n : ℕ) → n < length hs → mappingUnit l (hiNumber hs n) ≡ m → bit (k + n) ≡ bit′ (k + n)) → sumAt l c m bit i hs k ≡ sumAt l c m bit′ i hs k
+pub agreed : (l : ℕ) (c : ℕ → ℕ) (m : ℕ) (bit bit′ : ℕ → ℕ) (i : ℕ) (hs : List Hi) (k : ℕ) → ((n : ℕ) → n < length hs → mappingUnit l (hiNumber hs n) ≡ m → bit (k + n) ≡ bit′ (k + n)) → sumAt l c m bit i hs k ≡ sumAt l c m bit′ i hs k
 unfolding sumAt addedAt
 agreed l c m bit bit′ i [] k h = refl
 agreed l c m bit bit′ i (g ∷ hs) k h =

@@ -1,17 +1,16 @@
 -- What the promises cite. TS 36.211 6.9.2 and 6.9.3, document 01 "PHICH": chips in the quads of a unit, summed per unit.
-use Prim.Native.Nat.{ℕ, suc, _+_, _-_, _*_, _/_, _%_, _≤_, _<_}
+use Prim.Native.Nat.{ℕ, suc, _+_, _-_, _*_, _/_, _%_, _<_}
 use mathlib.Core.Path.{_≡_}
 use mathlib.Core.Bool.{Bool, cond, _&&_}
 use mathlib.Core.List.{List, [], _∷_}
-use lib.ListN.{length, drop}
+use lib.ListN.{length}
 use lib.Dec.{eqb, leb, ltb}
 use Rattle.base.specs.declared.Pair.{Pair}
 use Rattle.base.specs.Pairs.{nil, plus}
 use Rattle.base.specs.Tables.{table}
 use Rattle.plan.specs.declared.Hi.{Hi}
-use Rattle.plan.specs.Rows.{hisFrom}
 use Rattle.phich.specs.His.{hiNumber}
-use Rattle.phich.specs.Spreading.{Length, chipAt}
+use Rattle.phich.specs.Spreading.{chipAt}
 
 -- A group has l of the four places of each quad, and groups lie side by side: document 01's unit, "normal unit = group,
 -- extended unit = groups 2m, 2m+1" (laws unit-normal, unit-extended). A unit's sums and its bits go by it
@@ -56,13 +55,6 @@ countIn l m (h ∷ hs) = cond (eqb (mappingUnit l h) m) 1 0 + countIn l m hs
 unfoldable pub Within : ℕ → List Hi → Type 0
 Within l [] = Unit {0}
 Within l (h ∷ hs) = (h .sequence < 2 * l) × Within l hs
-
--- what the sums of the unit m need: a length, `count` HIs from position `at` of the plan on with sequences among those of the length,
--- and at most eight of them in the unit
-pub record Ready (l m : ℕ) (plan : List ℕ) (at count : ℕ) : Type 0 where
-  pub spread : Length l
-  pub known : Within l (hisFrom (drop at plan) count)
-  pub few : countIn l m (hisFrom (drop at plan) count) ≤ 8
 
 -- "A unit's bits are those of the HIs of its groups": the two agree in all of them
 unfoldable pub SameHiBits : ℕ → ℕ → List Hi → (ℕ → ℕ) → (ℕ → ℕ) → Type 0

@@ -1,22 +1,24 @@
-// PHICH: the sums of an acknowledgement unit, and each bit back from them (TS 36.211 6.9.1 to 6.9.3). The length l is that
+// PHICH: the sums of the acknowledgement units, and each bit back from them (TS 36.211 6.9.1 to 6.9.3). The length l is that
 // of the spreading sequences, 4 with the normal prefix and 2 with the extended one; the word w has the scrambling bits
-// c(0), .., c(11) as its twelve low bits, c(0) the most significant.
+// c(0), .., c(11) as its twelve low bits, c(0) the most significant. A buffer of 200 bytes has the levels I and J of 25 units'
+// first quads, unit by unit: place y of them is place y % 4 of unit y / 4, and its levels are bytes 2y and 2y + 1.
 use base::Pair;
 use plan::Hi;
 use plan::hi_at;
 use plan::next_at;
 ghost use mathlib.Core.Path.{_≡_};
-ghost use Prim.Native.Nat.{_+_, _*_, _≤_, _<_};
-ghost use lib.ListN.{drop};
+ghost use Prim.Native.Nat.{ℕ, _+_, _*_, _/_, _%_, _≤_, _<_};
+ghost use lib.ListN.{length, drop};
 ghost use lib.IntN.{natAbs};
 ghost use Rattle.base.specs.Signs.{by as bySign};
-ghost use Rattle.base.specs.Pairs.{plus as plusOf};
+ghost use Rattle.base.specs.Pairs.{Small};
 ghost use Rattle.base.specs.Bits.{bitAt};
+ghost use Rattle.base.specs.Tables.{table};
 ghost use Rattle.plan.specs.Rows.{hisFrom};
 ghost use Rattle.phich.specs.Spreading.{Length, signAt, plainChip, wordBit};
-ghost use Rattle.phich.specs.Units.{mappingUnit, firstPlace, partAt, unitSums, Ready};
+ghost use Rattle.phich.specs.Units.{mappingUnit};
 ghost use Rattle.phich.specs.Recovery.{dot as dotOf, bitIn};
-ghost use Rattle.phich.specs.Loops.{withHi, Room};
+ghost use Rattle.phich.specs.Loops.{HiIn, HisIn, chipOf, only, ownPart, levelsAt, quadOf, bitsFrom, Adds, QuadSums, Levels, scrambledSums};
 
 // An entry of a spreading sequence: re + j im, one of them 0 and the other 1 or -1.
 pub struct SignPair {
@@ -75,95 +77,80 @@ fn scrambling(w: u32, e: usize) -> u8
     ((w >> k) % 2) as u8
 }
 
-// The unit of the HI's group. Every caller's l is a spreading length.
-pub fn unit_of(l: usize, h: Hi) -> usize
-    requires { ⌜ l ≤ 4 ⌝ }
-    ensures { λ r. ⌜ r ≡ mappingUnit l h ⌝ }
+// The number of the chip at place i of a unit, whichever of the unit's groups has the place.
+fn chip_of(l: usize, i: usize) -> usize
+    requires { ⌜ Length l × (i < 12) ⌝ }
+    ensures { λ r. ⌜ (r ≡ chipOf l i) × (r < 12) ⌝ }
 {
-    let g = h.group;
-    g as usize * l / 4
+    if l == 4 { i } else { i / 4 * 2 + i % 2 }
 }
 
-// The first of its group's places in each quad.
-fn first_place(l: usize, h: Hi) -> usize
-    requires { ⌜ l ≤ 4 ⌝ }
-    ensures { λ r. ⌜ r ≡ firstPlace l h ⌝ }
+// The levels of place y.
+fn levels_at(s: &[u8], y: usize) -> Pair
+    requires { ⌜ 2 * y + 1 < length (now s) ⌝ }
+    ensures { λ r. ⌜ r ≡ levelsAt (now (s .entry)) y ⌝ }
 {
-    let g = h.group;
-    g as usize * l % 4
-}
-
-// The HI's part at place i of its unit, with the bit b: its group has l places of each quad.
-fn part_at(l: usize, w: u32, h: Hi, b: u8, i: usize) -> Pair
-    requires { ⌜ Length l × (h .sequence < 2 * l) × (i < 12) ⌝ }
-    ensures { λ r. ⌜ r ≡ partAt l (wordBit w) h b i ⌝ }
-{
-    let first = first_place(l, h);
-    let t = i % 4;
-    if t < first {
-        return Pair { re: 0, im: 0 };
-    }
-    let n = t - first;
-    if l <= n {
-        return Pair { re: 0, im: 0 };
-    }
-    let q = base::wide(h.sequence);
-    let s = scrambling(w, i / 4 * l + n);
-    base::turned(s, base::turned(b, plain_chip(l, q, n)))
-}
-
-fn plus(p: Pair, q: Pair) -> Pair
-    requires { ⌜ (natAbs (p .re) + natAbs (q .re) ≤ 127) × (natAbs (p .im) + natAbs (q .im) ≤ 127) ⌝ }
-    ensures { λ r. ⌜ r ≡ plusOf p q ⌝ }
-{
+    let at = 2 * y;
     Pair {
-        re: p.re + q.re,
-        im: p.im + q.im,
+        re: base::signed(s[at]),
+        im: base::signed(s[at + 1]),
     }
 }
 
-// The sums with the parts of one more HI of their unit.
-pub fn with_hi(sums: [Pair; 12], l: usize, w: u32, h: Hi, b: u8) -> [Pair; 12]
-    requires { ⌜ Length l × (h .sequence < 2 * l) × Room sums ⌝ }
-    ensures { λ r. ⌜ r ≡ withHi l (wordBit w) h b sums ⌝ }
+// The levels of d added to those of place y, as bytes modulo 256: no bound is needed until a byte is taken as a level.
+fn add_at(sums: &mut [u8; 200], y: usize, d: Pair)
+    requires { ⌜ (length (now sums) ≡ 200) × (y < 100) × Small 127 d ⌝ }
+    ensures { λ _. ⌜ Adds (only y d) (now (sums .entry)) (now (sums .exit)) ⌝ }
 {
-    let mut more = [Pair { re: 0, im: 0 }; 12];
-    let mut i: usize = 0;
-    while i < 12 {
-        let p = sums[i];
-        let x = part_at(l, w, h, b, i);
-        more[i] = plus(p, x);
-        i += 1;
-    }
-    more
+    let at = 2 * y;
+    let re = base::byte_of(d.re);
+    let im = base::byte_of(d.im);
+    sums[at] = std::num::wrapping_add_u8(sums[at], re);
+    sums[at + 1] = std::num::wrapping_add_u8(sums[at + 1], im);
 }
 
-// The sums of the unit m over `count` HIs, whose commands start at `at` of the plan; bit k of `bits` is that of HI k. What it
-// requires is met by every plan that the plan check accepts: pairs used once leave at most eight HIs to a unit.
-pub fn unit_sums(
-    l: usize,
-    w: u32,
-    m: usize,
-    plan: &[u8],
-    at: usize,
-    count: usize,
-    bits: &[u8],
-) -> [Pair; 12]
-    requires { ⌜ Ready l m (now plan) at count ⌝ }
-    ensures { λ r. ⌜ r ≡ unitSums l (wordBit w) m (bitAt (now (bits .entry))) (hisFrom (drop at (now (plan .entry))) count) ⌝ }
+// The chips of the HI h with the bit b, not scrambled, added to the sums: its group has l places of its unit's quad, and groups lie
+// side by side.
+fn add_hi(sums: &mut [u8; 200], l: usize, h: Hi, b: u8)
+    requires { ⌜ (length (now sums) ≡ 200) × HiIn l h ⌝ }
+    ensures { λ _. ⌜ Adds (ownPart l h b) (now (sums .entry)) (now (sums .exit)) ⌝ }
 {
-    let mut sums = [Pair { re: 0, im: 0 }; 12];
+    let mut n: usize = 0;
+    while n < l {
+        let chip = plain_chip(l, base::wide(h.sequence), n);
+        add_at(sums, base::wide(h.group) * l + n, base::turned(b, chip));
+        n += 1;
+    }
+}
+
+// The sums of all units before scrambling, over `count` HIs, whose commands start at `at` of the plan; bit k of `bits` is that of
+// HI k. Callers pass the HIs of an accepted plan, and bytes of 0.
+pub fn quad_sums(l: usize, plan: &[u8], at: usize, count: usize, bits: &[u8], sums: &mut [u8; 200])
+    requires { ⌜ HisIn l (now plan) at count × (now sums ≡ table 200 (λ (i : ℕ). 0)) ⌝ }
+    ensures { λ _. ⌜ QuadSums l (bitAt (now (bits .entry))) (hisFrom (drop at (now (plan .entry))) count) (now (sums .exit)) ⌝ }
+{
     let mut from = at;
     let mut k: usize = 0;
     while k < count {
-        let h = hi_at(plan, from);
-        if unit_of(l, h) == m {
-            let b = base::bit_at(bits, k);
-            let more = with_hi(sums, l, w, h, b);
-            sums = more;
-        }
+        add_hi(sums, l, hi_at(plan, from), base::bit_at(bits, k));
         from = next_at(plan, from);
         k += 1;
+    }
+}
+
+// The twelve sums of a unit, scrambled: `part` has the levels of its four places, the same in each quad. Callers take it from
+// sums over the HIs of an accepted plan: pairs used once leave at most eight HIs to a unit.
+pub fn unit_sums(l: usize, w: u32, part: &[u8]) -> [Pair; 12]
+    requires { ⌜ Length l × Levels 127 (now part) ⌝ }
+    ensures { λ r. ⌜ r ≡ scrambledSums l (wordBit w) (now (part .entry)) ⌝ }
+{
+    let mut sums = [Pair { re: 0, im: 0 }; 12];
+    let mut i: usize = 0;
+    while i < 12 {
+        let s = scrambling(w, chip_of(l, i));
+        let d = levels_at(part, i % 4);
+        sums[i] = base::turned(s, d);
+        i += 1;
     }
     sums
 }
@@ -187,20 +174,45 @@ fn dot(s: Pair, p: Pair) -> i16
     by(a, p.re) + by(b, p.im)
 }
 
-// The bit of the HI h from its unit's sums: the first quad along h's own chips. An HI that the plan check accepted has a
-// sequence of the length.
-pub fn bit_of(sums: [Pair; 12], l: usize, w: u32, h: Hi) -> u8
-    requires { ⌜ Length l × (h .sequence < 2 * l) ⌝ }
-    ensures { λ r. ⌜ r ≡ bitIn l (wordBit w) h sums ⌝ }
+// The bit of the HI h from the first quads' sums: its own places along its own chips. The chips are scrambled and not the sums
+// unscrambled, as a level of -128 in a grid has no negative. Callers pass an HI of an accepted plan.
+pub fn bit_of(l: usize, w: u32, h: Hi, first: &[u8; 200]) -> u8
+    requires { ⌜ HiIn l h ⌝ }
+    ensures { λ r. ⌜ r ≡ bitIn l (wordBit w) h (quadOf (now (first .entry)) (mappingUnit l h)) ⌝ }
 {
     let mut t: i16 = 0;
-    let mut i: usize = 0;
-    while i < 4 {
-        let s = part_at(l, w, h, 0, i);
-        let p = sums[i];
+    let mut n: usize = 0;
+    while n < l {
+        let chip = plain_chip(l, base::wide(h.sequence), n);
+        let s = base::turned(scrambling(w, n), chip);
+        let p = levels_at(first, base::wide(h.group) * l + n);
         let d = dot(s, p);
         t += d;
-        i += 1;
+        n += 1;
     }
     if t < 0 { 1 } else { 0 }
+}
+
+// The sums of all units before scrambling that the bits read from the first quads' sums make. Callers pass the HIs of an accepted
+// plan, and bytes of 0.
+pub fn sums_again(
+    l: usize,
+    w: u32,
+    plan: &[u8],
+    at: usize,
+    count: usize,
+    first: &[u8; 200],
+    sums: &mut [u8; 200],
+)
+    requires { ⌜ HisIn l (now plan) at count × (now sums ≡ table 200 (λ (i : ℕ). 0)) ⌝ }
+    ensures { λ _. ⌜ QuadSums l (bitsFrom l (wordBit w) (hisFrom (drop at (now (plan .entry))) count) (now (first .entry))) (hisFrom (drop at (now (plan .entry))) count) (now (sums .exit)) ⌝ }
+{
+    let mut from = at;
+    let mut k: usize = 0;
+    while k < count {
+        let h = hi_at(plan, from);
+        add_hi(sums, l, h, bit_of(l, w, h, first));
+        from = next_at(plan, from);
+        k += 1;
+    }
 }

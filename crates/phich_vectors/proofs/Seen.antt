@@ -1,65 +1,80 @@
--- The loop of `ready`: what is seen of the HIs, and what is left of them. Assumes nothing.
-use Prim.Native.Nat.{ℕ, zero, suc, _+_, _-_, _*_, _≤_, _<_}
-use mathlib.Core.Path.{_≡_, ap, _∙_}
-use mathlib.Core.Bool.{Bool, true, false, cond}
-use mathlib.Core.List.{List, [], _∷_}
-use native.Mathlib.Nat.{not-suc-le-zero}
-use native.Mathlib.Numerals.{sub-one}
+-- The tests of the program: what `known`, `ready` and `turns` have seen. Assumes nothing.
+use Prim.Native.Nat.{ℕ, _+_, _-_, _*_, _/_, _%_, _≤_, _<_}
+use mathlib.Core.Path.{_≡_, refl, sym, ap, _∙_, subst}
+use mathlib.Core.Bool.{Bool, true, false, not, cond}
+use mathlib.Core.List.{List}
+use native.Mathlib.Decide.{ℕ-discrete}
+use native.Mathlib.Nat.{not-suc-le-zero, mul-le-mul}
 use native.Mathlib.Omega.{arith}
-use borrow.Author.Tests.{leb-true}
-use lib.Dec.{eqb, leb}
-use lib.ListN.{drop}
+use borrow.Author.Count.{below-more}
+use borrow.Author.Tests.{ltb-true, ltb-false}
+use lib.Dec.{ltb}
+use lib.IntN.{pos, negsuc, natAbs}
+use lib.ListN.{length, getD, drop}
+use Rattle.base.specs.Bytes.{signedOf}
 use Rattle.plan.specs.declared.Hi.{Hi}
 use Rattle.plan.specs.Commands.{hiOf}
 use Rattle.plan.specs.Rows.{hisFrom, nextOf}
-use Rattle.plan.proofs.RowLaws.{row-next, row-zero}
+use Rattle.phich.specs.His.{hiNumber}
 use Rattle.phich.specs.Spreading.{Length}
-use Rattle.phich.specs.Units.{mappingUnit, countIn, Within, Ready}
+use Rattle.phich.specs.Units.{mappingUnit}
+use Rattle.phich.specs.Loops.{HiIn, HisIn, Levels}
+use Rattle.phich.proofs.Turns.{At, at-start, here, at-next}
 
--- the HIs from number k on, which stand from position `from` on
-abbrev rest : List ℕ → ℕ → ℕ → ℕ → List Hi
-rest plan from count k = hisFrom (drop from plan) (count - k)
+-- ---- `known`
+pub hi-known : {l q g : ℕ} {h : Hi} → Length l → q ≡ h .sequence → g ≡ h .group → q < 2 * l → g * l < 100 → HiIn l h
+unfolding mappingUnit
+hi-known ok eq eg a b = record { spread = ok; known = omega arith; unit = rw (← eg) (omega arith) }
 
-abbrev here : List ℕ → ℕ → Hi
-here plan from = hiOf (drop from plan)
+pub group-fits : (g l : ℕ) → g < 256 → l ≤ 4 → g * l ≤ 1020
+group-fits g l a b = mul-le-mul {n₁ = g} {m₁ = l} {n₂ = 255} {m₂ = 4} (omega arith) b
 
-first : (plan : List ℕ) (from n : ℕ) → 0 < n → hisFrom (drop from plan) n ≡ here plan from ∷ hisFrom (drop (nextOf plan from) plan) (n - 1)
-first plan from zero h = absurd (not-suc-le-zero h)
-first plan from (suc n) h = rw sub-one (row-next hiOf plan from n)
+-- ---- `ready`: k HIs are known
+pub not-not : (b : Bool) → not b ≡ false → b ≡ true
+not-not true e = refl
+not-not false e = sym e
 
-pub record Seen (l m : ℕ) (plan : List ℕ) (count mine from k : ℕ) : Type 0 where
-  pub done : k ≤ count
-  pub small : mine ≤ k
-  pub known : Within l (rest plan from count k) → Within l (hisFrom (drop 0 plan) count)
-  pub counted : mine + countIn l m (rest plan from count k) ≡ countIn l m (hisFrom (drop 0 plan) count)
+pub record Known (l : ℕ) (plan : List ℕ) (count from k : ℕ) : Type 0 where
+  pub where-at : At plan 0 count from k
+  pub each : (n : ℕ) → n < k → HiIn l (hiNumber (hisFrom (drop 0 plan) count) n)
 
-pub start : (l m : ℕ) (plan : List ℕ) (count : ℕ) → Seen l m plan count 0 0 0
-start l m plan count =
-    let e : count - 0 ≡ count = omega arith in
-    record { done = omega arith; small = omega arith; known = rw e (λ w. w); counted = rw e (omega arith) }
+pub start : (l : ℕ) (plan : List ℕ) (count : ℕ) → Known l plan count 0 0
+start l plan count = record { where-at = at-start plan 0 count; each = λ n r. absurd (not-suc-le-zero r) }
 
-pub one-small : (x : Bool) → cond x 1 0 ≤ 1
-one-small true = omega arith
-one-small false = omega arith
+pub next :
+    {l : ℕ} {plan : List ℕ} {count from k : ℕ} → Known l plan count from k → k < count → {h : Hi} {next : ℕ} → h ≡ hiOf (drop from plan) → HiIn l h → next ≡ nextOf plan from
+    → Known l plan count next (k + 1)
+next {l = l} {plan = plan} {count = count} {from = from} {k = k} t r {h = h} eh ok en =
+    record { where-at = at-next (t .where-at) r en; each = λ n q. pick n q (ℕ-discrete n k) }
+  where
+    pick : (n : ℕ) → n < k + 1 → Dec (n ≡ k) → HiIn l (hiNumber (hisFrom (drop 0 plan) count) n)
+    pick n q (yes e) = rw (e, ← here (t .where-at) r, ← eh) ok
+    pick n q (no e) = t .each n (omega (arith, e))
 
-pub next : {l m : ℕ} {plan : List ℕ} {count mine from k : ℕ} → Seen l m plan count mine from k → k < count → (n : ℕ) → n ≡ cond (eqb (mappingUnit l (here plan from)) m) 1 0 → here plan from .sequence < 2 * l → Seen l m plan count (mine + n) (nextOf plan from) (k + 1)
-unfolding Within countIn
-next {l = l} {m = m} {plan = plan} {count = count} {mine = mine} {from = from} {k = k} s r n e w =
-    let a : count - k - 1 ≡ count - (k + 1) = omega arith in
-    let split : rest plan from count k ≡ here plan from ∷ rest plan (nextOf plan from) count (k + 1) = first plan from (count - k) (omega arith) ∙ ap (λ (j : ℕ). here plan from ∷ hisFrom (drop (nextOf plan from) plan) j) a in
-    record {
-      done = omega arith;
-      small = omega (arith, s .small, e, one-small (eqb (mappingUnit l (here plan from)) m));
-      known = λ v. s .known (rw split (w, v));
-      counted = omega (arith, s .counted, e, ap (countIn l m) split);
-    }
+pub finish : {l : ℕ} {plan : List ℕ} {count from k : ℕ} → Known l plan count from k → count ≤ k → HisIn l plan 0 count
+finish t r = record { each = λ n q. t .each n (omega arith) }
 
-pub finish : {l m : ℕ} {plan : List ℕ} {count mine from k : ℕ} → Seen l m plan count mine from k → count ≤ k → Length l → leb mine 8 ≡ true → Ready l m plan 0 count
-unfolding Within countIn
-finish {l = l} {m = m} {plan = plan} {count = count} {mine = mine} {from = from} {k = k} s r ok e =
-    let z : rest plan from count k ≡ [] = row-zero hiOf (drop from plan) (count - k) (omega arith) in
-    record {
-      spread = ok;
-      known = s .known (rw z tt);
-      few = omega (arith, s .counted, ap (countIn l m) z, leb-true mine 8 e);
-    }
+-- ---- `turns`: the bytes below i are not -128
+pub record Turned (part : List ℕ) (i : ℕ) : Type 0 where
+  pub size : length part ≡ 8
+  pub done : i ≤ 8
+  pub each : (j : ℕ) → j < i → (getD part j 0 < 256) × (getD part j 0 ≡ 128 → ⊥)
+
+pub turned-none : {part : List ℕ} → length part ≡ 8 → Turned part 0
+turned-none e = record { size = e; done = omega arith; each = λ j r. absurd (not-suc-le-zero r) }
+
+pub turned-more : {part : List ℕ} {i : ℕ} → Turned part i → i < 8 → getD part i 0 < 256 → (getD part i 0 ≡ 128 → ⊥) → Turned part (i + 1)
+turned-more t r b n = record { size = t .size; done = omega arith; each = below-more _ _ (t .each) (b, n) }
+
+small-level : (b : ℕ) → b < 256 → (b ≡ 128 → ⊥) → natAbs (signedOf b) ≤ 127
+small-level b r n = pick (ltb b 128) refl
+  where
+    pick : (t : Bool) → ltb b 128 ≡ t → natAbs (cond t (pos b) (negsuc (255 - b))) ≤ 127
+    pick true e = omega (arith, ltb-true b 128 e)
+    pick false e = omega (arith, ltb-false b 128 e, n)
+
+pub turned-all : {part : List ℕ} {i : ℕ} → Turned part i → 8 ≤ i → Levels 127 part
+turned-all {part = part} {i = n} t r = record { size = t .size; small = λ i k. (level (2 * i) (omega arith), level (2 * i + 1) (omega arith)) }
+  where
+    level : (j : ℕ) → j < 8 → natAbs (signedOf (getD part j 0)) ≤ 127
+    level j k = let e = t .each j (omega arith) in small-level (getD part j 0) (e .0) (e .1)

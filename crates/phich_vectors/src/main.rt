@@ -3,11 +3,12 @@
 use base::Pair;
 use plan::Hi;
 ghost use mathlib.Core.Path.{_≡_};
-ghost use mathlib.Core.Bool.{true, cond};
-ghost use Prim.Native.Nat.{_≤_, _<_};
-ghost use lib.Dec.{eqb};
+ghost use mathlib.Core.Bool.{true};
+ghost use Prim.Native.Nat.{ℕ, _≤_, _<_};
+ghost use lib.ListN.{length};
+ghost use Rattle.base.specs.Tables.{table};
 ghost use Rattle.phich.specs.Spreading.{Length};
-ghost use Rattle.phich.specs.Units.{Ready};
+ghost use Rattle.phich.specs.Loops.{HiIn, HisIn, Levels};
 
 // The generator's next state.
 fn next(x: u64) -> u64 {
@@ -90,40 +91,83 @@ fn draw_bits(x: u64, count: usize) -> Bits {
     Bits { x: s, word: word }
 }
 
-fn one_of(u: usize, m: usize) -> usize
-    ensures { λ r. ⌜ r ≡ cond (eqb u m) 1 0 ⌝ }
+// Whether the HI has a sequence of the length and is in one of 25 units.
+fn known(l: usize, h: Hi) -> bool
+    requires { ⌜ Length l ⌝ }
+    ensures { λ r. ⌜ (r ≡ true → HiIn l h) ⌝ }
 {
-    if u == m { 1 } else { 0 }
+    let q = base::wide(h.sequence);
+    if 2 * l <= q {
+        return false;
+    }
+    base::wide(h.group) * l < 100
 }
 
-// Whether the HIs can be summed for the unit m: their sequences are of the length, and at most eight of them are the unit's.
-fn ready(l: usize, m: usize, plan: &[u8], count: usize) -> bool
+// Whether the HIs can be summed.
+fn ready(l: usize, plan: &[u8], count: usize) -> bool
     requires { ⌜ Length l ⌝ }
-    ensures { λ r. ⌜ (r ≡ true → Ready l m (now (plan .entry)) 0 count) ⌝ }
+    ensures { λ r. ⌜ (r ≡ true → HisIn l (now (plan .entry)) 0 count) ⌝ }
 {
-    let mut mine: usize = 0;
     let mut from: usize = 0;
     let mut k: usize = 0;
     while k < count {
-        let h = plan::hi_at(plan, from);
-        let q = base::wide(h.sequence);
-        if 2 * l <= q {
+        if !known(l, plan::hi_at(plan, from)) {
             return false;
         }
-        mine += one_of(phich::unit_of(l, h), m);
         from = plan::next_at(plan, from);
         k += 1;
     }
-    mine <= 8
+    true
 }
 
-fn unit(l: usize, w: u32, m: usize, plan: &[u8], count: usize, bits: &[u8]) -> [Pair; 12]
+// The sums of all units, or 0.
+fn sum(l: usize, plan: &[u8], count: usize, bits: &[u8], sums: &mut [u8; 200])
+    requires { ⌜ Length l × (now sums ≡ table 200 (λ (i : ℕ). 0)) ⌝ }
+    ensures { λ _. ⌜ length (now (sums .exit)) ≡ 200 ⌝ }
+{
+    if ready(l, plan, count) {
+        phich::quad_sums(l, plan, 0, count, bits, sums);
+    }
+}
+
+// Whether the eight bytes of a unit can be turned: none of them is -128.
+fn turns(part: &[u8]) -> bool
+    ensures { λ r. ⌜ (r ≡ true → Levels 127 (now (part .entry))) ⌝ }
+{
+    if part.len() != 8 {
+        return false;
+    }
+    let mut i: usize = 0;
+    while i < 8 {
+        if part[i] == 128 {
+            return false;
+        }
+        i += 1;
+    }
+    true
+}
+
+fn unit(l: usize, w: u32, part: &[u8]) -> [Pair; 12]
     requires { ⌜ Length l ⌝ }
 {
-    if ready(l, m, plan, count) {
-        return phich::unit_sums(l, w, m, plan, 0, count, bits);
+    if turns(part) {
+        return phich::unit_sums(l, w, part);
     }
     [Pair { re: 0, im: 0 }; 12]
+}
+
+// The first quad of unit m, as it stands in a grid.
+fn put_quad(first: &mut [u8; 200], m: usize, sums: [Pair; 12])
+    requires { ⌜ m < 25 ⌝ }
+{
+    let mut i: usize = 0;
+    while i < 4 {
+        let d = sums[i];
+        let at = 8 * m + 2 * i;
+        first[at] = base::byte_of(d.re);
+        first[at + 1] = base::byte_of(d.im);
+        i += 1;
+    }
 }
 
 fn print_sums(sums: [Pair; 12]) {
@@ -137,21 +181,16 @@ fn print_sums(sums: [Pair; 12]) {
     print::line();
 }
 
-// The bit of the HI h, from the sums of unit 0 or 1.
-fn bit(a: [Pair; 12], b: [Pair; 12], l: usize, w: u32, h: Hi) -> u8
+fn bit(l: usize, w: u32, h: Hi, first: &[u8; 200]) -> u8
     requires { ⌜ Length l ⌝ }
 {
-    let q = base::wide(h.sequence);
-    if 2 * l <= q {
-        return 2;
+    if known(l, h) {
+        return phich::bit_of(l, w, h, first);
     }
-    if phich::unit_of(l, h) == 0 {
-        return phich::bit_of(a, l, w, h);
-    }
-    phich::bit_of(b, l, w, h)
+    2
 }
 
-fn print_bits(a: [Pair; 12], b: [Pair; 12], l: usize, w: u32, plan: &[u8], count: usize)
+fn print_bits(l: usize, w: u32, plan: &[u8], count: usize, first: &[u8; 200])
     requires { ⌜ Length l ⌝ }
 {
     print::text(b"bits");
@@ -160,7 +199,7 @@ fn print_bits(a: [Pair; 12], b: [Pair; 12], l: usize, w: u32, plan: &[u8], count
     while k < count {
         let h = plan::hi_at(plan, from);
         print::space();
-        print::number(bit(a, b, l, w, h) as u64);
+        print::number(bit(l, w, h, first) as u64);
         from = plan::next_at(plan, from);
         k += 1;
     }
@@ -180,13 +219,18 @@ fn print_head(prefix: u64, k: u64, w: u32) {
 fn print_set(l: usize, w: u32, plan: &[u8; 48], count: usize, bits: &[u8; 2])
     requires { ⌜ Length l × (count ≤ 16) ⌝ }
 {
-    let a = unit(l, w, 0, plan, count, bits);
+    let mut sums = [0; 200];
+    sum(l, plan, count, bits, &mut sums);
+    let mut first = [0; 200];
+    let a = unit(l, w, &sums[0..8]);
     print::text(b"unit 0");
     print_sums(a);
-    let b = unit(l, w, 1, plan, count, bits);
+    put_quad(&mut first, 0, a);
+    let b = unit(l, w, &sums[8..16]);
     print::text(b"unit 1");
     print_sums(b);
-    print_bits(a, b, l, w, plan, count);
+    put_quad(&mut first, 1, b);
+    print_bits(l, w, plan, count, &first);
 }
 
 // One set, drawn from the state x on. Answers the state after it.

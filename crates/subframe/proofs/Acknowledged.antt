@@ -20,8 +20,8 @@ use Rattle.plan.proofs.Valid.{valid}
 use Rattle.base.specs.Choice.{if_then_else_}
 use Rattle.phich.specs.His.{Fresh, Distinct}
 use Rattle.phich.specs.Spreading.{Length, spreadLength}
-use Rattle.phich.specs.Units.{Within, Ready}
-use Rattle.phich.proofs.Units.{length-ok, ready, small}
+use Rattle.phich.specs.Units.{Within}
+use Rattle.phich.proofs.Units.{length-ok, small}
 use Rattle.subframe.specs.Elements.{controlInit, hiBit, phichSum}
 
 -- ---- the cell's spreading sequences
@@ -61,11 +61,6 @@ module _ (w : List ℕ) (p : Plan) (ok : checkOf w ≡ accepted p) where
 
   pub distinct : Distinct (hisOf w p)
   distinct = all-distinct (hisOf w p) (valid w p ok .pairs)
-
-  -- what `unit_sums` requires
-  pub unit-ready : (m : ℕ) → Ready (spreadLength (p .cell)) m w (p .his .at) (p .his .count)
-  unfolding hisOf
-  unit-ready m = ready (spreadLength (p .cell)) m w (p .his .at) (p .his .count) spread within distinct
 
   -- each sum is at most eight either way
   pub sums-small : (payload : List ℕ) (m i : ℕ) → i < 12 → Small 8 (phichSum w p payload m i)

@@ -1,17 +1,20 @@
 -- What the loops and the calls in turn have compared. Assumes nothing beyond what comparing needs.
-use Prim.Native.Nat.{ℕ, _+_, _%_, _≤_, _<_}
+use Prim.Native.Nat.{ℕ, _+_, _-_, _*_, _%_, _≤_, _<_}
 use mathlib.Core.Path.{_≡_, refl, sym, ap, subst, _∙_}
 use mathlib.Core.Bool.{Bool, true, false, _||_}
 use mathlib.Core.List.{List}
 use native.Mathlib.Decide.{ℕ-discrete}
 use native.Mathlib.Omega.{arith}
 use borrow.Author.Tests.{eq-eqb, ne-eqb}
-use lib.ListN.{length, drop}
+use lib.ListN.{length, take, drop}
 use Rattle.base.specs.declared.Element.{Element}
 use Rattle.gold.specs.declared.Registers.{Registers}
 use Rattle.gold.specs.Sequence.{pairAt}
 use Rattle.modulation.specs.Symbols.{Order, unitIn, unitOf}
 use Rattle.modulation.proofs.Formulas.{unit-small}
+use Rattle.phich.specs.Spreading.{spreadLength}
+use Rattle.phich.specs.Loops.{QuadSums}
+use Rattle.phich.proofs.Scrambled.{part-is}
 use Rattle.plan.specs.Check.{checkOf}
 use Rattle.plan.specs.Commands.{userOf}
 use Rattle.plan.specs.Fields.{unitsOf}
@@ -20,6 +23,7 @@ use Rattle.plan.specs.Valid.{CellIn, FrameIn}
 use Rattle.plan.specs.declared.User.{User}
 use Rattle.plan.specs.declared.Plan.{Plan}
 use Rattle.plan.specs.declared.Checked.the-variants.{Plan as accepted}
+use Rattle.plan.proofs.Counts.{units-least}
 use Rattle.plan.proofs.Valid.{valid}
 use Rattle.layout.specs.Rules.{crsSymbol, marked}
 use Rattle.layout.specs.Owners.{symbols}
@@ -28,27 +32,27 @@ use Rattle.compare.specs.declared.Seen.{Seen}
 use Rattle.compare.specs.declared.Seen.the-variants.{Weight}
 use Rattle.compare.specs.Comparing.{Compared, bothOf, Few}
 use Rattle.compare.proofs.Comparing.{none, same, over, few}
-use Rattle.subframe.specs.Elements.{controlInit}
+use Rattle.subframe.specs.Elements.{controlInit, hiBit}
 use Rattle.subframe.proofs.OwnerBits.{user-order}
 use Rattle.recovery.specs.Recovery.{payloadIn}
+use Rattle.recovery.proofs.Payload.{hi-bit}
 use Rattle.data.specs.declared.Area.{Area}
 use Rattle.data.specs.Areas.{areaCount, pbchArea, userArea, AreaIn}
 use Rattle.data.proofs.AreaOwners.{pbch-in, user-in}
 use Rattle.data_compare.specs.Symbols.{AreaCompared, CompareIn}
 use Rattle.signals.specs.Signals.{crsSends, crsSent, markSends, pssSent, sssSent}
 use Rattle.signals.specs.Rows.{MarkIn, SignalIn}
-use Rattle.control.specs.Control.{pcfichSends, pcfichSent, phichSends}
-use Rattle.control.specs.Filling.{PhichIn, unitSent}
-use Rattle.control.proofs.ControlOwners.{phich-in}
-use Rattle.control_compare.specs.Again.{sumsAgain}
-use Rattle.control_compare.proofs.AgainOwners.{unit-value}
+use Rattle.control.specs.Control.{pcfichSends, pcfichSent, phichSends, phichSent}
+use Rattle.control.specs.Filling.{PhichIn}
+use Rattle.control.specs.Reading.{HisRead, ackFrom}
+use Rattle.control.proofs.ControlOwners.{phich-in, part-levels}
+use Rattle.control.proofs.ReadingOwners.{acks-are, his-read}
 use Rattle.channels.specs.declared.Channel.the-variants.{Crs, Pcfich as PcfichChannel, Phich as PhichChannel}
 use Rattle.channels.specs.Channels.{initOf, firstBit, Among}
 use Rattle.build.specs.Senders.{someBelow, ownerSends, crsIn, crsPorts, crsRows, marksSend, pbchSends, unitsSend, usersSend, allSend}
 use Rattle.build.proofs.Some.{some-none, some-more}
 use Rattle.build.proofs.SignalValues.{crs-numbered, pss-numbered, sss-numbered}
-use Rattle.build.proofs.Numbered.{numbered}
-use Rattle.build.proofs.ControlValues.{pcfich-owned, pcfich-numbered, phich-owned}
+use Rattle.build.proofs.ControlValues.{pcfich-owned, pcfich-numbered, phich-owned, phich-numbered}
 use Rattle.build.proofs.Slices.{From, from-first, from-user, from-next}
 use Rattle.verify.specs.Made.{elementDue, Given, Planned, UserSeen}
 use Rattle.verify.proofs.Owners.{
@@ -61,7 +65,6 @@ use Rattle.verify.proofs.Owners.{
   marks-apart,
   units-apart,
   users-apart,
-  unit-of,
   marks-in,
   pbch-in as pbch-belongs,
   pcfich-in,
@@ -209,30 +212,34 @@ module _ (w : List ℕ) (p : Plan) {g : List ℕ} (given : Given w p g) where
       (subst (λ (z : Registers). Compared (pcfichSends (p .cell)) (pcfichSent (p .cell) (p .frame .cfi) z) g r) er c)
 
   -- ---- PHICH
-  module _ (m : ℕ) (in-m : m < unitsOf (p .cell)) where
-    unit-due :
-        (e : ℕ) → phichSends (p .cell) m e ≡ true
-        → unitSent (p .cell) m (sumsAgain (p .cell) m (pairAt (controlInit (p .cell) (p .frame)) 0) (hisOf w p) g) e ≡ elementDue w p g e
-    unit-due e h =
-        let b = unit-of w p ok (given .room) m e (sym (phich-owned w p ok A (given .room) m in-m e) ∙ h) in
-        unit-value w p ok g m e in-m h (b .port) ∙ sym (numbered w p ok A (Phich m) e (b .owned))
+  pub units-start : CellIn (p .cell) × FrameIn (p .frame) × Among p (PhichChannel 0)
+  unfolding Among
+  units-start = (valid w p ok .cell, valid w p ok .frame, units-least (p .cell) (valid w p ok .cell))
+
+  pub units-read : HisRead (p .cell) (p .his) w g
+  units-read = his-read w p ok (given .room)
+
+  -- the sums of all units, made from the bits that the grid gives
+  module _ {r₀ : Registers} (er : r₀ ≡ pairAt (initOf p (PhichChannel 0)) (firstBit p (PhichChannel 0))) {s : List ℕ}
+      (q : QuadSums (spreadLength (p .cell)) (ackFrom (p .cell) r₀ (hisFrom (drop (p .his .at) w) (p .his .count)) g) (hisFrom (drop (p .his .at) w) (p .his .count)) s)
+      (m : ℕ) (in-m : m < unitsOf (p .cell)) where
+    sums : QuadSums (spreadLength (p .cell)) (ackFrom (p .cell) (pairAt (controlInit (p .cell) (p .frame)) 0) (hisOf w p) g) (hisOf w p) s
+    unfolding hisOf initOf firstBit
+    sums = rw er at q
+
+    -- the bits are those of the payload in the grid
+    bits-due : (n : ℕ) → n < p .his .count → ackFrom (p .cell) (pairAt (controlInit (p .cell) (p .frame)) 0) (hisOf w p) g n ≡ hiBit w p (payloadIn w p g) n
+    bits-due n l = acks-are w p g n ∙ sym (hi-bit w p g n l)
+
+    pub unit-ready : PhichIn (p .cell) m (take (8 * m + 8 - 8 * m) (drop (8 * m) s)) g
+    unit-ready = phich-in w p ok m in-m (given .room) (rw (part-is m s) (part-levels w p ok sums m in-m))
 
     pub unit-compared :
-        {r : Seen} (x : ℕ) (r₀ : Registers) → x ≡ m → r₀ ≡ pairAt (initOf p (PhichChannel m)) (firstBit p (PhichChannel m))
-        → Compared (phichSends (p .cell) x) (unitSent (p .cell) x (sumsAgain (p .cell) x r₀ (hisFrom (drop (p .his .at) w) (p .his .count)) g)) g r
+        {r : Seen} → Compared (phichSends (p .cell) m) (phichSent (p .cell) m r₀ (take (8 * m + 8 - 8 * m) (drop (8 * m) s))) g r
         → Compared (ownerSends w p (Phich m)) (elementDue w p g) g r
-    unfolding initOf firstBit hisOf
-    unit-compared {r} x r₀ ex er c =
-        same (λ e. phich-owned w p ok A (given .room) m in-m e) unit-due
-        (subst (λ (z : Registers). Compared (phichSends (p .cell) m) (unitSent (p .cell) m (sumsAgain (p .cell) m z (hisOf w p) g)) g r) er
-        (subst (λ (y : ℕ). Compared (phichSends (p .cell) y) (unitSent (p .cell) y (sumsAgain (p .cell) y r₀ (hisOf w p) g)) g r) ex c))
-
-    pub unit-ready : (x : ℕ) → x ≡ m → PhichIn (p .cell) x (p .his) w g
-    unit-ready x ex = subst (λ (y : ℕ). PhichIn (p .cell) y (p .his) w g) (sym ex) (phich-in w p ok m in-m (given .room))
-
-    pub unit-starts : CellIn (p .cell) × FrameIn (p .frame) × Among p (PhichChannel m)
-    unfolding Among
-    unit-starts = (valid w p ok .cell, valid w p ok .frame, in-m)
+    unfolding initOf firstBit
+    unit-compared c =
+        same (λ e. phich-owned w p ok A (given .room) m in-m e) (λ e h. phich-numbered w p ok A (given .room) m in-m sums bits-due e h) (rw (er, part-is m s) at c)
 
   pub units-none : Compared (unitsSend w p 0) (elementDue w p g) g (Weight 0)
   unfolding unitsSend

@@ -10,7 +10,7 @@ ghost use lib.ListN.{length};
 ghost use Rattle.plan.specs.Fields.{unitsOf};
 ghost use Rattle.plan.specs.Rows.{usersOf};
 ghost use Rattle.layout.specs.Owners.{symbols};
-ghost use Rattle.layout.specs.declared.Owner.the-variants.{Pcfich, Phich};
+ghost use Rattle.layout.specs.declared.Owner.the-variants.{Pcfich};
 ghost use Rattle.compare.specs.Comparing.{Compared};
 ghost use Rattle.build.specs.Senders.{crsPorts, crsRows, marksSend, pbchSends, ownerSends, unitsSend, usersSend, allSend};
 ghost use Rattle.verify.specs.Made.{elementDue, Given, Planned, UserSeen, Made};
@@ -82,25 +82,24 @@ fn see_pcfich(plan: &[u8], p: Plan, grid: &[u8]) -> Seen
     control_compare::compare_pcfich(r, p.cell, p.frame.cfi, grid)
 }
 
-// PHICH unit m.
-fn see_unit(plan: &[u8], p: Plan, m: u8, grid: &[u8]) -> Seen
-    requires { ⌜ Given (now plan) p (now grid) × (m < unitsOf (p .cell)) ⌝ }
-    ensures { λ r. ⌜ Compared (ownerSends (now (plan .entry)) p (Phich m)) (elementDue (now (plan .entry)) p (now (grid .entry))) (now (grid .entry)) r ⌝ }
-{
-    let r = channels::started(p, Channel::Phich(m));
-    control_compare::compare_phich(r, p.cell, base::wide(m), p.his, plan, grid)
-}
-
-// PHICH, unit by unit.
+// PHICH: the sums that the bits read from the grid make, for all units in one pass over the HIs, then unit by unit.
 fn see_units(plan: &[u8], p: Plan, grid: &[u8]) -> Seen
     requires { ⌜ Given (now plan) p (now grid) ⌝ }
     ensures { λ r. ⌜ Compared (unitsSend (now (plan .entry)) p (unitsOf (p .cell))) (elementDue (now (plan .entry)) p (now (grid .entry))) (now (grid .entry)) r ⌝ }
 {
     let units = plan::units(p.cell);
+    let r = channels::started(p, Channel::Phich(0));
+    let mut sums = [0; 200];
+    control_compare::sums_again(r, p.cell, p.his, plan, grid, &mut sums);
     let mut seen = Seen::Weight(0);
     let mut m: usize = 0;
     while m < units {
-        seen = both(seen, see_unit(plan, p, m as u8, grid));
+        let from = 8 * m;
+        let to = 8 * m + 8;
+        seen = both(
+            seen,
+            control_compare::compare_phich(r, p.cell, m, &sums[from..to], grid),
+        );
         m += 1;
     }
     seen

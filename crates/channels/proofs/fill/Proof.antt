@@ -89,7 +89,7 @@ module _ {M : Type 1} (𝓤 : URA M) (H : Heap 𝓤) (A : Atoms 𝓤) (W : Given
     (κ κ₁ κ₂ κ₃ : Lft) (q q₁ q₂ q₃ : Share) (b o : ℕ) (γ : GName) (h : Registers) (p : Plan) (ch : Channel) (w bs : RefT (List ℕ)) (b′ o′ : ℕ) (γ′ : GName) (g : List ℕ)
     (is-p : Is P.the-row p (LL.vals P.the-type P′.the-laws p)) (is-ch : Is E.the-row ch (EL.vals E.the-type E′.the-laws ch))
     (is-w : Is (ShrSlice (named 1) κ₁ u8) w (slice-vals w)) (is-bs : Is (ShrSlice (named 2) κ₂ u8) bs (slice-vals bs)) (room : Room u8 (length g))
-    (ok : ChannelIn (now w) p ch g) where
+    (ok : ChannelIn (now w) p ch (now bs) g) where
   abbrev sx : RefT (List ℕ)
   sx = record { ptr = (b′, o′); name = γ′; now = g }
 
@@ -205,7 +205,7 @@ fill-meets 𝓤 H A W at-mem run 𝓣 known =
     (walked 𝓤 H A f.ended stayed (f.clauses 𝓤 H A at-mem run) (WpFn 𝓤 H (𝓣 .C) (𝓣 .Λ) code.function)
     (λ κs. (ptr-vals, (LL.vals P.the-type P′.the-laws, (EL.vals E.the-type E′.the-laws, (slice-vals, (slice-vals, (slice-vals, tt)))))))
     (λ κs. (mut-tells (named 0) (κs .0) R, (LL.tells P.the-type P′.the-laws, (EL.tells E.the-type E′.the-laws, (shr-slice-tells (named 1) (κs .1 .0) u8, (shr-slice-tells (named 2) (κs .1 .1 .0) u8, (mut-slice-tells (named 3) (κs .1 .1 .1 .0) u8, tt)))))))
-    (λ κs qs bounds a g are. needs 𝓤 (ChannelIn (now (a .1 .1 .1 .0)) (a .1 .0) (a .1 .1 .0) (now (a .1 .1 .1 .1 .1 .0))) _ (λ ok.
+    (λ κs qs bounds a g are. needs 𝓤 (ChannelIn (now (a .1 .1 .1 .0)) (a .1 .0) (a .1 .1 .0) (now (a .1 .1 .1 .1 .0)) (now (a .1 .1 .1 .1 .1 .0))) _ (λ ok.
     walk 𝓤 H A W at-mem run (κs .0) (κs .1 .0) (κs .1 .1 .0) (κs .1 .1 .1 .0) (qs .0) (qs .1 .0) (qs .1 .1 .0) (qs .1 .1 .1 .0) (a .0 .ptr .0) (a .0 .ptr .1) (a .0 .name) (a .0 .now) (a .1 .0) (a .1 .1 .0) (a .1 .1 .1 .0) (a .1 .1 .1 .1 .0)
     (a .1 .1 .1 .1 .1 .0 .ptr .0) (a .1 .1 .1 .1 .1 .0 .ptr .1) (a .1 .1 .1 .1 .1 .0 .name) (a .1 .1 .1 .1 .1 .0 .now) (are .1 .0) (are .1 .1 .0) (are .1 .1 .1 .0) (are .1 .1 .1 .1 .0) (are .1 .1 .1 .1 .1 .0 .0 .1) ok
     (𝓣 .C) (𝓣 .Λ) (fmOf 𝓤 H (W .laws) 𝓣) known)))

@@ -1,6 +1,6 @@
 -- `control::fill_phich` meets its contract: the sums by the word's bits are those by the pair's. Assumes nothing.
 use native.Mathlib.Omega.{arith}
-use Rattle.control.proofs.Sums.{length-most, after-three, sums-ready, unit-ready, unit-done}
+use Rattle.control.proofs.Sums.{length-most, after-three, part-ready, unit-ready, unit-done}
 use borrow.Author.Needs.{needs}
 use Rattle.control.proofs.fill_phich.Statement.{statement}
 use Rattle.control.proofs.fill_phich.Tie as tie
@@ -12,17 +12,20 @@ spread-length-requires : tie.Need-spread-length-requires
 spread-length-requires c κs = search needs
 
 unit-sums-requires : tie.Need-unit-sums-requires
-unit-sums-requires c κs = sums-ready (c .before .before .before .before .before .pre) (c .spread-length .ensures)
+unit-sums-requires c κs = part-ready (c .before .before .before .before .pre) (c .spread-length .ensures)
 
 put-unit-requires : tie.Need-put-unit-requires
 put-unit-requires c κs =
-    let s = c .before .before .before .before .before .before .before in
-    unit-ready (s .pre) (c .before .before .spread-length .ensures) (c .before .before .before .word .result) (s .args .bits .now) (c .before .unit-sums .ensures)
+    unit-ready (c .before .before .before .before .before .before .pre) (c .before .before .spread-length .ensures) (c .before .before .before .word
+    .result) (c .before .unit-sums .ensures)
 
 mul-skip : tie.Need-mul-skip
 mul-skip c =
-    let s = c .before .before .before .before .before .before .before .before .before .before in
-    omega (arith, length-most (s .args .cell) (c .before .before .before .before .before .spread-length .ensures))
+    omega (
+      arith,
+      length-most (c .before .before .before .before .before .before .before .before .before .args .cell) (c .before .before .before
+          .before .before .spread-length .ensures),
+    )
 
 skip-requires : tie.Need-skip-requires
 skip-requires c κs = search needs
@@ -31,13 +34,15 @@ same-length : tie.Need-same-length
 same-length c = search needs
 
 returns : tie.Need-returns
-returns c =
-    let s = c .before .before .before .before .before .before .before .before .before .before .before in
-    let l = c .before .before .before .before .before .before .spread-length .ensures in
-    let w = c .before .before .before .before .before .before .before .word in (
-      unit-done (s .pre) l (w .result) (s .args .bits .now) (c .before .before .before .before .before .unit-sums .ensures) (s .args .r) (w .ensures) (c .before .before .before .put-unit .ensures),
-      after-three (s .args .cell) (s .args .r) l (c .skip .ensures),
-    )
+returns c = (
+  unit-done (c .before .before .before .before .before .before .before .before .before .before .pre) (c .before .before .before .before .before
+      .before .spread-length .ensures) (c .before .before .before .before .before .before .before .word .result) (c .before .before .before .before
+      .before .unit-sums .ensures) (c .before .before .before .before .before .before .before .before .before .before .args .r) (c .before .before
+      .before .before .before .before .before .word .ensures) (c .before .before .before .put-unit .ensures),
+  after-three (c .before .before .before
+      .before .before .before .before .before .before .before .args .cell) (c .before .before .before .before .before .before .before .before .before
+      .before .args .r) (c .before .before .before .before .before .before .spread-length .ensures) (c .skip .ensures),
+)
 
 pub fill-phich-spec : {M : Type 1} → statement M
 fill-phich-spec =

@@ -1,24 +1,28 @@
--- `control::put_unit` meets its contract: after n pairs of places those of the indices below 2n are written. Assumes nothing.
+-- `control::put_unit` meets its contract: after n quads those of the indices below 4n are written. Assumes nothing.
+use Prim.Native.Nat.{_-_, _*_}
 use native.Mathlib.Omega.{arith}
-use Prim.Native.Nat.{_-_}
 use Rattle.control.proofs.Listings.{six, unit-few}
-use Rattle.control.proofs.Turns.{UnitTurn, unit-start, unit-pair, unit-next, unit-finish}
+use Rattle.control.proofs.Turns.{UnitTurn, unit-start, first-in, second-in, quad-next, unit-finish}
 use Rattle.control.proofs.put_unit.Statement.{statement}
 use Rattle.control.proofs.put_unit.Tie as tie
 
 abbrev Inv-loop : tie.InvT-loop
-Inv-loop cell m grid₀ sums n₀ grid n = UnitTurn cell m sums n grid₀ grid
+Inv-loop cell m grid₀ sums n₀ grid n = UnitTurn cell m sums (2 * n) grid₀ grid
 
 abbrev μ-loop : tie.MeasureT-loop
-μ-loop cell m grid₀ sums n₀ grid n = 6 - n
+μ-loop cell m grid₀ sums n₀ grid n = 3 - n
 
 loop-holds : tie.Need-loop-holds Inv-loop μ-loop
-loop-holds c =
-    let s = c .before in
-    unit-start (s .args .cell) (s .args .m) (s .args .t3) (s .args .grid .now) (s .pre)
+loop-holds c = unit-start (c .before .args .cell) (c .before .args .m) (c .before .args .t3) (c .before .args .grid .now) (c .before .pre)
+
+mul-i : tie.Need-mul-i Inv-loop μ-loop
+mul-i c = omega (arith, c .loop-test .taken)
 
 mul-j : tie.Need-mul-j Inv-loop μ-loop
 mul-j c = omega (arith, c .loop-test .taken)
+
+add-j : tie.Need-add-j Inv-loop μ-loop
+add-j c = omega (arith, c .loop-test .taken)
 
 mul-k : tie.Need-mul-k Inv-loop μ-loop
 mul-k c = omega (arith, c .loop-test .taken)
@@ -26,54 +30,103 @@ mul-k c = omega (arith, c .loop-test .taken)
 add-k : tie.Need-add-k Inv-loop μ-loop
 add-k c = omega (arith, c .loop-test .taken)
 
+mul-h : tie.Need-mul-h Inv-loop μ-loop
+mul-h c = omega (arith, c .loop-test .taken)
+
+add-h : tie.Need-add-h Inv-loop μ-loop
+add-h c = omega (arith, c .loop-test .taken)
+
+mul-a : tie.Need-mul-a Inv-loop μ-loop
+mul-a c = omega (arith, c .loop-test .taken)
+
+array-copy-out-a : tie.Need-array-copy-out-a Inv-loop μ-loop
+array-copy-out-a c = omega (arith, c .loop-test .taken)
+
+mul-b : tie.Need-mul-b Inv-loop μ-loop
+mul-b c = omega (arith, c .before .loop-test .taken)
+
+array-copy-out-b : tie.Need-array-copy-out-b Inv-loop μ-loop
+array-copy-out-b c = omega (arith, c .before .loop-test .taken)
+
+mul-c : tie.Need-mul-c Inv-loop μ-loop
+mul-c c = omega (arith, c .before .before .loop-test .taken)
+
+array-copy-out-c : tie.Need-array-copy-out-c Inv-loop μ-loop
+array-copy-out-c c = omega (arith, c .before .before .loop-test .taken)
+
 mul-d : tie.Need-mul-d Inv-loop μ-loop
-mul-d c = omega (arith, c .loop-test .taken)
+mul-d c = omega (arith, c .before .before .before .loop-test .taken)
 
 array-copy-out-d : tie.Need-array-copy-out-d Inv-loop μ-loop
-array-copy-out-d c = omega (arith, c .loop-test .taken)
-
-mul-e : tie.Need-mul-e Inv-loop μ-loop
-mul-e c = omega (arith, c .before .loop-test .taken)
-
-array-copy-out-e : tie.Need-array-copy-out-e Inv-loop μ-loop
-array-copy-out-e c = omega (arith, c .before .loop-test .taken)
+array-copy-out-d c = omega (arith, c .before .before .before .loop-test .taken)
 
 unit-group-requires : tie.Need-unit-group-requires Inv-loop μ-loop
-unit-group-requires c κs =
-    let s = c .before .before .before .before .before in
-    (six (s .args .cell) (s .pre .cell), unit-few (s .args .cell) (s .pre .cell) (s .args .m) (s .pre .unit), omega (arith, c .before .before .loop-test .taken))
+unit-group-requires c κs = (
+  six (c .before .before .before .before .before .before .before .args .cell) (c .before .before .before .before .before .before .before .pre
+      .cell),
+  unit-few (c .before .before .before .before .before .before .before .args .cell) (c .before .before .before .before .before .before
+      .before .pre .cell) (c .before .before .before .before .before .before .before .args .m) (c .before .before .before .before .before .before
+      .before .pre .unit),
+  omega (arith, c .before .before .before .before .loop-test .taken),
+)
 
-add-put-pair : tie.Need-add-put-pair Inv-loop μ-loop
-add-put-pair c =
-    let s = c .before .before .before .before .before .before in
-    omega (arith, c .before .before .before .loop-test .taken, unit-few (s .args .cell) (s .pre .cell) (s .args .m) (s .pre .unit))
+add-turn : tie.Need-add-turn Inv-loop μ-loop
+add-turn c =
+    omega (
+      arith,
+      c .before .before .before .before .before .loop-test .taken,
+      unit-few (c .before .before .before .before .before .before .before
+          .before .args .cell) (c .before .before .before .before .before .before .before .before .pre .cell) (c .before .before .before .before .before
+          .before .before .before .args .m) (c .before .before .before .before .before .before .before .before .pre .unit),
+    )
 
-cast-put-pair : tie.Need-cast-put-pair Inv-loop μ-loop
-cast-put-pair c = omega arith
+cast-turn : tie.Need-cast-turn Inv-loop μ-loop
+cast-turn c = omega arith
 
 put-pair-requires : tie.Need-put-pair-requires Inv-loop μ-loop
 put-pair-requires c κs =
-    let s = c .before .before .before .before .before .before .before in
-    unit-pair (s .args .cell) (s .args .m) (s .args .t3) (s .args .grid .now) (s .pre) (c .before .before .before .before .before .loop .inv) (c .before .before .before .before .loop-test .taken) (c .before .unit-group .ensures)
+    first-in (c .before .before .before .before .before .before .before .before .before .args .cell) (c .before .before .before .before .before
+    .before .before .before .before .args .m) (c .before .before .before .before .before .before .before .before .before .args .t3) (c .before .before
+    .before .before .before .before .before .before .before .args .grid .now) (c .before .before .before .before .before .before .before .before
+    .before .pre) (c .before .before .before .before .before .before .before .loop .inv) (c .before .before .before .before .before .before .loop-test
+    .taken) (c .before .unit-group .ensures)
+
+put-pair-requires-2 : tie.Need-put-pair-requires-2 Inv-loop μ-loop
+put-pair-requires-2 c κs =
+    second-in (c .before .before .before .before .before .before .before .before .before .before .before .before .before .args .cell) (c .before
+    .before .before .before .before .before .before .before .before .before .before .before .before .args .m) (c .before .before .before .before
+    .before .before .before .before .before .before .before .before .before .args .t3) (c .before .before .before .before .before .before .before
+    .before .before .before .before .before .before .args .grid .now) (c .before .before .before .before .before .before .before .before .before
+    .before .before .before .before .pre) (c .before .before .before .before .before .before .before .before .before .before .before .loop .inv) (c
+    .before .before .before .before .before .before .before .before .before .before .loop-test .taken) (c .before .before .before .before .before
+    .unit-group .ensures) (c .before .before .before .put-pair .ensures)
 
 add-n : tie.Need-add-n Inv-loop μ-loop
-add-n c = omega (arith, c .before .before .before .before .before .before .before .loop-test .taken)
+add-n c = omega (arith, c .before .before .before .before .before .before .before .before .before .before .before .before .before .loop-test .taken)
 
 loop-less : tie.Need-loop-less Inv-loop μ-loop
-loop-less c = omega (arith, c .before .before .before .before .before .before .before .loop-test .taken)
+loop-less c =
+    omega (arith, c .before .before .before .before .before .before .before .before .before .before .before .before .before .loop-test .taken)
 
 loop-again : tie.Need-loop-again Inv-loop μ-loop
 loop-again c =
-    let s = c .before .before .before .before .before .before .before .before .before .before in
-    unit-next (s .args .cell) (s .args .m) (s .args .t3) (s .args .grid .now) (s .pre) (c .before .before .before .before .before .before .before .before .loop .inv) (c .before .before .before .before .before .before .before .loop-test .taken) (c .before .before .before .before .unit-group .ensures) (c .before .before .put-pair .ensures)
+    quad-next (c .before .before .before .before .before .before .before .before .before .before .before .before .before .before .before .before .args
+    .cell) (c .before .before .before .before .before .before .before .before .before .before .before .before .before .before .before .before .args
+    .m) (c .before .before .before .before .before .before .before .before .before .before .before .before .before .before .before .before .args .t3)
+    (c .before .before .before .before .before .before .before .before .before .before .before .before .before .before .before .before .args .grid
+    .now) (c .before .before .before .before .before .before .before .before .before .before .before .before .before .before .before .before .pre) (c
+    .before .before .before .before .before .before .before .before .before .before .before .before .before .before .loop .inv) (c .before .before
+    .before .before .before .before .before .before .before .before .before .before .before .loop-test .taken) (c .before .before .before .before
+    .before .before .before .before .unit-group .ensures) (c .before .before .before .before .before .before .put-pair .ensures) (c .before .before
+    .put-pair2 .ensures)
 
 same-length : tie.Need-same-length Inv-loop μ-loop
 same-length c = c .before .loop .inv .written .size
 
 returns : tie.Need-returns Inv-loop μ-loop
 returns c =
-    let s = c .before .before .before in
-    unit-finish (s .args .cell) (s .args .m) (s .args .t3) (s .args .grid .now) (s .pre) (c .before .loop .inv) (c .loop-test .left)
+    unit-finish (c .before .before .before .args .cell) (c .before .before .before .args .m) (c .before .before .before .args .t3) (c .before .before
+    .before .args .grid .now) (c .before .before .before .pre) (c .before .loop .inv) (c .loop-test .left)
 
 pub put-unit-spec : {M : Type 1} → statement M
 put-unit-spec =
@@ -82,17 +135,26 @@ put-unit-spec =
     Inv-loop
     μ-loop
     loop-holds
+    mul-i
     mul-j
+    add-j
     mul-k
     add-k
+    mul-h
+    add-h
+    mul-a
+    array-copy-out-a
+    mul-b
+    array-copy-out-b
+    mul-c
+    array-copy-out-c
     mul-d
     array-copy-out-d
-    mul-e
-    array-copy-out-e
     unit-group-requires
-    add-put-pair
-    cast-put-pair
+    add-turn
+    cast-turn
     put-pair-requires
+    put-pair-requires-2
     add-n
     loop-less
     loop-again

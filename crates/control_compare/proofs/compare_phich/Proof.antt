@@ -1,6 +1,6 @@
 -- `control_compare::compare_phich` meets its contract: the sums by the word's bits are those by the pair's. Assumes nothing.
-use Rattle.control.proofs.Sums.{sums-ready}
-use Rattle.control_compare.proofs.AgainSums.{unit-read, unit-ready, unit-done}
+use Rattle.control.proofs.Sums.{part-ready, unit-ready}
+use Rattle.control_compare.proofs.AgainSums.{unit-seen}
 use borrow.Author.Needs.{needs}
 use Rattle.control_compare.proofs.compare_phich.Statement.{statement}
 use Rattle.control_compare.proofs.compare_phich.Tie as tie
@@ -11,19 +11,19 @@ spread-length-requires c κs = search needs
 word-requires : tie.Need-word-requires
 word-requires c κs = search needs
 
-sums-in-requires : tie.Need-sums-in-requires
-sums-in-requires c κs = unit-read (c .before .before .before .before .pre)
-
-sums-again-requires : tie.Need-sums-again-requires
-sums-again-requires c κs = sums-ready (c .before .before .before .before .before .pre) (c .before .before .spread-length .ensures)
+unit-sums-requires : tie.Need-unit-sums-requires
+unit-sums-requires c κs = part-ready (c .before .before .before .before .pre) (c .before .spread-length .ensures)
 
 compare-sums-requires : tie.Need-compare-sums-requires
-compare-sums-requires c κs = unit-ready (c .before .before .before .before .before .before .pre) (c .before .before .before .spread-length .ensures) (c .before .before .word .result) (c .before .sums-in .result) (c .sums-again .ensures)
+compare-sums-requires c κs =
+    unit-ready (c .before .before .before .before .before .pre) (c .before .before .spread-length .ensures) (c .before .word .result) (c .unit-sums
+    .ensures)
 
 returns : tie.Need-returns
 returns c =
-    unit-done (c .before .before .before .before .before .before .before .pre) (c .before .before .before .before .spread-length .ensures) (c .before .before .before .word .result) (c .before .before .sums-in .result) (c .before .sums-again .ensures)
-    (c .before .before .before .before .before .before .before .args .r) (c .before .before .before .word .ensures) (c .before .before .sums-in .ensures) (c .compare-sums .ensures)
+    unit-seen (c .before .before .before .before .before .before .pre) (c .before .before .before .spread-length .ensures) (c .before .before .word
+    .result) (c .before .unit-sums .ensures) (c .before .before .before .before .before .before .args .r) (c .before .before .word .ensures) (c
+    .compare-sums .ensures)
 
 pub compare-phich-spec : {M : Type 1} → statement M
 compare-phich-spec =
@@ -31,7 +31,6 @@ compare-phich-spec =
     (tie.spec
     spread-length-requires
     word-requires
-    sums-in-requires
-    sums-again-requires
+    unit-sums-requires
     compare-sums-requires
     returns)

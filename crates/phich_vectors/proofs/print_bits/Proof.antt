@@ -5,10 +5,10 @@ use Rattle.phich_vectors.proofs.print_bits.Statement.{statement}
 use Rattle.phich_vectors.proofs.print_bits.Tie as tie
 
 abbrev Inv-loop : tie.InvT-loop
-Inv-loop a b l w plan count from₀ k₀ from k = k ≤ count
+Inv-loop l w plan count first from₀ k₀ from k = k ≤ count
 
 abbrev μ-loop : tie.MeasureT-loop
-μ-loop a b l w plan count from₀ k₀ from k = count - k
+μ-loop l w plan count first from₀ k₀ from k = count - k
 
 slice-aggregate-text : tie.Need-slice-aggregate-text Inv-loop μ-loop
 slice-aggregate-text c = search needs
