@@ -23,7 +23,11 @@ ones-requires-4 : tie.Need-ones-requires-4
 ones-requires-4 c κs = search needs
 
 returns : tie.Need-returns
-returns c = ap₂ (λ (x y : ℕ). x ∷ y ∷ []) (ap₂ bitXor (c .before .before .before .ones .ensures) (c .before .before .ones2 .ensures)) (ap₂ bitXor (c .before .ones3 .ensures) (c .ones4 .ensures))
+returns c =
+    let at-ones3 = c .before in
+    let at-ones2 = at-ones3 .before in
+    let at-ones = at-ones2 .before in
+    ap₂ (λ (x y : ℕ). x ∷ y ∷ []) (ap₂ bitXor (at-ones .ones .ensures) (at-ones2 .ones2 .ensures)) (ap₂ bitXor (at-ones3 .ones3 .ensures) (c .ones4 .ensures))
 
 pub run-of-spec : {M : Type 1} → statement M
 run-of-spec =

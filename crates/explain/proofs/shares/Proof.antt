@@ -38,8 +38,7 @@ returns c =
     let at-hi-at = c .before in
     let at-a = at-hi-at .before .before in
     let at-args = at-a .before .before .before in
-    asked-as (at-args .args .a) (at-a .a .given .1) (drop (at-args .args .at) (at-args .args .plan .now))
-    (c .same-pair .ensures ∙ ap (samePair (at-a .a .given .0 .0)) (at-hi-at .hi-at .ensures))
+    asked-as (at-args .args .a) (at-a .a .given .1) (drop (at-args .args .at) (at-args .args .plan .now)) (c .same-pair .ensures ∙ ap (samePair (at-a .a .given .0 .0)) (at-hi-at .hi-at .ensures))
 
 returns-2 : tie.Need-returns-2
 unfolding sameRnti
@@ -47,8 +46,7 @@ returns-2 c =
     let at-user-at = c .before .before in
     let at-a2 = at-user-at .before .before in
     let at-args = at-a2 .before .before .before in
-    asked-as (at-args .args .a) (at-a2 .a2 .given .1) (drop (at-args .args .at) (at-args .args .plan .now))
-    (ap (sameRnti (at-a2 .a2 .given .0 .0)) (at-user-at .user-at .ensures))
+    asked-as (at-args .args .a) (at-a2 .a2 .given .1) (drop (at-args .args .at) (at-args .args .plan .now)) (ap (sameRnti (at-a2 .a2 .given .0 .0)) (at-user-at .user-at .ensures))
 
 returns-3 : tie.Need-returns-3
 unfolding sharesBlock
