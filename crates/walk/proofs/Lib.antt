@@ -1,0 +1,7 @@
+pub mod Forms
+pub mod Runs
+pub mod Cursors
+pub mod Parts
+pub mod Pairs
+pub mod Addresses
+pub mod Singles

@@ -1,0 +1,192 @@
+// The places of a channel that fills its places k first, then s, as runs of half blocks (six subcarriers each). A row has one form,
+// a bit for each of six subcarriers that is open, and a list of spans of half blocks: any set, one for each row.
+ghost use mathlib.Core.Path.{_≡_};
+ghost use Prim.Native.Nat.{_+_, _*_, _≤_, _<_};
+ghost use Rattle.walk.specs.Runs.{runCount};
+ghost use Rattle.walk.specs.Forms.{PairForm, SingleForm, HolesOf};
+ghost use Rattle.walk.specs.Addresses.{OffsetsAt};
+ghost use Rattle.walk.specs.Tables.{cursorStart, cursorRun, cursorNext, rowEnd, CursorIn};
+
+// A row and the next of its spans.
+pub struct Cursor {
+    pub s: usize,
+    pub i: usize,
+}
+
+// Half blocks one after another: the number of the first place, how many, and the row's form.
+pub struct Run {
+    pub first: usize,
+    pub halves: usize,
+    pub mask: usize,
+}
+
+fn byte(x: u8) -> usize
+    ensures { λ r. ⌜ (r ≡ x) × (r ≤ 255) ⌝ }
+{
+    x as usize
+}
+
+// Three bytes for each row, and one row more: its form, its first span, and the one after its last.
+pub fn start(rows: &[u8; 45]) -> Cursor
+    ensures { λ r. ⌜ r ≡ cursorStart (now (rows .entry)) ⌝ }
+{
+    Cursor {
+        s: 0,
+        i: byte(rows[1]),
+    }
+}
+
+// The run at a cursor; one of no half blocks at a row's end.
+pub fn run_at(c: Cursor, carriers: usize, rows: &[u8; 45], spans: &[u8; 512]) -> Run
+    requires { ⌜ CursorIn carriers (now rows) (now spans) c ⌝ }
+    ensures { λ r. ⌜ (r ≡ cursorRun carriers (now (rows .entry)) (now (spans .entry)) c) × (r .halves ≤ 255) ⌝ }
+{
+    let s = c.s;
+    let i = c.i;
+    let row = s * carriers;
+    let mask = byte(rows[3 * s]);
+    let last = byte(rows[3 * s + 2]);
+    if i < last {
+        let from = byte(spans[2 * i]);
+        let to = byte(spans[2 * i + 1]);
+        return Run {
+            first: row + 6 * from,
+            halves: to - from,
+            mask: mask,
+        };
+    }
+    Run {
+        first: row,
+        halves: 0,
+        mask: mask,
+    }
+}
+
+pub fn next(c: Cursor, rows: &[u8; 45]) -> Cursor
+    requires { ⌜ c .s < 14 ⌝ }
+    ensures { λ r. ⌜ (r ≡ cursorNext (now (rows .entry)) c) × (rowEnd (now (rows .entry)) (c .s) ≤ 255) ⌝ }
+{
+    let s = c.s;
+    let i = c.i;
+    let last = byte(rows[3 * s + 2]);
+    if i < last {
+        return Cursor { s: s, i: i + 1 };
+    }
+    Cursor {
+        s: s + 1,
+        i: byte(rows[3 * s + 4]),
+    }
+}
+
+// How many places a run has.
+pub fn count_of(run: Run) -> usize
+    requires { ⌜ PairForm (run .mask) × (run .halves ≤ 255) ⌝ }
+    ensures { λ r. ⌜ r ≡ runCount run ⌝ }
+{
+    if run.mask == 63 {
+        6 * run.halves
+    } else {
+        4 * run.halves
+    }
+}
+
+// Where the own ports of a pair and of the next one begin, in elements, and how far the other port is.
+pub struct PortOffsets {
+    pub own: usize,
+    pub next: usize,
+    pub across: usize,
+}
+
+pub fn port_offsets(ports: u8, places: usize, j: usize) -> PortOffsets
+    requires { ⌜ places ≤ 16800 ⌝ }
+    ensures { λ r. ⌜ OffsetsAt ports places j r ⌝ }
+{
+    let turn = (j / 2 % 2) as u8;
+    PortOffsets {
+        own: base::wide(precoding::own_port(ports, turn)) * places,
+        next: base::wide(precoding::own_port(ports, turn + 1)) * places,
+        across: base::wide(ports / 2) * places,
+    }
+}
+
+// The holes of a form on one port: the places before the first, the places from one to the next, or 0 where there is none, and the places
+// of six.
+pub struct Holes {
+    pub lead: usize,
+    pub each: usize,
+    pub count: usize,
+}
+
+pub fn holes_of(mask: usize) -> Holes
+    requires { ⌜ SingleForm mask ⌝ }
+    ensures { λ r. ⌜ HolesOf mask r ⌝ }
+{
+    if mask == 63 {
+        return Holes {
+            lead: 0,
+            each: 0,
+            count: 6,
+        };
+    }
+    if mask == 27 {
+        return Holes {
+            lead: 2,
+            each: 2,
+            count: 4,
+        };
+    }
+    if mask == 54 {
+        return Holes {
+            lead: 0,
+            each: 2,
+            count: 4,
+        };
+    }
+    if mask == 45 {
+        return Holes {
+            lead: 1,
+            each: 2,
+            count: 4,
+        };
+    }
+    if mask == 62 {
+        return Holes {
+            lead: 0,
+            each: 5,
+            count: 5,
+        };
+    }
+    if mask == 61 {
+        return Holes {
+            lead: 1,
+            each: 5,
+            count: 5,
+        };
+    }
+    if mask == 59 {
+        return Holes {
+            lead: 2,
+            each: 5,
+            count: 5,
+        };
+    }
+    if mask == 55 {
+        return Holes {
+            lead: 3,
+            each: 5,
+            count: 5,
+        };
+    }
+    if mask == 47 {
+        return Holes {
+            lead: 4,
+            each: 5,
+            count: 5,
+        };
+    }
+    Holes {
+        lead: 5,
+        each: 5,
+        count: 5,
+    }
+}
