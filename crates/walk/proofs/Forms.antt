@@ -8,8 +8,10 @@ use lib.Dec.{T, eqb, eqb→eq}
 use lib.Ieee.Fits.{and-l, and-r}
 use Rattle.base.specs.Counts.{cnt, nth}
 use Rattle.base.proofs.Computed.{allBelow, below-at}
+use Rattle.walk.specs.declared.Holes.{Holes}
 use Rattle.walk.specs.Runs.{bitOf, openCount, placeAt}
-use Rattle.walk.specs.Forms.{Holed, Paired, PairForm, six, left, right, apart, SingleForm, paired, hole-0, hole-1, hole-2, hole-3, hole-4, hole-5, HolesOf}
+use Rattle.walk.specs.Forms.{Holed, Paired, HolesOf, holesWith}
+use Rattle.walk.specs.Forms.{PairForm, six, left, right, apart, SingleForm, paired, hole-0, hole-1, hole-2, hole-3, hole-4, hole-5}
 
 -- c of six are open, and the x-th of them is f x
 abbrev pub Opens : ℕ → ℕ → (ℕ → ℕ) → Type 0
@@ -72,18 +74,22 @@ form-last right a b c = absurd (c refl)
 form-last apart a b c = refl
 
 -- ---- the forms on one port, in the code's terms
-pub no-hole : {mask : ℕ} → mask ≡ 63 → HolesOf mask (record { lead = 0; each = 0; count = 6 })
+pub no-hole : {mask : ℕ} → mask ≡ 63 → HolesOf mask (holesWith 0 0 6)
 unfolding openCount cnt bitOf
 no-hole e = rw e (record { count = refl; most = omega arith; whole = λ z. refl; holed = λ z. absurd (z refl) })
 
-holes-made : (mask lead each count : ℕ) → count ≡ openCount mask → count ≤ 6 → Holed mask lead each → HolesOf mask (record { lead = lead; each = each; count = count })
+holes-made : (mask lead each count : ℕ) → count ≡ openCount mask → count ≤ 6 → Holed mask lead each → HolesOf mask (holesWith lead each count)
 holes-made mask lead each count e l h = record { count = e; most = l; whole = λ z. absurd (omega (arith, h .some)); holed = λ z. h }
 
-pub holes-two : (form lead : ℕ) → lead ≤ 2 → Opens form 4 (between lead 2) → {mask : ℕ} → mask ≡ form → HolesOf mask (record { lead = lead; each = 2; count = 4 })
-holes-two form lead few test e = rw e (holes-made form lead 2 4 (sym (opens-count form 4 (between lead 2) test)) (omega arith) (two-holes form lead few test))
+pub holes-two :
+    (form lead : ℕ) → lead ≤ 2 → Opens form 4 (between lead 2) → {mask : ℕ} {r : Holes} → mask ≡ form → r ≡ holesWith lead 2 4 → HolesOf mask r
+holes-two form lead few test e is =
+    rw (e, is) (holes-made form lead 2 4 (sym (opens-count form 4 (between lead 2) test)) (omega arith) (two-holes form lead few test))
 
-pub holes-one : (form lead : ℕ) → lead ≤ 5 → Opens form 5 (between lead 5) → {mask : ℕ} → mask ≡ form → HolesOf mask (record { lead = lead; each = 5; count = 5 })
-holes-one form lead few test e = rw e (holes-made form lead 5 5 (sym (opens-count form 5 (between lead 5) test)) (omega arith) (one-hole form lead few test))
+pub holes-one :
+    (form lead : ℕ) → lead ≤ 5 → Opens form 5 (between lead 5) → {mask : ℕ} {r : Holes} → mask ≡ form → r ≡ holesWith lead 5 5 → HolesOf mask r
+holes-one form lead few test e is =
+    rw (e, is) (holes-made form lead 5 5 (sym (opens-count form 5 (between lead 5) test)) (omega arith) (one-hole form lead few test))
 
 pub single-last :
     {mask : ℕ} → SingleForm mask → (mask ≡ 63 → ⊥) → (mask ≡ 27 → ⊥) → (mask ≡ 54 → ⊥) → (mask ≡ 45 → ⊥) → (mask ≡ 62 → ⊥) → (mask ≡ 61 → ⊥)

@@ -34,6 +34,9 @@ pub data SingleForm : ℕ → Type 0 where
   hole-5 : SingleForm 31
 
 -- a form in the code's terms; `each` is 0 where it has no hole
+abbrev pub holesWith : ℕ → ℕ → ℕ → Holes
+holesWith lead each count = record { lead = lead; each = each; count = count }
+
 pub record HolesOf (mask : ℕ) (h : Holes) : Type 0 where
   pub count : h .count ≡ openCount mask
   pub most : h .count ≤ 6

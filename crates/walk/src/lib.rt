@@ -3,7 +3,7 @@
 ghost use mathlib.Core.Path.{_≡_};
 ghost use Prim.Native.Nat.{_+_, _*_, _≤_, _<_};
 ghost use Rattle.walk.specs.Runs.{runCount};
-ghost use Rattle.walk.specs.Forms.{PairForm, SingleForm, HolesOf};
+ghost use Rattle.walk.specs.Forms.{PairForm, SingleForm, HolesOf, holesWith};
 ghost use Rattle.walk.specs.Addresses.{OffsetsAt};
 ghost use Rattle.walk.specs.Tables.{cursorStart, cursorRun, cursorNext, rowEnd, CursorIn};
 
@@ -117,6 +117,27 @@ pub struct Holes {
     pub count: usize,
 }
 
+// One hole in six, or two of them three apart, after `lead` places.
+fn one_hole(lead: usize) -> Holes
+    ensures { λ r. ⌜ r ≡ holesWith lead 5 5 ⌝ }
+{
+    Holes {
+        lead: lead,
+        each: 5,
+        count: 5,
+    }
+}
+
+fn two_holes(lead: usize) -> Holes
+    ensures { λ r. ⌜ r ≡ holesWith lead 2 4 ⌝ }
+{
+    Holes {
+        lead: lead,
+        each: 2,
+        count: 4,
+    }
+}
+
 pub fn holes_of(mask: usize) -> Holes
     requires { ⌜ SingleForm mask ⌝ }
     ensures { λ r. ⌜ HolesOf mask r ⌝ }
@@ -129,64 +150,28 @@ pub fn holes_of(mask: usize) -> Holes
         };
     }
     if mask == 27 {
-        return Holes {
-            lead: 2,
-            each: 2,
-            count: 4,
-        };
+        return two_holes(2);
     }
     if mask == 54 {
-        return Holes {
-            lead: 0,
-            each: 2,
-            count: 4,
-        };
+        return two_holes(0);
     }
     if mask == 45 {
-        return Holes {
-            lead: 1,
-            each: 2,
-            count: 4,
-        };
+        return two_holes(1);
     }
     if mask == 62 {
-        return Holes {
-            lead: 0,
-            each: 5,
-            count: 5,
-        };
+        return one_hole(0);
     }
     if mask == 61 {
-        return Holes {
-            lead: 1,
-            each: 5,
-            count: 5,
-        };
+        return one_hole(1);
     }
     if mask == 59 {
-        return Holes {
-            lead: 2,
-            each: 5,
-            count: 5,
-        };
+        return one_hole(2);
     }
     if mask == 55 {
-        return Holes {
-            lead: 3,
-            each: 5,
-            count: 5,
-        };
+        return one_hole(3);
     }
     if mask == 47 {
-        return Holes {
-            lead: 4,
-            each: 5,
-            count: 5,
-        };
+        return one_hole(4);
     }
-    Holes {
-        lead: 5,
-        each: 5,
-        count: 5,
-    }
+    one_hole(5)
 }
