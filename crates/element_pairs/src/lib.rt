@@ -1,0 +1,125 @@
+// Elements of a grid as numbers, unit + 256 I + 65536 J, and two of them as one number, the second 24 bits on: written and read by wide
+// stores and loads.
+ghost use mathlib.Core.Path.{_≡_};
+ghost use Prim.Native.Nat.{_+_, _<_};
+ghost use lib.ListN.{length};
+ghost use Rattle.element_pairs.specs.Numbers.{Put, OnePut, TwoPut, PairPut, OneRead, TwoRead, PairCompared};
+
+fn put_two(grid: &mut [u8], at: usize, v: u32)
+    requires { ⌜ at + 1 < length (now grid) ⌝ }
+    ensures { λ _. ⌜ Put at 2 v (now (grid .entry)) (now (grid .exit)) ⌝ }
+{
+    grid[at] = (v % 256) as u8;
+    grid[at + 1] = (v / 256 % 256) as u8;
+}
+
+fn put_four(grid: &mut [u8], at: usize, v: u32)
+    requires { ⌜ at + 3 < length (now grid) ⌝ }
+    ensures { λ _. ⌜ Put at 4 v (now (grid .entry)) (now (grid .exit)) ⌝ }
+{
+    put_two(grid, at, v);
+    put_two(grid, at + 2, v / 65536);
+}
+
+fn put_bytes(grid: &mut [u8], at: usize, v: u32)
+    requires { ⌜ at + 2 < length (now grid) ⌝ }
+    ensures { λ _. ⌜ Put at 3 v (now (grid .entry)) (now (grid .exit)) ⌝ }
+{
+    put_two(grid, at, v);
+    grid[at + 2] = (v / 65536 % 256) as u8;
+}
+
+// One element, at byte `at`.
+pub fn put_three(grid: &mut [u8], at: usize, v: u64)
+    requires { ⌜ at + 2 < length (now grid) ⌝ }
+    ensures { λ _. ⌜ OnePut at v (now (grid .entry)) (now (grid .exit)) ⌝ }
+{
+    put_bytes(grid, at, (v % 16777216) as u32);
+}
+
+// Two elements side by side.
+pub fn put_six(grid: &mut [u8], at: usize, v: u64)
+    requires { ⌜ at + 5 < length (now grid) ⌝ }
+    ensures { λ _. ⌜ TwoPut 1 at v (now (grid .entry)) (now (grid .exit)) ⌝ }
+{
+    put_four(grid, at, (v % 4294967296) as u32);
+    put_two(grid, at + 4, (v / 4294967296 % 65536) as u32);
+}
+
+// Two elements with one between.
+pub fn put_apart(grid: &mut [u8], at: usize, v: u64)
+    requires { ⌜ at + 8 < length (now grid) ⌝ }
+    ensures { λ _. ⌜ TwoPut 2 at v (now (grid .entry)) (now (grid .exit)) ⌝ }
+{
+    put_bytes(grid, at, (v % 16777216) as u32);
+    put_bytes(grid, at + 6, (v / 16777216 % 16777216) as u32);
+}
+
+// A pair of places on two ports, `across` bytes from one to the other: side by side, or with one between.
+pub fn put_pair(grid: &mut [u8], at: usize, across: usize, v: u64, w: u64)
+    requires { ⌜ at + across + 5 < length (now grid) ⌝ }
+    ensures { λ _. ⌜ PairPut 1 at across v w (now (grid .entry)) (now (grid .exit)) ⌝ }
+{
+    put_six(grid, at, v);
+    put_six(grid, at + across, w);
+}
+
+pub fn put_pair_apart(grid: &mut [u8], at: usize, across: usize, v: u64, w: u64)
+    requires { ⌜ at + across + 8 < length (now grid) ⌝ }
+    ensures { λ _. ⌜ PairPut 2 at across v w (now (grid .entry)) (now (grid .exit)) ⌝ }
+{
+    put_apart(grid, at, v);
+    put_apart(grid, at + across, w);
+}
+
+fn byte(x: u8) -> u64
+    ensures { λ r. ⌜ (r ≡ x) × (r < 256) ⌝ }
+{
+    x as u64
+}
+
+// One element as a number.
+pub fn three_at(grid: &[u8], at: usize) -> u64
+    requires { ⌜ at + 2 < length (now grid) ⌝ }
+    ensures { λ r. ⌜ OneRead at (now (grid .entry)) r ⌝ }
+{
+    let a = byte(grid[at]);
+    let b = byte(grid[at + 1]);
+    let c = byte(grid[at + 2]);
+    a + b * 256 + c * 65536
+}
+
+// Two elements side by side.
+pub fn six_at(grid: &[u8], at: usize) -> u64
+    requires { ⌜ at + 5 < length (now grid) ⌝ }
+    ensures { λ r. ⌜ TwoRead 1 at (now (grid .entry)) r ⌝ }
+{
+    let a = three_at(grid, at);
+    a + three_at(grid, at + 3) * 16777216
+}
+
+// Two elements with one between.
+pub fn apart_at(grid: &[u8], at: usize) -> u64
+    requires { ⌜ at + 8 < length (now grid) ⌝ }
+    ensures { λ r. ⌜ TwoRead 2 at (now (grid .entry)) r ⌝ }
+{
+    let a = three_at(grid, at);
+    a + three_at(grid, at + 6) * 16777216
+}
+
+// The bits in which a pair of places differs from two numbers.
+pub fn differ(grid: &[u8], at: usize, across: usize, v: u64, w: u64) -> u64
+    requires { ⌜ at + across + 5 < length (now grid) ⌝ }
+    ensures { λ r. ⌜ PairCompared 1 at across v w (now (grid .entry)) r ⌝ }
+{
+    let x = six_at(grid, at) ^ v;
+    x | (six_at(grid, at + across) ^ w)
+}
+
+pub fn differ_apart(grid: &[u8], at: usize, across: usize, v: u64, w: u64) -> u64
+    requires { ⌜ at + across + 8 < length (now grid) ⌝ }
+    ensures { λ r. ⌜ PairCompared 2 at across v w (now (grid .entry)) r ⌝ }
+{
+    let x = apart_at(grid, at) ^ v;
+    x | (apart_at(grid, at + across) ^ w)
+}

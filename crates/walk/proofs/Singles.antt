@@ -1,0 +1,109 @@
+-- THE LAWS OF PLACES ON ONE PORT: a stretch of a run's places between holes, and one place written or
+-- compared as one number. Assumes nothing.
+use Prim.Native.Nat.{ℕ, _+_, _-_, _*_, _/_, _≤_, _<_}
+use mathlib.Core.Path.{_≡_, refl, sym, ap, _∙_, subst}
+use mathlib.Core.Bool.{Bool, true, false, _||_}
+use mathlib.Core.List.{List}
+use native.Mathlib.Nat.{add-mul, one-mul, zero-mul}
+use native.Mathlib.Omega.{arith}
+use lib.Dec.{eqb}
+use borrow.Author.Tests.{eqb-true, eq-eqb}
+use Rattle.base.proofs.Rows.{at-div}
+use Rattle.base.specs.declared.Element.{Element}
+use Rattle.precoding.specs.Places.{ownPort, otherPort}
+use Rattle.base.specs.Counts.{cnt}
+use Rattle.grid.specs.Elements.{elementIn}
+use Rattle.grid.specs.Writing.{Written}
+use Rattle.grid.proofs.Writing.{same}
+use Rattle.compare.specs.Comparing.{Holds}
+use Rattle.element_pairs.specs.Numbers.{elementFrom, OnePut, OneRead}
+use Rattle.element_pairs.proofs.Puts.{same-one}
+use Rattle.walk.specs.declared.Run.{Run}
+use Rattle.walk.specs.Runs.{runCount, placeAt, Laid, SinglesAt}
+use Rattle.walk.specs.Parts.{sentPart}
+use Rattle.walk.specs.Forms.{Holed, Stretch}
+use Rattle.walk.proofs.Forms.{place-63}
+use Rattle.walk.proofs.Runs.{within-at}
+use Rattle.walk.proofs.Parts.{part-place}
+
+-- ---- stretches
+module _ {first lead each k at c : ℕ} (s : Stretch first lead each k at c) where
+  -- the next c places are side by side
+  stretch-at : (i : ℕ) → i < c → at + i ≡ first + (k + i + (k + i + (each - lead)) / each)
+  stretch-at i l =
+      let e : k + i + (each - lead) ≡ s .holes * each + (each - c + i) = omega (arith, s .rest) in
+      let d : (k + i + (each - lead)) / each ≡ s .holes = ap (λ (x : ℕ). x / each) e ∙ at-div (s .holes) each (each - c + i) (omega (arith, s .few)) in
+      omega (arith, d, s .place)
+
+  pub stretch-singles :
+      {own : ℕ → Bool} {T j : ℕ} {r : Run} → r .first ≡ first → Holed (r .mask) lead each → Laid own T j r → (n : ℕ) → n ≤ c → k + n ≤ runCount r
+      → SinglesAt own T (j + k) at n
+  stretch-singles {own} {T} {j} {r} ef h l n few fit =
+      record {
+        owned = λ i b. ap own (here i b) ∙ l .owned (k + i) (omega arith);
+        index = λ i b. ap (cnt own) (here i b) ∙ l .index (k + i) (omega arith) ∙ (omega arith);
+        within = λ i b. omega (arith, here i b, l .within (k + i) (omega arith));
+      }
+    where
+      here : (i : ℕ) → i < n → at + i ≡ r .first + placeAt (r .mask) (k + i)
+      here i b = omega (arith, stretch-at i (omega arith), h .place (k + i))
+
+  pub stretch-inside : (r : Run) → r .first ≡ first → Holed (r .mask) lead each → (n : ℕ) → 0 < n → n ≤ c → k + n ≤ runCount r → at + n ≤ r .first + 6 * r .halves
+  unfolding runCount
+  stretch-inside r ef h n some few fit =
+      omega (arith, stretch-at (n - 1) (omega arith), h .place (k + (n - 1)), within-at (r .mask) (r .halves) (k + (n - 1)) (omega arith))
+
+  -- and after a hole the next stretch stands
+  pub stretch-on : Stretch first lead each (k + c) (at + c + 1) each
+  stretch-on =
+      record {
+        some = omega (arith, s .some, s .few);
+        few = omega arith;
+        holes = s .holes + 1;
+        place = omega (arith, s .place);
+        rest = omega (arith, s .rest, s .few, add-mul (s .holes) 1 each, one-mul each);
+      }
+
+pub stretch-lead : (first lead each : ℕ) → 0 < lead → lead ≤ each → Stretch first lead each 0 first lead
+stretch-lead first lead each some few =
+    record { some = some; few = few; holes = 0; place = omega arith; rest = omega (arith, zero-mul each) }
+
+pub stretch-hole : (first lead each : ℕ) → lead ≡ 0 → 0 < each → Stretch first lead each 0 (first + 1) each
+stretch-hole first lead each e some = record { some = some; few = omega arith; holes = 1; place = omega arith; rest = omega (arith, one-mul each, e) }
+
+-- all six open
+pub six-singles : {own : ℕ → Bool} {T j : ℕ} {r : Run} → r .mask ≡ 63 → Laid own T j r → SinglesAt own T j (r .first) (runCount r)
+six-singles {own} {T} {j} {r} e l =
+    record {
+      owned = λ i b. ap own (here i) ∙ l .owned i b;
+      index = λ i b. ap (cnt own) (here i) ∙ l .index i b;
+      within = λ i b. omega (arith, here i, l .within i b);
+    }
+  where
+    here : (i : ℕ) → r .first + i ≡ r .first + placeAt (r .mask) i
+    here i = ap (λ (x : ℕ). r .first + x) (sym (ap (λ (m : ℕ). placeAt m i) e ∙ place-63 i))
+
+-- ---- one place on one port, as one number
+either : (b : Bool) → b || b ≡ b
+either true = refl
+either false = refl
+
+module _ (own : ℕ → Bool) (T t j : ℕ) (l : t < T) (is : own t ≡ true) (at-j : cnt own t ≡ j) where
+  one-part : (e : ℕ) → sentPart own 1 T j 1 e ≡ eqb t e
+  unfolding otherPort ownPort
+  one-part e = let z : 0 * T + t ≡ t = omega (arith, zero-mul T) in part-place own 1 T t j l is at-j e ∙ (rw z (either (eqb t e)))
+
+  module _ (W : ℕ → Element) (v : ℕ) (w : W t ≡ elementFrom v) {a : ℕ} (ia : a ≡ 3 * t) where
+    pub one-written : {g h : List ℕ} → OnePut a v g h → Written (sentPart own 1 T j 1) W g h
+    one-written p = same (λ e. sym (one-part e)) (λ e d. sym w ∙ ap W (eqb-true t e d)) (p .written t ia)
+
+    -- the number that stands there is this one just when the element holds its value
+    pub one-same : {x : ℕ} {g : List ℕ} → OneRead a g x → x ≡ v → Holds (sentPart own 1 T j 1) W g
+    one-same {g = g} r ex =
+        record {
+          elements = λ e d.
+              subst (λ (y : ℕ). elementIn g y ≡ W y) (eqb-true t e (sym (one-part e) ∙ d)) (r .element t ia ∙ ap elementFrom ex ∙ sym w);
+        }
+
+    pub one-found : {x : ℕ} {g : List ℕ} → OneRead a g x → v < 16777216 → Holds (sentPart own 1 T j 1) W g → x ≡ v
+    one-found r lv h = same-one (r .few) lv (sym (r .element t ia) ∙ h .elements t (one-part t ∙ eq-eqb t t refl) ∙ w)

@@ -1,0 +1,42 @@
+-- For the inner contracts and loops only: where the two ports of a channel's pairs begin, and what a run of pairs needs.
+use Prim.Native.Nat.{ℕ, _+_, _*_, _/_, _%_, _≤_, _<_}
+use mathlib.Core.Path.{_≡_}
+use mathlib.Core.List.{List}
+use Rattle.precoding.specs.Places.{ownPort, otherPort}
+use Rattle.grid.specs.Writing.{Room}
+use Rattle.walk.specs.declared.PortOffsets.{PortOffsets}
+use Rattle.walk.specs.declared.Run.{Run}
+use Rattle.walk.specs.Runs.{runCount}
+use Rattle.walk.specs.Forms.{PairForm}
+
+-- the own port of the pair at index j, that of the next pair, and the way to the other port
+pub record OffsetsAt (P T j : ℕ) (r : PortOffsets) : Type 0 where
+  pub own : r .own ≡ ownPort P (j / 2 % 2) * T
+  pub next : r .next ≡ ownPort P ((j + 2) / 2 % 2) * T
+  pub across : (turn : ℕ) → ownPort P turn * T + r .across ≡ otherPort P turn * T
+
+-- m pairs from place `start` on and from index j on, inside a grid of two ports or four
+pub record PairsIn (P T gap j start step m : ℕ) (grid : List ℕ) : Type 0 where
+  pub room : Room P T grid
+  pub many : 2 ≤ P
+  pub even : j % 2 ≡ 0
+  pub index : j + 2 * m ≤ 16800
+  pub early : start ≤ T
+  pub short : step ≤ 3
+  pub inside : (i : ℕ) → i < m → start + step * i + gap < T
+
+-- two pairs in each round of a loop: where round i of n finds its pairs
+pub record RoundAt (P T j start step n at next i : ℕ) : Type 0 where
+  pub rounds : i ≤ n
+  pub at-pair : at ≡ 3 * (ownPort P (j / 2 % 2) * T + (start + step * (2 * i)))
+  pub next-pair : next ≡ 3 * (ownPort P ((j + 2) / 2 % 2) * T + (start + step * (2 * i + 1)))
+
+-- what a run needs
+pub record RunIn (P T j : ℕ) (r : Run) (grid : List ℕ) : Type 0 where
+  pub room : Room P T grid
+  pub many : 2 ≤ P
+  pub even : j % 2 ≡ 0
+  pub before : r .first < T
+  pub inside : r .first + 6 * r .halves ≤ T
+  pub form : PairForm (r .mask)
+  pub index : j + runCount r ≤ 16800
