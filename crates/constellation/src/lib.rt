@@ -1,0 +1,103 @@
+// TS 36.211 7.1: the elements of a modulation order's symbols as numbers, unit + 256 I + 65536 J, in a table by the word of their bits.
+ghost use mathlib.Core.Path.{_≡_};
+ghost use Prim.Native.Nat.{_+_, _*_, _%_, _^_, _≤_, _<_};
+ghost use lib.ListN.{length};
+ghost use Rattle.constellation.specs.Entries.{threeBytes, byteLess, fourSet, Entries, Elements, Widened};
+
+fn word(x: u8) -> u32
+    ensures { λ r. ⌜ (r ≡ x) × (r < 256) ⌝ }
+{
+    x as u32
+}
+
+fn power(k: u32) -> usize
+    requires { ⌜ k ≤ 8 ⌝ }
+    ensures { λ r. ⌜ (r ≡ 2 ^ k) × (r ≤ 256) ⌝ }
+{
+    1 << k
+}
+
+// h less the level of a byte, as a byte.
+fn less(h: usize, b: u32) -> u32
+    requires { ⌜ (h ≤ 256) × (b < 256) ⌝ }
+    ensures { λ r. ⌜ (r ≡ byteLess h b) × (r < 256) ⌝ }
+{
+    ((h + 256 - b as usize) % 256) as u32
+}
+
+fn three(u: u32, i: u32, j: u32) -> u32
+    requires { ⌜ (u < 256) × (i < 256) × (j < 256) ⌝ }
+    ensures { λ r. ⌜ r ≡ threeBytes u i j ⌝ }
+{
+    u + 256 * i + 65536 * j
+}
+
+fn set_four(t: &mut [u32; 256], n: usize, x: usize, a: u32, b: u32, c: u32, d: u32)
+    requires { ⌜ (length (now t) ≡ 256) × (3 * n + x < 256) ⌝ }
+    ensures { λ _. ⌜ now (t .exit) ≡ fourSet n x a b c d (now (t .entry)) ⌝ }
+{
+    t[x] = a;
+    t[n + x] = b;
+    t[2 * n + x] = c;
+    t[3 * n + x] = d;
+}
+
+// From the entry of a word of k bits those of the four words with two bits more in front: 2 ^ (k / 2) less each level, with the sign of
+// its bit.
+fn widen(t: &mut [u32; 256], k: u32, unit: u8, x: usize)
+    requires { ⌜ Widened k unit x (now t) × (x < 2 ^ k) × (k % 2 ≡ 0) × (k ≤ 6) ⌝ }
+    ensures { λ _. ⌜ Widened k unit (x + 1) (now (t .exit)) ⌝ }
+{
+    let n = power(k);
+    let h = power(k / 2);
+    let u = word(unit);
+    let v = t[x];
+    let i = less(h, v / 256 % 256);
+    let j = less(h, v / 65536 % 256);
+    let minus_i = less(0, i);
+    let minus_j = less(0, j);
+    let a = three(u, i, j);
+    let b = three(u, i, minus_j);
+    let c = three(u, minus_i, j);
+    let d = three(u, minus_i, minus_j);
+    set_four(t, n, x, a, b, c, d);
+}
+
+fn widen_all(t: &mut [u32; 256], k: u32, unit: u8)
+    requires { ⌜ Entries k unit (2 ^ k) (now t) × (k % 2 ≡ 0) × (k ≤ 6) ⌝ }
+    ensures { λ _. ⌜ Entries (k + 2) unit (2 ^ (k + 2)) (now (t .exit)) ⌝ }
+{
+    let n = power(k);
+    let mut x: usize = 0;
+    while x < n {
+        widen(t, k, unit, x);
+        x += 1;
+    }
+}
+
+// The entries of the words of q bits, from those of no bits, with levels 0.
+fn set_words(t: &mut [u32; 256], q: u32, unit: u8)
+    requires { ⌜ (length (now t) ≡ 256) × (q % 2 ≡ 0) × (q ≤ 8) ⌝ }
+    ensures { λ _. ⌜ Entries q unit (2 ^ q) (now (t .exit)) ⌝ }
+{
+    t[0] = word(unit);
+    let mut k: u32 = 0;
+    while k < q {
+        widen_all(t, k, unit);
+        k += 2;
+    }
+}
+
+// The table of an order. Its entries repeat, so that the eight lowest bits of a word are an index, whatever the order.
+pub fn set_elements(t: &mut [u32; 256], q: u32, unit: u8)
+    requires { ⌜ (length (now t) ≡ 256) × (q % 2 ≡ 0) × (q ≤ 8) ⌝ }
+    ensures { λ _. ⌜ Elements q unit (now (t .exit)) ⌝ }
+{
+    set_words(t, q, unit);
+    let n = power(q);
+    let mut x = n;
+    while x < 256 {
+        t[x] = t[x - n];
+        x += 1;
+    }
+}
