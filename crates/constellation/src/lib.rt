@@ -1,8 +1,9 @@
 // TS 36.211 7.1: the elements of a modulation order's symbols as numbers, unit + 256 I + 65536 J, in a table by the word of their bits.
 ghost use mathlib.Core.Path.{_≡_};
 ghost use Prim.Native.Nat.{_+_, _*_, _%_, _^_, _≤_, _<_};
-ghost use lib.ListN.{length};
+ghost use lib.ListN.{length, getD};
 ghost use Rattle.constellation.specs.Entries.{threeBytes, byteLess, fourSet, Entries, Elements, Widened};
+ghost use Rattle.constellation.specs.Pairs.{jointOf, partnersOf};
 
 fn word(x: u8) -> u32
     ensures { λ r. ⌜ (r ≡ x) × (r < 256) ⌝ }
@@ -100,4 +101,35 @@ pub fn set_elements(t: &mut [u32; 256], q: u32, unit: u8)
         t[x] = t[x - n];
         x += 1;
     }
+}
+
+fn wide(x: u32) -> u64
+    ensures { λ r. ⌜ r ≡ x ⌝ }
+{
+    x as u64
+}
+
+// The element of the symbol of a word's lowest bits.
+pub fn number(t: &[u32; 256], w: u64) -> u64
+    ensures { λ r. ⌜ r ≡ getD (now (t .entry)) (w % 256) 0 ⌝ }
+{
+    let x = (w % 256) as usize;
+    wide(t[x])
+}
+
+// Two elements as one number.
+pub fn joint(a: u64, b: u64) -> u64
+    requires { ⌜ (a < 16777216) × (b < 16777216) ⌝ }
+    ensures { λ r. ⌜ r ≡ jointOf a b ⌝ }
+{
+    a + b * 16777216
+}
+
+// What the other port sends beside two symbols: minus the conjugate of the second, then the conjugate of the first. Their levels are
+// odd, so that minus a level exchanges all bits of its byte but the lowest.
+pub fn partners(a: u64, b: u64) -> u64
+    requires { ⌜ (a < 16777216) × (b < 16777216) ⌝ }
+    ensures { λ r. ⌜ r ≡ partnersOf a b ⌝ }
+{
+    joint(b, a) ^ 0xFE000000FE00
 }
