@@ -1,16 +1,14 @@
 -- THE LAWS OF AN ELEMENT'S BYTES: each byte of its number, a level less and minus a level as bytes. Assumes nothing.
-use Prim.Native.Nat.{ℕ, zero, suc, _+_, _-_, _*_, _/_, _%_, _^_, _≤_, _<_}
-use mathlib.Core.Path.{_≡_, refl, sym, ap, ap₂, _∙_}
+use Prim.Native.Nat.{ℕ, zero, suc, _+_, _-_, _/_, _%_, _≤_, _<_}
+use mathlib.Core.Path.{_≡_, refl, ap, _∙_}
 use mathlib.Core.Bool.{Bool, true, false, cond}
 use native.Mathlib.Omega.{arith}
 use borrow.Author.Tests.{ltb-true, ltb-false}
 use lib.Dec.{ltb}
 use lib.IntN.{ℤ, pos, negsuc, negℤ, natAbs, _-ℤ_}
-use Rattle.base.specs.declared.Pair.{Pair}
 use Rattle.base.specs.Bytes.{byteOf}
-use Rattle.base.specs.Pairs.{Small}
 use Rattle.base.proofs.Fits.{sub-zero}
-use Rattle.constellation.specs.Entries.{threeBytes, elementNumber, byteLess}
+use Rattle.constellation.specs.Entries.{threeBytes, byteLess}
 
 -- a level that an i8 holds has a byte
 pub byte-small : (z : ℤ) → natAbs z ≤ 127 → byteOf z < 256
@@ -32,14 +30,8 @@ minus-byte z l = less-byte 0 z (omega arith) ∙ ap byteOf (sub-zero z)
 
 -- ---- the bytes of three
 module _ (u i j : ℕ) (lu : u < 256) (li : i < 256) (lj : j < 256) where
-  pub byte-first : threeBytes u i j % 256 ≡ u
-  byte-first = omega arith
-
   pub byte-second : threeBytes u i j / 256 % 256 ≡ i
   byte-second = omega arith
 
   pub byte-third : threeBytes u i j / 65536 % 256 ≡ j
   byte-third = omega arith
-
-  pub three-small : threeBytes u i j < 16777216
-  three-small = omega arith

@@ -24,7 +24,7 @@ use Rattle.precoding.proofs.Ports.{on-own, on-other}
 use Rattle.element_pairs.specs.Numbers.{elementFrom, upper}
 use Rattle.constellation.specs.Entries.{threeBytes, elementNumber, byteLess, Elements}
 use Rattle.constellation.specs.Pairs.{jointOf, minusBits, partnersOf, OddLevels, PairValues}
-use Rattle.constellation.proofs.Bytes.{byte-small, minus-byte, byte-first, byte-second, byte-third, three-small}
+use Rattle.constellation.proofs.Bytes.{byte-small, minus-byte}
 use Rattle.constellation.proofs.Quarters.{entry-of}
 
 -- ---- the level of one bit or more is odd
@@ -92,9 +92,12 @@ module _ (u : ℕ) (lu : u < 256) (d : Pair) (o : OddLevels d) {a : ℕ} (ea : a
   one-element = element-same (omega (arith, bytes)) (omega (arith, bytes)) (omega (arith, bytes))
 
 -- two as one number
+joint-few : (a b : ℕ) → a < 16777216 → b < 16777216 → jointOf a b < 281474976710656
+joint-few a b la lb = omega arith
+
 module _ {a b : ℕ} (la : a < 16777216) (lb : b < 16777216) where
-  joint-few : jointOf a b < 281474976710656
-  joint-few = omega arith
+  pub pair-few : (jointOf a b < 281474976710656) × (partnersOf a b < 281474976710656)
+  pair-few = (joint-few a b la lb, xor-lt 48 (jointOf b a) minusBits (joint-few b a lb la) (omega arith))
 
   joint-low : elementFrom (jointOf a b) ≡ elementFrom a
   unfolding elementFrom
@@ -116,7 +119,8 @@ unfolding elementFrom
 xor-element v c = element-same (xor-mod v c 8) (byte-xor v c 8) (byte-xor v c 16)
 
 module _
-    (u : ℕ) (lu : u < 256) (d e : Pair) (od : OddLevels d) (oe : OddLevels e) {a b : ℕ} (ea : a ≡ elementNumber u d) (eb : b ≡ elementNumber u e) where
+    (u : ℕ) (lu : u < 256) (d e : Pair) (od : OddLevels d) (oe : OddLevels e) {a b : ℕ} (ea : a ≡ elementNumber u d)
+    (eb : b ≡ elementNumber u e) where
   la : a < 16777216
   la = one-few u lu d od ea
 
@@ -148,9 +152,6 @@ module _
       (joint-high lb la ∙ one-element u lu d od ea)
       ∙ element-same (xor-zero-r u) (xor-zero-r (byteOf (d .re))) (minus-odd (d .im) (od .small-im) (od .odd-im))
 
-  pub pair-few : (jointOf a b < 281474976710656) × (partnersOf a b < 281474976710656)
-  pair-few = (joint-few la lb, xor-lt 48 (jointOf b a) minusBits (joint-few lb la) (omega arith))
-
 -- ---- in a table of an order, for the words of two symbols
 other-apart : (P turn : ℕ) → 2 ≤ P → otherPort P turn ≡ ownPort P turn → ⊥
 unfolding otherPort
@@ -160,43 +161,45 @@ module _ {q u : ℕ} {t : List ℕ} (s : Elements q u t) (some : 2 ≤ q) (few :
   pub number-few : (w : ℕ) → getD t (w % 256) 0 < 16777216
   number-few w = one-few u lu (symbolOf q w) (symbol-levels q w some few) (entry-of s few w)
 
-  module _ (P turn unit : ℕ) (on : u ≡ unitOn P unit) (w x : ℕ) {a b : ℕ} (ea : a ≡ getD t (w % 256) 0) (eb : b ≡ getD t (x % 256) 0) where
-    abbrev d : Pair
-    d = symbolOf q w
-
-    abbrev e : Pair
-    e = symbolOf q x
-
-    at-d : a ≡ elementNumber u d
-    at-d = ea ∙ entry-of s few w
-
-    at-e : b ≡ elementNumber u e
-    at-e = eb ∙ entry-of s few x
-
+  module _ (P turn unit : ℕ) (on : u ≡ unitOn P unit) where
     -- a place's own symbol, beside any other
-    pub own-value : (odd : ℕ) (f : Pair) → onPort P turn unit odd d f (ownPort P turn) ≡ elementFrom a
-    own-value odd f =
-        on-own P turn unit odd d f (ownPort P turn) refl
-        ∙ ap (λ (y : ℕ). elementOf y d) (sym on)
-        ∙ sym (one-element u lu d (symbol-levels q w some few) at-d)
+    pub own-value : (w odd : ℕ) (f : Pair) → onPort P turn unit odd (symbolOf q w) f (ownPort P turn) ≡ elementFrom (getD t (w % 256) 0)
+    own-value w odd f =
+        on-own P turn unit odd (symbolOf q w) f (ownPort P turn) refl
+        ∙ ap (λ (y : ℕ). elementOf y (symbolOf q w)) (sym on)
+        ∙ sym (one-element u lu (symbolOf q w) (symbol-levels q w some few) (entry-of s few w))
 
     -- THE LAW OF PAIRS
-    pub pair-values : 2 ≤ P → PairValues P turn unit d e (jointOf a b) (partnersOf a b)
-    pair-values many =
-        record {
-          own-first = on-own P turn unit 0 d e (ownPort P turn) refl ∙ by d (joint-first u lu d e od oe at-d at-e);
-          own-second = on-own P turn unit 1 e d (ownPort P turn) refl ∙ by e (joint-second u lu d e od oe at-d at-e);
-          other-first = on-other P turn unit 0 d e (otherPort P turn) (other-apart P turn many) refl
-              ∙ by (partnerOf 0 e) (partners-first u lu d e od oe at-d at-e);
-          other-second = on-other P turn unit 1 e d (otherPort P turn) (other-apart P turn many) refl
-              ∙ by (partnerOf 1 d) (partners-second u lu d e od oe at-d at-e);
-        }
-      where
-        od : OddLevels d
-        od = symbol-levels q w some few
+    module _ (many : 2 ≤ P) (w x : ℕ) where
+      abbrev a : ℕ
+      a = getD t (w % 256) 0
 
-        oe : OddLevels e
-        oe = symbol-levels q x some few
+      abbrev b : ℕ
+      b = getD t (x % 256) 0
 
-        by : {x : Element} (f : Pair) → x ≡ elementOf u f → elementOf (unitOn P unit) f ≡ x
-        by f h = ap (λ (y : ℕ). elementOf y f) (sym on) ∙ sym h
+      abbrev d : Pair
+      d = symbolOf q w
+
+      abbrev e : Pair
+      e = symbolOf q x
+
+      od : OddLevels d
+      od = symbol-levels q w some few
+
+      oe : OddLevels e
+      oe = symbol-levels q x some few
+
+      by : {y : Element} (f : Pair) → y ≡ elementOf u f → elementOf (unitOn P unit) f ≡ y
+      by f h = ap (λ (y : ℕ). elementOf y f) (sym on) ∙ sym h
+
+      pub pair-values : PairValues P turn unit d e (jointOf a b) (partnersOf a b)
+      pair-values =
+          let ea = entry-of s few w in
+          let eb = entry-of s few x in
+          let n = other-apart P turn many in
+          record {
+            own-first = on-own P turn unit 0 d e (ownPort P turn) refl ∙ by d (joint-first u lu d e od oe ea eb);
+            own-second = on-own P turn unit 1 e d (ownPort P turn) refl ∙ by e (joint-second u lu d e od oe ea eb);
+            other-first = on-other P turn unit 0 d e (otherPort P turn) n refl ∙ by (partnerOf 0 e) (partners-first u lu d e od oe ea eb);
+            other-second = on-other P turn unit 1 e d (otherPort P turn) n refl ∙ by (partnerOf 1 d) (partners-second u lu d e od oe ea eb);
+          }
