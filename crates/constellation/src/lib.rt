@@ -1,9 +1,12 @@
 // TS 36.211 7.1: the elements of a modulation order's symbols as numbers, unit + 256 I + 65536 J, in a table by the word of their bits.
 ghost use mathlib.Core.Path.{_≡_};
 ghost use Prim.Native.Nat.{_+_, _*_, _%_, _^_, _≤_, _<_};
+ghost use lib.IntN.{natAbs};
 ghost use lib.ListN.{length, getD};
+ghost use Rattle.base.specs.Bytes.{signedOf};
 ghost use Rattle.constellation.specs.Entries.{threeBytes, byteLess, fourSet, Entries, Elements, Widened};
 ghost use Rattle.constellation.specs.Pairs.{jointOf, partnersOf};
+ghost use Rattle.constellation.specs.Axis.{axisOf, byteFrom, Axis, wordOf};
 
 fn word(x: u8) -> u32
     ensures { λ r. ⌜ (r ≡ x) × (r < 256) ⌝ }
@@ -132,4 +135,59 @@ pub fn partners(a: u64, b: u64) -> u64
     ensures { λ r. ⌜ r ≡ partnersOf a b ⌝ }
 {
     joint(b, a) ^ 0xFE000000FE00
+}
+
+fn size(b: u32) -> u32
+    requires { ⌜ b < 256 ⌝ }
+    ensures { λ r. ⌜ (r ≡ natAbs (signedOf b)) × (r ≤ 128) ⌝ }
+{
+    if b < 128 { b } else { 256 - b }
+}
+
+// The n bits of a level, given as a byte, at every second place of a word. First the sign, then the bits of 2 ^ (n - 1) less its size; a
+// level that no bits have gets some bits.
+fn axis_bits(n: u32, b: u32) -> u8
+    requires { ⌜ (n ≤ 4) × (b < 256) × (natAbs (signedOf b) ≤ 16) ⌝ }
+    ensures { λ r. ⌜ r ≡ axisOf n b ⌝ }
+{
+    let mut m: u32 = 0;
+    let mut z = b;
+    let mut k = n;
+    while 0 < k {
+        k -= 1;
+        m = 4 * m + z / 128;
+        z = less(power(k), size(z));
+    }
+    m as u8
+}
+
+// The byte of a level from -16 to 15 by its five lowest bits.
+fn byte_from(x: u32) -> u32
+    requires { ⌜ x < 32 ⌝ }
+    ensures { λ r. ⌜ (r ≡ byteFrom x) × (r < 256) × (natAbs (signedOf r) ≤ 16) ⌝ }
+{
+    if x < 16 { x } else { x + 224 }
+}
+
+// For each level of an order its bits, at every second place of a word, by the level's five lowest bits.
+pub fn set_axis(d: &mut [u8; 32], q: u32)
+    requires { ⌜ (length (now d) ≡ 32) × (q ≤ 8) ⌝ }
+    ensures { λ _. ⌜ Axis q (now (d .exit)) ⌝ }
+{
+    let mut x: u32 = 0;
+    while x < 32 {
+        let at = x as usize;
+        d[at] = axis_bits(q / 2, byte_from(x));
+        x += 1;
+    }
+}
+
+// The word of an element's symbol. An element that no symbol has gets some word: its number is not that word's.
+pub fn symbol_of(d: &[u8; 32], v: u64) -> u64
+    ensures { λ r. ⌜ r ≡ wordOf (now (d .entry)) v ⌝ }
+{
+    let i = (v / 256 % 32) as usize;
+    let j = (v / 65536 % 32) as usize;
+    let a = word(d[i]);
+    wide(2 * a + word(d[j]))
 }
