@@ -96,7 +96,7 @@ joint-few : (a b : ℕ) → a < 16777216 → b < 16777216 → jointOf a b < 2814
 joint-few a b la lb = omega arith
 
 module _ {a b : ℕ} (la : a < 16777216) (lb : b < 16777216) where
-  pub pair-few : (jointOf a b < 281474976710656) × (partnersOf a b < 281474976710656)
+  pair-few : (jointOf a b < 281474976710656) × (partnersOf a b < 281474976710656)
   pair-few = (joint-few a b la lb, xor-lt 48 (jointOf b a) minusBits (joint-few b a lb la) (omega arith))
 
   joint-low : elementFrom (jointOf a b) ≡ elementFrom a
@@ -163,20 +163,14 @@ module _ {q u : ℕ} {t : List ℕ} (s : Elements q u t) (some : 2 ≤ q) (few :
 
   module _ (P turn unit : ℕ) (on : u ≡ unitOn P unit) where
     -- a place's own symbol, beside any other
-    pub own-value : (w odd : ℕ) (f : Pair) → onPort P turn unit odd (symbolOf q w) f (ownPort P turn) ≡ elementFrom (getD t (w % 256) 0)
-    own-value w odd f =
+    pub own-value : (w odd : ℕ) (f : Pair) {v : ℕ} → v ≡ getD t (w % 256) 0 → onPort P turn unit odd (symbolOf q w) f (ownPort P turn) ≡ elementFrom v
+    own-value w odd f ev =
         on-own P turn unit odd (symbolOf q w) f (ownPort P turn) refl
         ∙ ap (λ (y : ℕ). elementOf y (symbolOf q w)) (sym on)
-        ∙ sym (one-element u lu (symbolOf q w) (symbol-levels q w some few) (entry-of s few w))
+        ∙ sym (one-element u lu (symbolOf q w) (symbol-levels q w some few) (ev ∙ entry-of s few w))
 
     -- THE LAW OF PAIRS
-    module _ (many : 2 ≤ P) (w x : ℕ) where
-      abbrev a : ℕ
-      a = getD t (w % 256) 0
-
-      abbrev b : ℕ
-      b = getD t (x % 256) 0
-
+    module _ (many : 2 ≤ P) (w x : ℕ) {a b : ℕ} (ea : a ≡ getD t (w % 256) 0) (eb : b ≡ getD t (x % 256) 0) where
       abbrev d : Pair
       d = symbolOf q w
 
@@ -192,14 +186,18 @@ module _ {q u : ℕ} {t : List ℕ} (s : Elements q u t) (some : 2 ≤ q) (few :
       by : {y : Element} (f : Pair) → y ≡ elementOf u f → elementOf (unitOn P unit) f ≡ y
       by f h = ap (λ (y : ℕ). elementOf y f) (sym on) ∙ sym h
 
-      pub pair-values : PairValues P turn unit d e (jointOf a b) (partnersOf a b)
-      pair-values =
-          let ea = entry-of s few w in
-          let eb = entry-of s few x in
+      pub pair-values : {v y : ℕ} → v ≡ jointOf a b → y ≡ partnersOf a b → PairValues P turn unit d e v y
+      pair-values ev ey =
+          let na = ea ∙ entry-of s few w in
+          let nb = eb ∙ entry-of s few x in
           let n = other-apart P turn many in
-          record {
-            own-first = on-own P turn unit 0 d e (ownPort P turn) refl ∙ by d (joint-first u lu d e od oe ea eb);
-            own-second = on-own P turn unit 1 e d (ownPort P turn) refl ∙ by e (joint-second u lu d e od oe ea eb);
-            other-first = on-other P turn unit 0 d e (otherPort P turn) n refl ∙ by (partnerOf 0 e) (partners-first u lu d e od oe ea eb);
-            other-second = on-other P turn unit 1 e d (otherPort P turn) n refl ∙ by (partnerOf 1 d) (partners-second u lu d e od oe ea eb);
-          }
+          let l = pair-few (one-few u lu d od na) (one-few u lu e oe nb) in
+          rw (ev, ey)
+          (record {
+            own-first = on-own P turn unit 0 d e (ownPort P turn) refl ∙ by d (joint-first u lu d e od oe na nb);
+            own-second = on-own P turn unit 1 e d (ownPort P turn) refl ∙ by e (joint-second u lu d e od oe na nb);
+            other-first = on-other P turn unit 0 d e (otherPort P turn) n refl ∙ by (partnerOf 0 e) (partners-first u lu d e od oe na nb);
+            other-second = on-other P turn unit 1 e d (otherPort P turn) n refl ∙ by (partnerOf 1 d) (partners-second u lu d e od oe na nb);
+            own-few = l .0;
+            other-few = l .1;
+          })

@@ -1,5 +1,5 @@
 -- For the inner contracts and loops only: two elements as one number, and a pair of places on its two ports as two numbers.
-use Prim.Native.Nat.{ℕ, _+_, _*_, _%_, _≤_}
+use Prim.Native.Nat.{ℕ, _+_, _*_, _%_, _≤_, _<_}
 use mathlib.Core.Path.{_≡_}
 use lib.Bits.{bitXor}
 use lib.IntN.{natAbs}
@@ -24,9 +24,11 @@ pub record OddLevels (d : Pair) : Type 0 where
   pub odd-re : natAbs (d .re) % 2 ≡ 1
   pub odd-im : natAbs (d .im) % 2 ≡ 1
 
--- the elements of two places with the symbols d and e: v on the own port, w on the other
+-- the elements of two places with the symbols d and e: v on the own port, w on the other, and neither has other bits
 pub record PairValues (P turn unit : ℕ) (d e : Pair) (v w : ℕ) : Type 0 where
   pub own-first : onPort P turn unit 0 d e (ownPort P turn) ≡ elementFrom v
   pub own-second : onPort P turn unit 1 e d (ownPort P turn) ≡ elementFrom (upper v)
   pub other-first : onPort P turn unit 0 d e (otherPort P turn) ≡ elementFrom w
   pub other-second : onPort P turn unit 1 e d (otherPort P turn) ≡ elementFrom (upper w)
+  pub own-few : v < 281474976710656
+  pub other-few : w < 281474976710656

@@ -107,14 +107,14 @@ pub fn set_elements(t: &mut [u32; 256], q: u32, unit: u8)
 }
 
 fn wide(x: u32) -> u64
-    ensures { λ r. ⌜ r ≡ x ⌝ }
+    ensures { λ r. ⌜ (r ≡ x) × (r < 4294967296) ⌝ }
 {
     x as u64
 }
 
 // The element of the symbol of a word's lowest bits.
 pub fn number(t: &[u32; 256], w: u64) -> u64
-    ensures { λ r. ⌜ r ≡ getD (now (t .entry)) (w % 256) 0 ⌝ }
+    ensures { λ r. ⌜ (r ≡ getD (now (t .entry)) (w % 256) 0) × (r < 4294967296) ⌝ }
 {
     let x = (w % 256) as usize;
     wide(t[x])
@@ -122,7 +122,7 @@ pub fn number(t: &[u32; 256], w: u64) -> u64
 
 // Two elements as one number.
 pub fn joint(a: u64, b: u64) -> u64
-    requires { ⌜ (a < 16777216) × (b < 16777216) ⌝ }
+    requires { ⌜ (a < 4294967296) × (b < 4294967296) ⌝ }
     ensures { λ r. ⌜ r ≡ jointOf a b ⌝ }
 {
     a + b * 16777216
@@ -131,7 +131,7 @@ pub fn joint(a: u64, b: u64) -> u64
 // What the other port sends beside two symbols: minus the conjugate of the second, then the conjugate of the first. Their levels are
 // odd, so that minus a level exchanges all bits of its byte but the lowest.
 pub fn partners(a: u64, b: u64) -> u64
-    requires { ⌜ (a < 16777216) × (b < 16777216) ⌝ }
+    requires { ⌜ (a < 4294967296) × (b < 4294967296) ⌝ }
     ensures { λ r. ⌜ r ≡ partnersOf a b ⌝ }
 {
     joint(b, a) ^ 0xFE000000FE00
