@@ -1,0 +1,4 @@
+pub mod Bytes
+pub mod Quarters
+pub mod Numbers
+pub mod Axes
