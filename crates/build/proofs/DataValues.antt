@@ -28,8 +28,8 @@ use Rattle.subframe.specs.Elements.{elementFor, ownerBit, pbchFirst, pbchSymbol
 use Rattle.subframe.specs.Grid.{elementNumbered}
 use Rattle.subframe.proofs.Occurs.{pbch-occurs, user-occurs}
 use Rattle.subframe.proofs.OwnerBits.{symbols-of-bits}
-use Rattle.data.specs.Areas.{areaIndex, areaSends, areaElement, pbchArea, userArea}
-use Rattle.data.proofs.AreaOwners.{pbch-place, pbch-index, user-place, user-index}
+use Rattle.areas.specs.Areas.{areaIndex, areaSends, areaElement, pbchArea, userArea}
+use Rattle.areas.proofs.AreaOwners.{pbch-place, pbch-index, user-place, user-index}
 use Rattle.build.specs.Senders.{active, ownerSends}
 use Rattle.build.proofs.Some.{and-true}
 use Rattle.build.proofs.Numbered.{sends-port, placed-is, place-lt, numbered, place-number, index-lt}

@@ -26,9 +26,9 @@ use Rattle.payload.specs.Payload.{pbchBits}
 use Rattle.grid.specs.Writing.{Written}
 use Rattle.subframe.proofs.Acknowledged.{within, distinct}
 use Rattle.subframe.proofs.OwnerBits.{pbch-both}
-use Rattle.data.specs.Areas.{areaCount, areaSends, areaElement, pbchArea, userArea, AreaIn}
-use Rattle.data.specs.declared.Area.{Area}
-use Rattle.data.proofs.AreaOwners.{pbch-count, user-count}
+use Rattle.areas.specs.Areas.{areaCount, areaSends, areaElement, pbchArea, userArea, AreaIn}
+use Rattle.areas.specs.declared.Area.{Area}
+use Rattle.areas.proofs.AreaOwners.{pbch-count, user-count}
 use Rattle.signals.specs.Signals.{crsSends, crsSent}
 use Rattle.signals.specs.Rows.{SignalIn}
 use Rattle.control.specs.Control.{pcfichSends, pcfichSent, phichSends, phichSent}

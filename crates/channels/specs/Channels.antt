@@ -23,7 +23,7 @@ use Rattle.places.specs.Places.{placesOf}
 use Rattle.grid.specs.Writing.{Room}
 use Rattle.payload.specs.Payload.{pbchBits}
 use Rattle.subframe.specs.Elements.{pbchFirst, controlInit, userInit}
-use Rattle.data.specs.Areas.{areaSends, areaElement, pbchArea, userArea}
+use Rattle.areas.specs.Areas.{areaSends, areaElement, pbchArea, userArea}
 use Rattle.signals.specs.Signals.{crsSends, crsSent}
 use Rattle.control.specs.Control.{pcfichSends, pcfichSent, phichSends, phichSent}
 use Rattle.channels.specs.declared.Channel.{Channel}

@@ -2,11 +2,10 @@
 -- Assumes what filling an area needs.
 use Prim.Native.Nat.{ℕ, suc, _+_, _-_, _*_, _/_, _≤_, _<_}
 use mathlib.Core.Path.{_≡_, refl, sym, ap, ap₂, _∙_, subst}
-use mathlib.Core.Bool.{Bool, true, false, _&&_, and-assoc}
+use mathlib.Core.Bool.{Bool, true, false}
 use mathlib.Core.List.{List}
 use native.Mathlib.Nat.{add-zero, suc-mul, mul-le-mul-right}
 use native.Mathlib.Omega.{arith}
-use lib.Dec.{leb, ltb}
 use lib.ListN.{length}
 use Rattle.base.proofs.Tests.{by-test}
 use Rattle.base.proofs.Rows.{row-inside}
@@ -19,31 +18,24 @@ use Rattle.plan.specs.declared.Cell.{Cell}
 use Rattle.layout.specs.Rules.{slotLength}
 use Rattle.layout.specs.Owners.{symbols, carriers}
 use Rattle.layout.proofs.Pilot.{slot-length}
-use Rattle.counts.specs.Users.{taken as takenRow}
 use Rattle.places.specs.Places.{placesOf}
 use Rattle.places.proofs.Numbers.{symbols-most}
 use Rattle.codeword.specs.declared.Stream.{Stream}
 use Rattle.codeword.specs.Streams.{Stands, Begins, Given, Ended}
 use Rattle.codeword.proofs.Laws.{given}
 use Rattle.grid.specs.Writing.{Written}
-use Rattle.data.specs.declared.Area.{Area}
+use Rattle.areas.specs.declared.Area.{Area}
 use Rattle.data.specs.declared.Row.{Row}
 use Rattle.data.specs.declared.Walk.{Walk}
-use Rattle.data.specs.Areas.{areaAt, areaCount, areaSends, areaElement, AreaIn}
+use Rattle.areas.specs.Areas.{areaAt, areaCount, areaSends, areaElement, AreaIn}
 use Rattle.data.specs.Filling.{PlaceIn, Placed, Walked, Begun, Goes}
-use Rattle.data.specs.Rows.{bitOf, Masks, centreOut, leavesRow, RowIn, HalfIn, Stepped}
-use Rattle.data.proofs.AreaPlaces.{leftOut, row-early, row-late, rows-early, rows-late, area-open, area-signal, area-taken}
+use Rattle.areas.specs.Masks.{Masks, centreOut, leavesRow}
+use Rattle.data.specs.Rows.{bitOf, RowIn, HalfIn, Stepped}
+use Rattle.areas.proofs.AreaPlaces.{leftOut, row-early, row-late, rows-early, rows-late, area-open, area-signal, area-taken}
 use Rattle.data.proofs.Walking.{index-all, count-most, stay, skip, skip-one, one, placing, onward, further, begin, end}
-use Rattle.data.proofs.Masks.{taken-centre}
+use Rattle.areas.proofs.Masks.{left-out}
 
 -- ---- a half block
-pub left-out : (a : Area) (s b : ℕ) (out : Bool) → out ≡ leavesRow a s → leftOut a s b ≡ centreOut (a .cell .blocks) out b
-unfolding centreOut
-left-out a s b out e =
-    ap (λ (x : Bool). a .leaves && x) (taken-centre (a .cell) (a .frame) s b)
-    ∙ sym (and-assoc (a .leaves) (takenRow (a .cell) (a .frame) s) (leb (a .cell .blocks) (b + 6) && ltb b (a .cell .blocks + 6)))
-    ∙ ap (λ (x : Bool). x && (leb (a .cell .blocks) (b + 6) && ltb b (a .cell .blocks + 6))) (sym e)
-
 module _ {a : Area} {row : Row} {b q unit : ℕ} {bits : List ℕ} {w : Walk} {g : List ℕ} (i : HalfIn a row b q unit bits w g) where
   abbrev s : ℕ
   s = i .number
@@ -237,10 +229,6 @@ row-made a s slot n mask out f l e d m o =
       mask = m;
       out = o;
     }
-
-pub leaves-taken :
-    (a : Area) (s : ℕ) (t : Bool) → a .leaves ≡ true → t ≡ takenRow (a .cell) (a .frame) s → t ≡ leavesRow a s
-leaves-taken a s t l d = d ∙ rw l refl
 
 -- ---- the loops' ends
 pub six-start : {a : Area} {q unit : ℕ} {bits : List ℕ} {w : Walk} {g : List ℕ} (t : ℕ) → Goes a q unit bits t (t + 0) w g w g

@@ -18,9 +18,9 @@ use Rattle.base.proofs.Counts.{cnt-none, cnt-own, cnt-skip, cnt-most}
 use Rattle.codeword.specs.Streams.{Stands, symbolsOf}
 use Rattle.grid.specs.Writing.{Written, sends, sentAt}
 use Rattle.grid.proofs.Writing.{none, same, over, room-kept}
-use Rattle.data.specs.declared.Area.{Area}
+use Rattle.areas.specs.declared.Area.{Area}
 use Rattle.data.specs.declared.Walk.{Walk}
-use Rattle.data.specs.Areas.{areaAt, areaCount, areaIndex, areaSends, areaElement, AreaIn}
+use Rattle.areas.specs.Areas.{areaAt, areaCount, areaIndex, areaSends, areaElement, AreaIn}
 use Rattle.data.specs.Filling.{PlaceIn, Placed, Walked, Begun, Goes}
 
 -- ---- an element's test

@@ -10,9 +10,9 @@ use Rattle.precoding.specs.Places.{placed}
 use Rattle.places.specs.Places.{placesOf}
 use Rattle.codeword.specs.Streams.{Stands, symbolsOf}
 use Rattle.grid.specs.Writing.{Written, sentAt, Room}
-use Rattle.data.specs.declared.Area.{Area}
+use Rattle.areas.specs.declared.Area.{Area}
 use Rattle.data.specs.declared.Walk.{Walk}
-use Rattle.data.specs.Areas.{areaIndex, areaSends, areaElement, AreaIn}
+use Rattle.areas.specs.Areas.{areaIndex, areaSends, areaElement, AreaIn}
 
 -- The walk stands before place j: its stream, begun with the pair r, has given whole pairs of symbols, and at an odd j the two of
 -- the pair that place j ends are held.

@@ -1,3 +1,2 @@
-pub mod Areas
 pub mod Filling
 pub mod Rows

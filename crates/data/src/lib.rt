@@ -1,32 +1,18 @@
 // Channels that fill their places k first, then s: PBCH and the users (TS 36.211 6.6.4, 6.3.5).
+use areas::Area;
 use base::Pair;
 use codeword::Stream;
 use gold::Registers;
-use plan::Cell;
-use plan::Frame;
-use plan::User;
 ghost use mathlib.Core.Path.{_≡_};
 ghost use mathlib.Core.Bool.{false};
 ghost use Prim.Native.Nat.{_+_, _*_, _≤_, _<_};
 ghost use Rattle.gold.specs.Steps.{after};
 ghost use Rattle.layout.specs.Owners.{symbols, carriers};
 ghost use Rattle.grid.specs.Writing.{Written};
-ghost use Rattle.data.specs.Areas.{areaCount, areaSends, areaElement, AreaIn, pbchArea, userArea};
+ghost use Rattle.areas.specs.Areas.{areaCount, areaSends, areaElement, AreaIn};
+ghost use Rattle.areas.specs.Masks.{centreOut};
 ghost use Rattle.data.specs.Filling.{PlaceIn, Placed, Begun, Goes};
-ghost use Rattle.data.specs.Rows.{bitIf, maskBut, Masks, centreOut, leavesRow, RowIn, HalfIn, Stepped};
-
-// The places of such a channel by half blocks of six subcarriers: rows `first` to `last` - 1, half blocks `from` to `to` - 1, without
-// the reference signals of the ports below `signals` and, if `leaves`, without synchronisation's and PBCH's half blocks.
-pub struct Area {
-    pub cell: Cell,
-    pub frame: Frame,
-    pub first: usize,
-    pub last: usize,
-    pub from: usize,
-    pub to: usize,
-    pub signals: u8,
-    pub leaves: bool,
-}
+ghost use Rattle.data.specs.Rows.{RowIn, HalfIn, Stepped};
 
 // A walk through a channel's places: the stream of its symbols, the index of the next place, and at an odd one the two symbols of
 // the pair that it ends.
@@ -44,83 +30,6 @@ pub struct Row {
     pub places: usize,
     pub mask: u8,
     pub out: bool,
-}
-
-// PBCH's places. Every accepted plan has 15 blocks or more.
-pub fn pbch_area(cell: Cell, frame: Frame) -> Area
-    requires { ⌜ 6 ≤ cell .blocks ⌝ }
-    ensures { λ r. ⌜ r ≡ pbchArea cell frame ⌝ }
-{
-    let slot = layout::slot_length(cell);
-    let blocks = base::wide(cell.blocks);
-    Area {
-        cell: cell,
-        frame: frame,
-        first: slot,
-        last: slot + 4,
-        from: blocks - 6,
-        to: blocks + 6,
-        signals: 4,
-        leaves: false,
-    }
-}
-
-// A user's places.
-pub fn user_area(cell: Cell, frame: Frame, u: User) -> Area
-    ensures { λ r. ⌜ r ≡ userArea cell frame u ⌝ }
-{
-    let first = base::wide(u.first);
-    let count = base::wide(u.count);
-    Area {
-        cell: cell,
-        frame: frame,
-        first: layout::control_symbols(cell, frame),
-        last: 2 * layout::slot_length(cell),
-        from: 2 * first,
-        to: 2 * (first + count),
-        signals: cell.ports,
-        leaves: true,
-    }
-}
-
-// Bit v of six, if it is named.
-fn bit_if(t: bool, v: usize) -> u8
-    requires { ⌜ v < 6 ⌝ }
-    ensures { λ r. ⌜ r ≡ bitIf t v ⌝ }
-{
-    if t { 32 >> (5 - v) } else { 0 }
-}
-
-// All six but bit v, if a, and the bit three further, if b.
-fn mask_but(v: usize, a: bool, b: bool) -> u8
-    requires { ⌜ v < 6 ⌝ }
-    ensures { λ r. ⌜ r ≡ maskBut v a b ⌝ }
-{
-    63 - bit_if(a, v) - bit_if(b, (v + 3) % 6)
-}
-
-// The subcarriers of six in symbol s that have no reference signal of the ports below `signals`: ports 0 and 1 use l = 0 and the
-// third symbol from the slot's end, ports 2 and 3 use l = 1.
-fn row_mask(cell: Cell, signals: u8, s: usize) -> u8
-    requires { ⌜ s < 14 ⌝ }
-    ensures { λ r. ⌜ Masks cell signals s r ⌝ }
-{
-    let slot = layout::slot_length(cell);
-    let identity = cell.identity as usize;
-    let l = layout::in_slot(cell, s);
-    if l == 0 {
-        return mask_but(identity % 6, 0 < signals, 1 < signals);
-    }
-    if l + 3 == slot {
-        return mask_but((identity + 3) % 6, 0 < signals, 1 < signals);
-    }
-    if l == 1 {
-        if s < slot {
-            return mask_but(identity % 6, 2 < signals, 3 < signals);
-        }
-        return mask_but((identity + 3) % 6, 2 < signals, 3 < signals);
-    }
-    63
 }
 
 // Whether half block b is one of the centre's twelve, where those are left out.
@@ -244,17 +153,6 @@ fn fill_half(
     fill_six(w, a, row, b, q, unit, bits, grid)
 }
 
-// Whether the area leaves out the centre of symbol s.
-fn leaves_row(a: Area, s: usize) -> bool
-    requires { ⌜ s < 14 ⌝ }
-    ensures { λ r. ⌜ r ≡ leavesRow a s ⌝ }
-{
-    if a.leaves {
-        return counts::taken(a.cell, a.frame, s);
-    }
-    false
-}
-
 // What is the same for each half block of symbol s.
 pub fn row_of(a: Area, s: usize) -> Row
     requires { ⌜ (a .first ≤ s) × (s < a .last) × (a .last ≤ symbols (a .cell)) ⌝ }
@@ -265,8 +163,8 @@ pub fn row_of(a: Area, s: usize) -> Row
     Row {
         base: s * carriers,
         places: 2 * slot * carriers,
-        mask: row_mask(a.cell, a.signals, s),
-        out: leaves_row(a, s),
+        mask: areas::row_mask(a.cell, a.signals, s),
+        out: areas::leaves_row(a, s),
     }
 }
 

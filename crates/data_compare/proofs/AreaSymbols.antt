@@ -5,8 +5,8 @@ use mathlib.Core.Path.{_≡_}
 use mathlib.Core.Bool.{true}
 use Rattle.places.specs.Places.{placesOf}
 use Rattle.base.proofs.Counts.{cnt-lt, nth-of, nth-is}
-use Rattle.data.specs.declared.Area.{Area}
-use Rattle.data.specs.Areas.{areaAt, areaCount, areaIndex}
+use Rattle.areas.specs.declared.Area.{Area}
+use Rattle.areas.specs.Areas.{areaAt, areaCount, areaIndex}
 use Rattle.data_compare.specs.Symbols.{areaPlace}
 
 module _ (a : Area) where

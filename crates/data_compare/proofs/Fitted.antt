@@ -20,8 +20,8 @@ use Rattle.plan.proofs.Listed.{and-left, and-right}
 use Rattle.grid.specs.Elements.{elementIn}
 use Rattle.compare.specs.Comparing.{sameElement}
 use Rattle.compare.proofs.Comparing.{same-element, element-same}
-use Rattle.data.specs.declared.Area.{Area}
-use Rattle.data.specs.Areas.{areaCount}
+use Rattle.areas.specs.declared.Area.{Area}
+use Rattle.areas.specs.Areas.{areaCount}
 use Rattle.data_compare.specs.Symbols.{areaPlace, areaSymbol, CompareIn}
 use Rattle.data_compare.specs.Fitting.{ownFits, partnerFits, pairFits, placeFits, all, areaFits}
 

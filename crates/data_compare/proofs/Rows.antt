@@ -10,12 +10,14 @@ use Rattle.base.proofs.Tests.{by-test}
 use Rattle.base.proofs.Rows.{row-inside}
 use Rattle.layout.specs.Owners.{symbols, carriers}
 use Rattle.places.specs.Places.{placesOf}
-use Rattle.data.specs.declared.Area.{Area}
+use Rattle.areas.specs.declared.Area.{Area}
 use Rattle.data.specs.declared.Row.{Row}
-use Rattle.data.specs.Areas.{areaAt, AreaIn}
-use Rattle.data.specs.Rows.{bitOf, centreOut, RowIn}
-use Rattle.data.proofs.AreaPlaces.{leftOut, row-early, row-late, rows-early, rows-late, area-open, area-signal, area-taken}
-use Rattle.data.proofs.Rows.{left-out, some, halves-few}
+use Rattle.areas.specs.Areas.{areaAt, AreaIn}
+use Rattle.areas.specs.Masks.{centreOut}
+use Rattle.data.specs.Rows.{bitOf, RowIn}
+use Rattle.areas.proofs.AreaPlaces.{leftOut, row-early, row-late, rows-early, rows-late, area-open, area-signal, area-taken}
+use Rattle.areas.proofs.Masks.{left-out}
+use Rattle.data.proofs.Rows.{some, halves-few}
 use Rattle.data_compare.specs.declared.Walk.{Walk}
 use Rattle.data_compare.specs.Fitting.{walkOn, PlaceIn, Walked, HalfIn, Through}
 use Rattle.data_compare.proofs.Walking.{skip, skip-one, placing, one, begin, through}

@@ -10,8 +10,8 @@ use lib.Dec.{eqb}
 use borrow.Author.Tests.{eqb-false}
 use Rattle.base.proofs.Tests.{by-test}
 use Rattle.places.specs.Places.{placesOf}
-use Rattle.data.specs.declared.Area.{Area}
-use Rattle.data.specs.Areas.{areaAt, areaCount, AreaIn}
+use Rattle.areas.specs.declared.Area.{Area}
+use Rattle.areas.specs.Areas.{areaAt, areaCount, AreaIn}
 use Rattle.data.proofs.Walking.{index-more, index-same, index-none, index-most, index-all}
 use Rattle.data_compare.specs.declared.Walk.{Walk}
 use Rattle.data_compare.specs.Symbols.{areaPlace}

@@ -32,8 +32,8 @@ use Rattle.compare.specs.declared.Seen.the-variants.{Weight, Differs}
 use Rattle.compare.specs.Comparing.{weightOf, weightIn, countBelow}
 use Rattle.compare.proofs.Comparing.{nonzero-one}
 use Rattle.compare.proofs.PortWeights.{port-weight}
-use Rattle.data.specs.declared.Area.{Area}
-use Rattle.data.specs.Areas.{areaAt, areaCount, areaIndex, areaSends, AreaIn}
+use Rattle.areas.specs.declared.Area.{Area}
+use Rattle.areas.specs.Areas.{areaAt, areaCount, areaIndex, areaSends, AreaIn}
 use Rattle.data.proofs.Walking.{count-most}
 use Rattle.data.proofs.Rows.{some}
 use Rattle.data_compare.specs.declared.Walk.{Walk}

@@ -14,9 +14,9 @@ use Rattle.places.specs.Places.{placesOf}
 use Rattle.grid.specs.Elements.{elementIn}
 use Rattle.grid.specs.Writing.{Room}
 use Rattle.compare.specs.Comparing.{sameElement}
-use Rattle.data.specs.declared.Area.{Area}
+use Rattle.areas.specs.declared.Area.{Area}
 use Rattle.data.specs.declared.Row.{Row}
-use Rattle.data.specs.Areas.{areaCount, areaIndex, AreaIn}
+use Rattle.areas.specs.Areas.{areaCount, areaIndex, AreaIn}
 use Rattle.data.specs.Rows.{RowIn}
 use Rattle.data_compare.specs.declared.Walk.{Walk}
 use Rattle.data_compare.specs.Symbols.{areaPlace}

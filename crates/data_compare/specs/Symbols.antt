@@ -16,8 +16,8 @@ use Rattle.grid.specs.Elements.{elementIn}
 use Rattle.compare.specs.declared.Seen.{Seen}
 use Rattle.compare.specs.declared.Seen.the-variants.{Weight, Differs}
 use Rattle.compare.specs.Comparing.{Holds, weightIn}
-use Rattle.data.specs.declared.Area.{Area}
-use Rattle.data.specs.Areas.{areaAt, areaCount, areaIndex, areaSends, AreaIn}
+use Rattle.areas.specs.declared.Area.{Area}
+use Rattle.areas.specs.Areas.{areaAt, areaCount, areaIndex, areaSends, AreaIn}
 
 -- the area's place of index j
 unfoldable pub areaPlace : Area → ℕ → ℕ

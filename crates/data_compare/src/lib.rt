@@ -1,8 +1,8 @@
 // PBCH and the users in a grid, compared in place: whether each place holds a constellation point, and the other port its
 // partner (TS 36.211 6.6, 6.3). The bits themselves are read later, when the whole grid is known to be some payload's.
+use areas::Area;
 use base::Element;
 use compare::Seen;
-use data::Area;
 use data::Row;
 ghost use mathlib.Core.Path.{_≡_};
 ghost use mathlib.Core.Bool.{false, cond};
@@ -11,8 +11,8 @@ ghost use lib.Dec.{eqb};
 ghost use Rattle.modulation.specs.Symbols.{Order};
 ghost use Rattle.layout.specs.Owners.{carriers};
 ghost use Rattle.grid.specs.Writing.{Room};
-ghost use Rattle.data.specs.Areas.{AreaIn};
-ghost use Rattle.data.specs.Rows.{centreOut};
+ghost use Rattle.areas.specs.Areas.{AreaIn};
+ghost use Rattle.areas.specs.Masks.{centreOut};
 ghost use Rattle.data_compare.specs.Symbols.{AreaCompared, CompareIn};
 ghost use Rattle.data_compare.specs.Fitting.{ownFits, partnerFits, pairFits, walkOn, PlaceIn, Walked, HalfIn, Through};
 

@@ -24,8 +24,8 @@ use Rattle.subframe.specs.Elements.{pbchFirst, userInit}
 use Rattle.subframe.proofs.OwnerBits.{pbch-size}
 use Rattle.recovery.specs.Recovery.{wordOf, symbolIn, dataBit, pbchBit, userBit, sectionOf}
 use Rattle.recovery.proofs.Channels.{pbch-length}
-use Rattle.data.specs.Areas.{areaAt, areaCount, pbchArea, userArea}
-use Rattle.data.proofs.AreaOwners.{pbch-place, user-place, pbch-count, user-count}
+use Rattle.areas.specs.Areas.{areaAt, areaCount, pbchArea, userArea}
+use Rattle.areas.proofs.AreaOwners.{pbch-place, user-place, pbch-count, user-count}
 use Rattle.data_compare.specs.Symbols.{areaPlace, areaSymbol}
 use Rattle.data_read.specs.Reading.{areaBit}
 

@@ -23,8 +23,8 @@ use Rattle.places.specs.Places.{placesOf}
 use Rattle.grid.specs.Elements.{elementIn}
 use Rattle.grid.proofs.Sending.{own-fits}
 use Rattle.recovery.specs.Recovery.{wordOf, sectionOf}
-use Rattle.data.specs.declared.Area.{Area}
-use Rattle.data.specs.Areas.{areaAt, areaCount}
+use Rattle.areas.specs.declared.Area.{Area}
+use Rattle.areas.specs.Areas.{areaAt, areaCount}
 use Rattle.data.proofs.Walking.{index-all}
 use Rattle.data_compare.specs.Symbols.{areaSymbol}
 use Rattle.data_read.specs.declared.Gather.{Gather}

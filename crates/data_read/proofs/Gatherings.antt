@@ -24,8 +24,8 @@ use Rattle.payload.specs.Sections.{sectionBytes}
 use Rattle.places.specs.Places.{placesOf}
 use Rattle.grid.specs.Elements.{elementIn}
 use Rattle.recovery.specs.Recovery.{wordOf}
-use Rattle.data.specs.declared.Area.{Area}
-use Rattle.data.specs.Areas.{areaAt, areaCount, areaIndex}
+use Rattle.areas.specs.declared.Area.{Area}
+use Rattle.areas.specs.Areas.{areaAt, areaCount, areaIndex}
 use Rattle.data.proofs.Walking.{index-more, index-same, index-none, index-most, count-most}
 use Rattle.data_compare.specs.Symbols.{areaPlace, areaSymbol}
 use Rattle.data_compare.proofs.AreaSymbols.{place-back, index-below}

@@ -14,12 +14,14 @@ use Rattle.layout.specs.Owners.{symbols, carriers}
 use Rattle.payload.specs.Sections.{sectionBytes}
 use Rattle.places.specs.Places.{placesOf}
 use Rattle.recovery.specs.Recovery.{sectionOf}
-use Rattle.data.specs.declared.Area.{Area}
+use Rattle.areas.specs.declared.Area.{Area}
 use Rattle.data.specs.declared.Row.{Row}
-use Rattle.data.specs.Areas.{areaAt, areaCount, AreaIn}
-use Rattle.data.specs.Rows.{bitOf, centreOut, RowIn}
-use Rattle.data.proofs.AreaPlaces.{leftOut, area-open, area-signal, area-taken, row-early, row-late, rows-early, rows-late}
-use Rattle.data.proofs.Rows.{left-out, some, halves-few}
+use Rattle.areas.specs.Areas.{areaAt, areaCount, AreaIn}
+use Rattle.areas.specs.Masks.{centreOut}
+use Rattle.data.specs.Rows.{bitOf, RowIn}
+use Rattle.areas.proofs.AreaPlaces.{leftOut, area-open, area-signal, area-taken, row-early, row-late, rows-early, rows-late}
+use Rattle.areas.proofs.Masks.{left-out}
+use Rattle.data.proofs.Rows.{some, halves-few}
 use Rattle.data_read.specs.declared.Gather.{Gather}
 use Rattle.data_read.specs.Reading.{areaBit, SectionIn}
 use Rattle.data_read.specs.Gathering.{Placed, StepIn, Stepped, LastIn, Lasted, FlushIn, Flushed, Gathered, Begun, Goes, HalfIn, Ended}

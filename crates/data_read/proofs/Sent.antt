@@ -22,7 +22,7 @@ use Rattle.codeword.specs.Codewords.{scrambled}
 use Rattle.codeword.specs.Streams.{outputs}
 use Rattle.codeword.proofs.Laws.{outputs-lt, word-scrambled}
 use Rattle.recovery.specs.Recovery.{wordOf}
-use Rattle.data.specs.declared.Area.{Area}
+use Rattle.areas.specs.declared.Area.{Area}
 use Rattle.data_compare.specs.Symbols.{areaSymbol}
 use Rattle.data_read.specs.Reading.{areaBit}
 use Rattle.data_read.specs.Gathering.{sentBit}

@@ -10,8 +10,8 @@ use Rattle.modulation.specs.Demapping.{demapOf}
 use Rattle.modulation.specs.Marks.{isSymbol}
 use Rattle.codeword.specs.Streams.{outputs}
 use Rattle.recovery.specs.Recovery.{wordOf}
-use Rattle.data.specs.declared.Area.{Area}
-use Rattle.data.specs.Areas.{areaCount, AreaIn}
+use Rattle.areas.specs.declared.Area.{Area}
+use Rattle.areas.specs.Areas.{areaCount, AreaIn}
 use Rattle.data_compare.specs.Symbols.{areaSymbol}
 
 -- bit i with symbols of q bits: its bit of symbol i / q, with the scrambling bit that the pair r gives taken off

@@ -1,6 +1,6 @@
 // The bits of PBCH and of the users, read from a grid (TS 36.211 6.6, 6.3): each channel's section of the payload, symbols two by two
 // and 24 bits at a time.
-use data::Area;
+use areas::Area;
 use data::Row;
 use gold::Registers;
 ghost use mathlib.Core.Path.{_≡_};
@@ -10,8 +10,8 @@ ghost use lib.ListN.{length};
 ghost use Rattle.layout.specs.Owners.{carriers};
 ghost use Rattle.payload.specs.Sections.{sectionBytes};
 ghost use Rattle.recovery.specs.Recovery.{sectionOf};
-ghost use Rattle.data.specs.Rows.{centreOut};
-ghost use Rattle.data.specs.Areas.{areaCount};
+ghost use Rattle.areas.specs.Masks.{centreOut};
+ghost use Rattle.areas.specs.Areas.{areaCount};
 ghost use Rattle.data_read.specs.Reading.{areaBit, SectionIn};
 ghost use Rattle.data_read.specs.Gathering.{bitsAt, SymbolIn, withThree, PushIn, Pushed, PlaceIn, Placed, StepIn, Stepped, LastIn, Lasted, FlushIn, Flushed, Begun, Goes, HalfIn};
 

@@ -25,9 +25,9 @@ use Rattle.subframe.specs.Elements.{userInit}
 use Rattle.subframe.proofs.OwnerBits.{pbch-size, user-order}
 use Rattle.recovery.specs.Recovery.{sectionOf, payloadIn}
 use Rattle.recovery.proofs.Channels.{pbch-length}
-use Rattle.data.specs.declared.Area.{Area}
-use Rattle.data.specs.Areas.{areaCount, pbchArea, userArea}
-use Rattle.data.proofs.AreaOwners.{pbch-in, user-in, pbch-count, user-count}
+use Rattle.areas.specs.declared.Area.{Area}
+use Rattle.areas.specs.Areas.{areaCount, pbchArea, userArea}
+use Rattle.areas.proofs.AreaOwners.{pbch-in, user-in, pbch-count, user-count}
 use Rattle.data_read.specs.Reading.{areaBit, SectionIn}
 use Rattle.data_read.proofs.AreaBits.{pbch-section, user-section}
 use Rattle.control.specs.Reading.{ackFrom, ReadIn}

@@ -26,7 +26,7 @@ fn read_pbch(plan: &[u8], p: Plan, grid: &[u8], payload: &mut [u8])
 {
     if p.frame.subframe == 0 {
         let end = payload::section_bytes(payload::pbch_bits(p.cell, p.frame));
-        let area = data::pbch_area(p.cell, p.frame);
+        let area = areas::pbch_area(p.cell, p.frame);
         data_read::read_area(
             started(p, Channel::Pbch),
             area,
@@ -59,7 +59,7 @@ fn read_users(plan: &[u8], p: Plan, grid: &[u8], payload: &mut [u8])
     while i < p.users.count {
         let u = plan::user_at(plan, at);
         let end = start + payload::section_bytes(payload::user_bits(p.cell, p.frame, u));
-        let area = data::user_area(p.cell, p.frame, u);
+        let area = areas::user_area(p.cell, p.frame, u);
         let r = started(p, Channel::User(u));
         data_read::read_area(r, area, u.order as u32, grid, &mut payload[start..end]);
         start = end;

@@ -37,9 +37,9 @@ use Rattle.subframe.proofs.OwnerBits.{pbch-size, user-order}
 use Rattle.recovery.specs.Recovery.{symbolIn, dataBit, pbchBit, userBit, payloadIn}
 use Rattle.recovery.proofs.Channels.{pbch-length}
 use Rattle.recovery.proofs.Payload.{pbch-bit, user-bit}
-use Rattle.data.specs.declared.Area.{Area}
-use Rattle.data.specs.Areas.{areaAt, areaCount, areaIndex, areaSends, pbchArea, userArea}
-use Rattle.data.proofs.AreaOwners.{pbch-place, pbch-index, user-place, user-index, pbch-count, user-count as area-count}
+use Rattle.areas.specs.declared.Area.{Area}
+use Rattle.areas.specs.Areas.{areaAt, areaCount, areaIndex, areaSends, pbchArea, userArea}
+use Rattle.areas.proofs.AreaOwners.{pbch-place, pbch-index, user-place, user-index, pbch-count, user-count as area-count}
 use Rattle.data_compare.specs.Symbols.{areaPlace, areaSymbol, areaSent, AreaHolds, AreaCompared}
 use Rattle.build.specs.Senders.{active, ownerSends}
 use Rattle.build.proofs.DataValues.{pbch-area, user-area}

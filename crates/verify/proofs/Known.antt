@@ -14,8 +14,8 @@ use Rattle.compare.specs.Comparing.{Holds}
 use Rattle.subframe.specs.Grid.{gridOf}
 use Rattle.subframe.proofs.Occurs.{pbch-occurs, user-occurs}
 use Rattle.recovery.specs.Recovery.{payloadIn}
-use Rattle.data.specs.Areas.{areaCount, pbchArea, userArea}
-use Rattle.data.proofs.AreaOwners.{pbch-count}
+use Rattle.areas.specs.Areas.{areaCount, pbchArea, userArea}
+use Rattle.areas.proofs.AreaOwners.{pbch-count}
 use Rattle.data_compare.specs.Symbols.{areaSymbol}
 use Rattle.build.specs.Senders.{ownerSends}
 use Rattle.verify.specs.Made.{elementDue, Given}

@@ -31,9 +31,9 @@ use Rattle.compare.proofs.Comparing.{none, same, over, few}
 use Rattle.subframe.specs.Elements.{controlInit}
 use Rattle.subframe.proofs.OwnerBits.{user-order}
 use Rattle.recovery.specs.Recovery.{payloadIn}
-use Rattle.data.specs.declared.Area.{Area}
-use Rattle.data.specs.Areas.{areaCount, pbchArea, userArea, AreaIn}
-use Rattle.data.proofs.AreaOwners.{pbch-in, user-in}
+use Rattle.areas.specs.declared.Area.{Area}
+use Rattle.areas.specs.Areas.{areaCount, pbchArea, userArea, AreaIn}
+use Rattle.areas.proofs.AreaOwners.{pbch-in, user-in}
 use Rattle.data_compare.specs.Symbols.{AreaCompared, CompareIn}
 use Rattle.signals.specs.Signals.{crsSends, crsSent, markSends, pssSent, sssSent}
 use Rattle.signals.specs.Rows.{MarkIn, SignalIn}

@@ -68,7 +68,7 @@ fn see_pbch(plan: &[u8], p: Plan, grid: &[u8]) -> Seen
     ensures { λ r. ⌜ Compared (pbchSends (now (plan .entry)) p) (elementDue (now (plan .entry)) p (now (grid .entry))) (now (grid .entry)) r ⌝ }
 {
     if p.frame.subframe == 0 {
-        return data_compare::compare_area(data::pbch_area(p.cell, p.frame), 2, 2, grid);
+        return data_compare::compare_area(areas::pbch_area(p.cell, p.frame), 2, 2, grid);
     }
     Seen::Weight(0)
 }
@@ -113,7 +113,7 @@ fn see_user(plan: &[u8], p: Plan, u: User, grid: &[u8]) -> Seen
 {
     let order = u.order as u32;
     data_compare::compare_area(
-        data::user_area(p.cell, p.frame, u),
+        areas::user_area(p.cell, p.frame, u),
         order,
         modulation::unit(order),
         grid,

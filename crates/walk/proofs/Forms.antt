@@ -11,7 +11,7 @@ use Rattle.base.proofs.Computed.{allBelow, below-at}
 use Rattle.walk.specs.declared.Holes.{Holes}
 use Rattle.walk.specs.Runs.{bitOf, openCount, placeAt}
 use Rattle.walk.specs.Forms.{Holed, Paired, HolesOf, holesWith}
-use Rattle.walk.specs.Forms.{PairForm, six, left, right, apart, SingleForm, paired, hole-0, hole-1, hole-2, hole-3, hole-4, hole-5}
+use Rattle.walk.specs.Forms.{PairForm, all-six, pairs-left, pairs-right, pairs-apart, SingleForm, paired, hole-0, hole-1, hole-2, hole-3, hole-4, hole-5}
 
 -- c of six are open, and the x-th of them is f x
 abbrev pub Opens : ℕ → ℕ → (ℕ → ℕ) → Type 0
@@ -68,10 +68,10 @@ unfolding openCount nth cnt bitOf
 apart-pairs e = rw e (four-pairs 1 0 2 (two-holes 45 1 (omega arith) tt) refl (λ i. omega arith) (λ i. omega arith))
 
 pub form-last : {mask : ℕ} → PairForm mask → (mask ≡ 63 → ⊥) → (mask ≡ 27 → ⊥) → (mask ≡ 54 → ⊥) → mask ≡ 45
-form-last six a b c = absurd (a refl)
-form-last left a b c = absurd (b refl)
-form-last right a b c = absurd (c refl)
-form-last apart a b c = refl
+form-last all-six a b c = absurd (a refl)
+form-last pairs-left a b c = absurd (b refl)
+form-last pairs-right a b c = absurd (c refl)
+form-last pairs-apart a b c = refl
 
 -- ---- the forms on one port, in the code's terms
 pub no-hole : {mask : ℕ} → mask ≡ 63 → HolesOf mask (holesWith 0 0 6)
@@ -94,13 +94,25 @@ holes-one form lead few test e is =
 pub single-last :
     {mask : ℕ} → SingleForm mask → (mask ≡ 63 → ⊥) → (mask ≡ 27 → ⊥) → (mask ≡ 54 → ⊥) → (mask ≡ 45 → ⊥) → (mask ≡ 62 → ⊥) → (mask ≡ 61 → ⊥)
     → (mask ≡ 59 → ⊥) → (mask ≡ 55 → ⊥) → (mask ≡ 47 → ⊥) → mask ≡ 31
-single-last (paired six) a b c d e f g h i = absurd (a refl)
-single-last (paired left) a b c d e f g h i = absurd (b refl)
-single-last (paired right) a b c d e f g h i = absurd (c refl)
-single-last (paired apart) a b c d e f g h i = absurd (d refl)
+single-last (paired all-six) a b c d e f g h i = absurd (a refl)
+single-last (paired pairs-left) a b c d e f g h i = absurd (b refl)
+single-last (paired pairs-right) a b c d e f g h i = absurd (c refl)
+single-last (paired pairs-apart) a b c d e f g h i = absurd (d refl)
 single-last hole-0 a b c d e f g h i = absurd (e refl)
 single-last hole-1 a b c d e f g h i = absurd (f refl)
 single-last hole-2 a b c d e f g h i = absurd (g refl)
 single-last hole-3 a b c d e f g h i = absurd (h refl)
 single-last hole-4 a b c d e f g h i = absurd (i refl)
 single-last hole-5 a b c d e f g h i = refl
+
+pub single-small : {mask : ℕ} → SingleForm mask → mask < 64
+single-small (paired all-six) = omega arith
+single-small (paired pairs-left) = omega arith
+single-small (paired pairs-right) = omega arith
+single-small (paired pairs-apart) = omega arith
+single-small hole-0 = omega arith
+single-small hole-1 = omega arith
+single-small hole-2 = omega arith
+single-small hole-3 = omega arith
+single-small hole-4 = omega arith
+single-small hole-5 = omega arith

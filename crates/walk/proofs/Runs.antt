@@ -8,7 +8,7 @@ use Rattle.base.specs.Counts.{cnt, nth}
 use Rattle.base.proofs.Counts.{cnt-add, cnt-same, nth-is}
 use Rattle.walk.specs.declared.Run.{Run}
 use Rattle.walk.specs.Runs.{bitOf, openCount, runCount, placeAt, Laid, PairsAt}
-use Rattle.walk.specs.Forms.{Paired, PairForm, six, left, right, apart}
+use Rattle.walk.specs.Forms.{Paired, PairForm, all-six, pairs-left, pairs-right, pairs-apart}
 use Rattle.walk.proofs.Forms.{six-pairs, left-pairs, right-pairs, apart-pairs}
 
 -- ---- the k-th place of n half blocks is inside them
@@ -128,10 +128,10 @@ form-even r f = pick (r .mask) f
     twice mask p = omega (arith, pair-count mask (r .halves) p)
 
     pick : (mask : ℕ) → PairForm mask → r .halves * openCount mask % 2 ≡ 0
-    pick _ six = twice 63 (six-pairs refl)
-    pick _ left = twice 27 (left-pairs refl)
-    pick _ right = twice 54 (right-pairs refl)
-    pick _ apart = twice 45 (apart-pairs refl)
+    pick _ all-six = twice 63 (six-pairs refl)
+    pick _ pairs-left = twice 27 (left-pairs refl)
+    pick _ pairs-right = twice 54 (right-pairs refl)
+    pick _ pairs-apart = twice 45 (apart-pairs refl)
 
 pub six-count : (r : Run) → r .mask ≡ 63 → 6 * r .halves ≡ runCount r
 unfolding runCount
@@ -142,7 +142,7 @@ unfolding runCount
 four-count r f n = pick (r .mask) f n
   where
     pick : (mask : ℕ) → PairForm mask → (mask ≡ 63 → ⊥) → 4 * r .halves ≡ r .halves * openCount mask
-    pick _ six n = absurd (n refl)
-    pick _ left n = omega (arith, pair-count 27 (r .halves) (left-pairs refl))
-    pick _ right n = omega (arith, pair-count 54 (r .halves) (right-pairs refl))
-    pick _ apart n = omega (arith, pair-count 45 (r .halves) (apart-pairs refl))
+    pick _ all-six n = absurd (n refl)
+    pick _ pairs-left n = omega (arith, pair-count 27 (r .halves) (left-pairs refl))
+    pick _ pairs-right n = omega (arith, pair-count 54 (r .halves) (right-pairs refl))
+    pick _ pairs-apart n = omega (arith, pair-count 45 (r .halves) (apart-pairs refl))

@@ -18,10 +18,10 @@ pub record Paired (mask off step gap per : ℕ) : Type 0 where
 
 -- the forms of a row on two ports or four: no hole, or two holes, with the pairs between them side by side or around them
 pub data PairForm : ℕ → Type 0 where
-  six : PairForm 63
-  left : PairForm 27
-  right : PairForm 54
-  apart : PairForm 45
+  all-six : PairForm 63
+  pairs-left : PairForm 27
+  pairs-right : PairForm 54
+  pairs-apart : PairForm 45
 
 -- the forms of a row on one port: no hole, one, or PBCH's two
 pub data SingleForm : ℕ → Type 0 where

@@ -1,5 +1,6 @@
 pub mod Runs
 pub mod Forms
 pub mod Tables
+pub mod Spans
 pub mod Parts
 pub mod Addresses

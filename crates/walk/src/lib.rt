@@ -2,10 +2,12 @@
 // a bit for each of six subcarriers that is open, and a list of spans of half blocks: any set, one for each row.
 ghost use mathlib.Core.Path.{_≡_};
 ghost use Prim.Native.Nat.{_+_, _*_, _≤_, _<_};
+ghost use lib.ListN.{length};
 ghost use Rattle.walk.specs.Runs.{runCount};
 ghost use Rattle.walk.specs.Forms.{PairForm, SingleForm, HolesOf, holesWith};
 ghost use Rattle.walk.specs.Addresses.{OffsetsAt};
 ghost use Rattle.walk.specs.Tables.{cursorStart, cursorRun, cursorNext, rowEnd, CursorIn};
+ghost use Rattle.walk.specs.Spans.{SpanPut, RowPut};
 
 // A row and the next of its spans.
 pub struct Cursor {
@@ -76,6 +78,29 @@ pub fn next(c: Cursor, rows: &[u8; 45]) -> Cursor
         s: s + 1,
         i: byte(rows[3 * s + 4]),
     }
+}
+
+// Span n of a table, if it has half blocks; the number of the span after it.
+pub fn put_span(spans: &mut [u8; 512], n: usize, from: usize, to: usize) -> usize
+    requires { ⌜ (length (now spans) ≡ 512) × (n < 256) × (to ≤ 255) ⌝ }
+    ensures { λ r. ⌜ SpanPut n from to (now (spans .entry)) r (now (spans .exit)) ⌝ }
+{
+    if from < to {
+        spans[2 * n] = from as u8;
+        spans[2 * n + 1] = to as u8;
+        return n + 1;
+    }
+    n
+}
+
+// Row s of a table: its form, its first span, and the one after its last.
+pub fn put_row(rows: &mut [u8; 45], s: usize, mask: u8, first: usize, end: usize)
+    requires { ⌜ (length (now rows) ≡ 45) × (s ≤ 14) × (first ≤ 255) × (end ≤ 255) ⌝ }
+    ensures { λ _. ⌜ RowPut s mask first end (now (rows .entry)) (now (rows .exit)) ⌝ }
+{
+    rows[3 * s] = mask;
+    rows[3 * s + 1] = first as u8;
+    rows[3 * s + 2] = end as u8;
 }
 
 // How many places a run has.

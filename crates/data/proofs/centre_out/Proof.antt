@@ -1,5 +1,5 @@
 -- The test for the centre's half blocks: one law for each return.
-use Rattle.data.proofs.Masks.{centre-high, centre-low, centre-in}
+use Rattle.areas.proofs.Masks.{centre-high, centre-low, centre-in}
 use borrow.Author.Needs.{needs}
 use Rattle.data.proofs.centre_out.Statement.{statement}
 use Rattle.data.proofs.centre_out.Tie as tie

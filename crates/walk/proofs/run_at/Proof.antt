@@ -68,8 +68,11 @@ returns c =
     let c4 = c .before .before .before .before in
     let c5 = c .before .before .before .before .before in
     let c7 = c .before .before .before .before .before .before .before in
-    let c9 = c .before .before .before .before .before .before .before .before .before in
-    (span-run (c9 .args .rows .now) (c9 .args .c) (c5 .byte2 .ensures .0) (c9 .args .carriers) (c9 .args .spans .now) (c4 .if1 .taken) (c7 .byte .ensures .0) (c2 .byte3 .ensures .0) (c .byte4 .ensures .0), omega (arith, c .byte4 .ensures .1))
+    let c9 = c .before .before .before .before .before .before .before .before .before in (
+      span-run (c9 .args .rows .now) (c9 .args .c) (c5 .byte2 .ensures .0) (c9 .args .carriers) (c9 .args .spans .now) (c4 .if1 .taken)
+          (c7 .byte .ensures .0) (c2 .byte3 .ensures .0) (c .byte4 .ensures .0),
+      omega (arith, c .byte4 .ensures .1),
+    )
 
 returns-2 : tie.Need-returns-2
 returns-2 c =

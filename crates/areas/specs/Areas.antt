@@ -19,7 +19,7 @@ use Rattle.places.specs.Places.{symbolAt, carrierAt, placesOf}
 use Rattle.places.specs.Halves.{without, takenHalf}
 use Rattle.codeword.specs.Streams.{symbolsOf}
 use Rattle.grid.specs.Writing.{sends, Room}
-use Rattle.data.specs.declared.Area.{Area}
+use Rattle.areas.specs.declared.Area.{Area}
 
 -- the area has the place (s, k): rows `first` to `last` - 1, half blocks `from` to `to` - 1, without the reference signals of the
 -- ports below `signals` and, where it leaves them out, without half blocks that are synchronisation's or PBCH's

@@ -1,9 +1,9 @@
 -- All six bits but two. The two are different, so that neither difference goes below 0.
 use native.Mathlib.Omega.{arith}
-use Rattle.data.proofs.Masks.{bits-room, bit-most, mask-is}
+use Rattle.areas.proofs.Masks.{bits-room, bit-most, mask-is}
 use borrow.Author.Needs.{needs}
-use Rattle.data.proofs.mask_but.Statement.{statement}
-use Rattle.data.proofs.mask_but.Tie as tie
+use Rattle.areas.proofs.mask_but.Statement.{statement}
+use Rattle.areas.proofs.mask_but.Tie as tie
 
 bit-if-requires : tie.Need-bit-if-requires
 bit-if-requires c κs = search needs
@@ -18,10 +18,16 @@ bit-if-requires-2 : tie.Need-bit-if-requires-2
 bit-if-requires-2 c κs = search needs
 
 sub-result-2 : tie.Need-sub-result-2
-sub-result-2 c = omega (arith, bits-room (c .before .before .args .v) (c .before .bit-if .result) (c .bit-if2 .result) (c .before .before .args .a) (c .before .before .args .b) (c .before .bit-if .ensures) (c .bit-if2 .ensures) (c .before .before .pre))
+sub-result-2 c =
+    let c2 = c .before .before in
+    omega
+    (arith, bits-room (c2 .args .v) (c .before .bit-if .result) (c .bit-if2 .result) (c2 .args .a) (c2 .args .b) (c .before .bit-if .ensures) (c .bit-if2 .ensures) (c2 .pre))
 
 returns : tie.Need-returns
-returns c = mask-is (c .before .before .args .v) (c .before .bit-if .result) (c .bit-if2 .result) (c .before .before .args .a) (c .before .before .args .b) (c .before .bit-if .ensures) (c .bit-if2 .ensures)
+returns c =
+    let c2 = c .before .before in
+    mask-is (c2 .args .v) (c .before .bit-if .result) (c .bit-if2 .result) (c2 .args .a) (c2 .args .b) (c .before .bit-if .ensures)
+    (c .bit-if2 .ensures)
 
 pub mask-but-spec : {M : Type 1} → statement M
 mask-but-spec =

@@ -1,10 +1,11 @@
 -- The subcarriers of six that have no reference signal, as the bits of a number; and the half blocks of the centre.
 -- Assumes a slot of six symbols or more.
-use Prim.Native.Nat.{ℕ, suc, _+_, _-_, _*_, _/_, _%_, _^_, _≤_, _<_}
+use Prim.Native.Nat.{ℕ, zero, suc, _+_, _-_, _*_, _/_, _%_, _^_, _≤_, _<_}
 use mathlib.Core.Path.{_≡_, refl, sym, ap, ap₂, _∙_}
 use mathlib.Core.Logic.{inl, inr}
-use mathlib.Core.Bool.{Bool, true, false, not, cond, _&&_, _||_, and-false, and-true}
+use mathlib.Core.Bool.{Bool, true, false, not, cond, _&&_, _||_, and-assoc, and-false, and-true}
 use native.Mathlib.Nat.{div-le-self}
+use native.Mathlib.Decide.{decLe, ℕ-discrete}
 use native.Mathlib.Omega.{arith}
 use lib.Dec.{leb, ltb, eqb, eqb→eq, T}
 use borrow.Author.Tests.{le-leb, lt-leb, lt-ltb, le-ltb, eq-eqb, ne-eqb, leb-true}
@@ -14,10 +15,15 @@ use Rattle.plan.specs.declared.Frame.{Frame}
 use Rattle.base.specs.Choice.{one}
 use Rattle.layout.specs.Rules.{inSyncArea, slotLength, slotOf, inSlot, crsShift, marked, middle, inPbchArea}
 use Rattle.counts.specs.Users.{taken as takenRow}
-use Rattle.places.specs.Halves.{takenHalf}
+use Rattle.places.specs.Halves.{without, takenHalf}
 use Rattle.places.proofs.Halves.{first-at, last-at, none-at, not-second}
-use Rattle.data.specs.Rows.{bitIf, maskBut, bitOf, Masks, centreOut}
-use Rattle.data.proofs.AreaPlaces.{leb-same}
+use Rattle.walk.specs.Forms.{PairForm, all-six, pairs-left, pairs-right, pairs-apart, SingleForm, paired, hole-0, hole-1, hole-2, hole-3, hole-4, hole-5}
+use Rattle.areas.specs.declared.Area.{Area}
+use Rattle.areas.specs.Masks.{bitIf, maskBut, Masks, centreOut, leavesRow}
+use Rattle.areas.proofs.AreaPlaces.{leb-same, leftOut}
+
+abbrev bitOf : ℕ → ℕ → Bool
+bitOf mask r = eqb (mask / 2 ^ r % 2) 1
 
 pub bit-most : (t : Bool) (v : ℕ) → bitIf t v ≤ 32
 unfolding bitIf
@@ -49,6 +55,55 @@ but-bits v h a b r l =
     one-same (bitOf (maskBut v a b) r) (butTest v a b r)
     (eqb→eq _ _ (below-at (λ (r : ℕ). eqb (one (bitOf (63 - cond a (32 / 2 ^ (5 - v)) 0 - cond b (32 / 2 ^ (5 - (v + 3) % 6)) 0) r)) (one (butTest v a b r))) 6 (below-at (Right a b) 6 (right a b) v h) r l))
 
+-- ---- the form of a mask with the holes of two ports, of the first only, or of none
+hole-first : (v : ℕ) → v < 6 → SingleForm (maskBut v true false)
+unfolding maskBut bitIf
+hole-first zero h = hole-0
+hole-first (suc zero) h = hole-1
+hole-first (suc (suc zero)) h = hole-2
+hole-first (suc (suc (suc zero))) h = hole-3
+hole-first (suc (suc (suc (suc zero)))) h = hole-4
+hole-first (suc (suc (suc (suc (suc zero))))) h = hole-5
+hole-first (suc (suc (suc (suc (suc (suc v)))))) h = absurd (omega arith)
+
+holes-both : (v : ℕ) → v < 6 → PairForm (maskBut v true true)
+unfolding maskBut bitIf
+holes-both zero h = pairs-right
+holes-both (suc zero) h = pairs-apart
+holes-both (suc (suc zero)) h = pairs-left
+holes-both (suc (suc (suc zero))) h = pairs-right
+holes-both (suc (suc (suc (suc zero)))) h = pairs-apart
+holes-both (suc (suc (suc (suc (suc zero))))) h = pairs-left
+holes-both (suc (suc (suc (suc (suc (suc v)))))) h = absurd (omega arith)
+
+module _ (v x P : ℕ) (h : v < 6) where
+  abbrev portsMask : ℕ
+  portsMask = maskBut v (ltb x P) (ltb (suc x) P)
+
+  neither-port : P ≤ x → PairForm portsMask
+  unfolding maskBut bitIf
+  neither-port l = rw (le-ltb x P l, le-ltb (suc x) P (omega arith)) all-six
+
+  both-ports : suc x < P → PairForm portsMask
+  both-ports l = rw (lt-ltb x P (omega arith), lt-ltb (suc x) P l) (holes-both v h)
+
+  first-port : P ≡ suc x → SingleForm portsMask
+  first-port e = rw (lt-ltb x P (omega arith), le-ltb (suc x) P (omega arith)) (hole-first v h)
+
+  form-pairs : (P ≡ suc x → ⊥) → PairForm portsMask
+  form-pairs n = pick (decLe P x)
+    where
+      pick : Dec (P ≤ x) → PairForm portsMask
+      pick (yes l) = neither-port l
+      pick (no l) = both-ports (omega arith)
+
+  form-single : SingleForm portsMask
+  form-single = pick (ℕ-discrete P (suc x))
+    where
+      pick : Dec (P ≡ suc x) → SingleForm portsMask
+      pick (yes e) = first-port e
+      pick (no n) = paired (form-pairs n)
+
 -- ---- a row's mask
 module _ (c : Cell) (P s : ℕ) where
   abbrev l : ℕ
@@ -60,12 +115,23 @@ module _ (c : Cell) (P s : ℕ) where
   abbrev C : ℕ
   C = c .identity
 
+  -- by the tests of its six bits
+  but-mask :
+      (v x : ℕ) → v < 6 → (2 ≤ P → (P ≡ 3 → ⊥) → P ≡ suc x → ⊥)
+      → ((r : ℕ) → without c P s r ≡ butTest v (ltb x P) (ltb (suc x) P) r) → Masks c P s (maskBut v (ltb x P) (ltb (suc x) P))
+  but-mask v x h ports e =
+      record {
+        bits = λ r k. but-bits v h (ltb x P) (ltb (suc x) P) r k ∙ sym (e r);
+        single = form-single v x P h;
+        pairs = λ m n. form-pairs v x P h (ports m n);
+      }
+
   pub mask-first : l ≡ 0 → Masks c P s (maskBut (C % 6) (ltb 0 P) (ltb 1 P))
   unfolding crsShift
   mask-first e =
       let t = eq-eqb l 0 e in
       let k : (0 + C) % 6 ≡ C % 6 = omega arith in
-      record { bits = λ r h. but-bits (C % 6) (omega arith) (ltb 0 P) (ltb 1 P) r h ∙ sym (first-at c P s (rw t refl) (not-second c P s (inl t)) r ∙ (rw (t, k) refl)) }
+      but-mask (C % 6) 0 (omega arith) (λ m n q. omega arith) (λ r. first-at c P s (rw t refl) (not-second c P s (inl t)) r ∙ (rw (t, k) refl))
 
   pub mask-third : (l ≡ 0 → ⊥) → l + 3 ≡ L → Masks c P s (maskBut ((C + 3) % 6) (ltb 0 P) (ltb 1 P))
   unfolding crsShift
@@ -73,7 +139,7 @@ module _ (c : Cell) (P s : ℕ) where
       let t = eq-eqb (l + 3) L e in
       let f = ne-eqb l 0 n in
       let k : (3 + C) % 6 ≡ (C + 3) % 6 = omega arith in
-      record { bits = λ r h. but-bits ((C + 3) % 6) (omega arith) (ltb 0 P) (ltb 1 P) r h ∙ sym (first-at c P s (rw (f, t) refl) (not-second c P s (inr t)) r ∙ (rw (f, k) refl)) }
+      but-mask ((C + 3) % 6) 0 (omega arith) (λ m n q. omega arith) (λ r. first-at c P s (rw (f, t) refl) (not-second c P s (inr t)) r ∙ (rw (f, k) refl))
 
   module _ (n : l ≡ 0 → ⊥) (m : l + 3 ≡ L → ⊥) where
     neither : eqb l 0 || eqb (l + 3) L ≡ false
@@ -83,16 +149,21 @@ module _ (c : Cell) (P s : ℕ) where
     unfolding crsShift slotOf
     mask-second e f =
         let k : (0 + C) % 6 ≡ C % 6 = omega arith in
-        record { bits = λ r h. but-bits (C % 6) (omega arith) (ltb 2 P) (ltb 3 P) r h ∙ sym (last-at c P s neither (eq-eqb l 1 e) r ∙ (rw (lt-ltb s L f, k) refl)) }
+        but-mask (C % 6) 2 (omega arith) (λ m n. n) (λ r. last-at c P s neither (eq-eqb l 1 e) r ∙ (rw (lt-ltb s L f, k) refl))
 
     pub mask-other : l ≡ 1 → L ≤ s → Masks c P s (maskBut ((C + 3) % 6) (ltb 2 P) (ltb 3 P))
     unfolding crsShift slotOf
     mask-other e f =
         let k : (3 + C) % 6 ≡ (C + 3) % 6 = omega arith in
-        record { bits = λ r h. but-bits ((C + 3) % 6) (omega arith) (ltb 2 P) (ltb 3 P) r h ∙ sym (last-at c P s neither (eq-eqb l 1 e) r ∙ (rw (le-ltb s L f, k) refl)) }
+        but-mask ((C + 3) % 6) 2 (omega arith) (λ m n. n) (λ r. last-at c P s neither (eq-eqb l 1 e) r ∙ (rw (le-ltb s L f, k) refl))
 
     pub mask-none : (l ≡ 1 → ⊥) → Masks c P s 63
-    mask-none e = record { bits = λ r h. full r h ∙ sym (none-at c P s neither (ne-eqb l 1 e) r) }
+    mask-none e =
+        record {
+          bits = λ r h. full r h ∙ sym (none-at c P s neither (ne-eqb l 1 e) r);
+          single = paired all-six;
+          pairs = λ m n. all-six;
+        }
       where
         full : (r : ℕ) → r < 6 → bitOf 63 r ≡ true
         full r h = one-same (bitOf 63 r) true (eqb→eq _ _ (below-at (λ (r : ℕ). eqb (one (bitOf 63 r)) 1) 6 tt r h))
@@ -152,3 +223,15 @@ module _ (N b : ℕ) (out : Bool) where
   pub centre-in : out ≡ false → false ≡ centreOut N out b
   unfolding centreOut
   centre-in e = rw e refl
+
+-- ---- a half block that an area leaves out
+pub left-out : (a : Area) (s b : ℕ) (out : Bool) → out ≡ leavesRow a s → leftOut a s b ≡ centreOut (a .cell .blocks) out b
+unfolding centreOut
+left-out a s b out e =
+    ap (λ (x : Bool). a .leaves && x) (taken-centre (a .cell) (a .frame) s b)
+    ∙ sym (and-assoc (a .leaves) (takenRow (a .cell) (a .frame) s) (leb (a .cell .blocks) (b + 6) && ltb b (a .cell .blocks + 6)))
+    ∙ ap (λ (x : Bool). x && (leb (a .cell .blocks) (b + 6) && ltb b (a .cell .blocks + 6))) (sym e)
+
+pub leaves-taken :
+    (a : Area) (s : ℕ) (t : Bool) → a .leaves ≡ true → t ≡ takenRow (a .cell) (a .frame) s → t ≡ leavesRow a s
+leaves-taken a s t l d = d ∙ rw l refl

@@ -12,8 +12,8 @@ use Rattle.layout.specs.Owners.{carriers}
 use Rattle.places.specs.Places.{symbolAt, carrierAt}
 use Rattle.places.specs.Halves.{without, takenHalf}
 use Rattle.places.proofs.Numbers.{place-symbol, place-carrier, place-both, carrier-inside}
-use Rattle.data.specs.declared.Area.{Area}
-use Rattle.data.specs.Areas.{areaHas, areaAt}
+use Rattle.areas.specs.declared.Area.{Area}
+use Rattle.areas.specs.Areas.{areaHas, areaAt}
 
 -- two tests that say the same
 pub leb-same : (a b c d : ℕ) → (a ≤ b → c ≤ d) → (c ≤ d → a ≤ b) → leb a b ≡ leb c d

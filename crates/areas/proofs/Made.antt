@@ -7,8 +7,8 @@ use Rattle.plan.specs.declared.Frame.{Frame}
 use Rattle.plan.specs.declared.User.{User}
 use Rattle.layout.specs.Owners.{controlSymbols}
 use Rattle.layout.specs.Rules.{slotLength}
-use Rattle.data.specs.declared.Area.{Area}
-use Rattle.data.specs.Areas.{pbchArea, userArea}
+use Rattle.areas.specs.declared.Area.{Area}
+use Rattle.areas.specs.Areas.{pbchArea, userArea}
 
 module _ (c : Cell) (f : Frame) (slot : ℕ) (is-slot : slot ≡ slotLength c) where
   pub pbch-made :

@@ -1,8 +1,8 @@
 -- Whether the centre of a symbol is left out: one law for each return.
-use Rattle.data.proofs.Rows.{leaves-taken}
+use Rattle.areas.proofs.Masks.{leaves-taken}
 use borrow.Author.Needs.{needs}
-use Rattle.data.proofs.leaves_row.Statement.{statement}
-use Rattle.data.proofs.leaves_row.Tie as tie
+use Rattle.areas.proofs.leaves_row.Statement.{statement}
+use Rattle.areas.proofs.leaves_row.Tie as tie
 
 taken-requires : tie.Need-taken-requires
 taken-requires c κs = c .before .pre

@@ -1,10 +1,10 @@
 -- PBCH's area is the one that the specs name.
 use native.Mathlib.Omega.{arith}
-use Rattle.data.proofs.Made.{pbch-made}
+use Rattle.areas.proofs.Made.{pbch-made}
 use borrow.Author.Needs.{needs}
-use Rattle.data.proofs.pbch_area.Statement.{statement}
+use Rattle.areas.proofs.pbch_area.Statement.{statement}
 use Rattle.layout.proofs.Pilot.{slot-length}
-use Rattle.data.proofs.pbch_area.Tie as tie
+use Rattle.areas.proofs.pbch_area.Tie as tie
 
 slot-length-requires : tie.Need-slot-length-requires
 slot-length-requires c κs = search needs
@@ -22,7 +22,10 @@ add-t7 : tie.Need-add-t7
 add-t7 c = search needs
 
 returns : tie.Need-returns
-returns c = pbch-made (c .before .before .args .cell) (c .before .before .args .frame) (c .before .slot-length .result) (c .before .slot-length .ensures) (c .wide .result) (c .wide .ensures)
+returns c =
+    let c2 = c .before .before in
+    pbch-made (c2 .args .cell) (c2 .args .frame) (c .before .slot-length .result) (c .before .slot-length .ensures) (c .wide .result)
+    (c .wide .ensures)
 
 pub pbch-area-spec : {M : Type 1} → statement M
 pbch-area-spec =

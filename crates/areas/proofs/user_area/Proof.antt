@@ -1,10 +1,10 @@
 -- A user's area is the one that the specs name.
 use native.Mathlib.Omega.{arith}
-use Rattle.data.proofs.Made.{user-made}
+use Rattle.areas.proofs.Made.{user-made}
 use borrow.Author.Needs.{needs}
-use Rattle.data.proofs.user_area.Statement.{statement}
+use Rattle.areas.proofs.user_area.Statement.{statement}
 use Rattle.layout.proofs.Pilot.{slot-length}
-use Rattle.data.proofs.user_area.Tie as tie
+use Rattle.areas.proofs.user_area.Tie as tie
 
 wide-requires : tie.Need-wide-requires
 wide-requires c κs = search needs
@@ -31,7 +31,12 @@ mul-t11 : tie.Need-mul-t11
 mul-t11 c = search needs
 
 returns : tie.Need-returns
-returns c = user-made (c .before .before .before .before .args .cell) (c .before .before .before .before .args .frame) (c .slot-length .result) (c .slot-length .ensures) (c .before .before .before .before .args .u) (c .before .control-symbols .result) (c .before .before .before .wide .result) (c .before .before .wide2 .result) (c .before .control-symbols .ensures) (c .before .before .before .wide .ensures) (c .before .before .wide2 .ensures)
+returns c =
+    let c2 = c .before .before in
+    let c3 = c .before .before .before in
+    let c4 = c .before .before .before .before in
+    user-made (c4 .args .cell) (c4 .args .frame) (c .slot-length .result) (c .slot-length .ensures) (c4 .args .u) (c .before .control-symbols .result)
+    (c3 .wide .result) (c2 .wide2 .result) (c .before .control-symbols .ensures) (c3 .wide .ensures) (c2 .wide2 .ensures)
 
 pub user-area-spec : {M : Type 1} → statement M
 user-area-spec =

@@ -1,8 +1,8 @@
 -- A bit of six, if it is named. Assumes that it is one of six.
-use Rattle.data.proofs.Masks.{bit-named, bit-not}
+use Rattle.areas.proofs.Masks.{bit-named, bit-not}
 use borrow.Author.Needs.{needs}
-use Rattle.data.proofs.bit_if.Statement.{statement}
-use Rattle.data.proofs.bit_if.Tie as tie
+use Rattle.areas.proofs.bit_if.Statement.{statement}
+use Rattle.areas.proofs.bit_if.Tie as tie
 
 sub-result : tie.Need-sub-result
 sub-result c = search needs

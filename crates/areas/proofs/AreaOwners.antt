@@ -31,8 +31,8 @@ use Rattle.base.proofs.Counts.{cnt-same}
 use Rattle.places.proofs.Numbers.{symbol-inside}
 use Rattle.places.proofs.Halves.{pbch-half, user-places}
 use Rattle.grid.specs.Writing.{Room}
-use Rattle.data.specs.Areas.{areaHas, areaAt, areaCount, areaIndex, pbchArea, userArea, AreaIn}
-use Rattle.data.proofs.AreaPlaces.{leb-same}
+use Rattle.areas.specs.Areas.{areaHas, areaAt, areaCount, areaIndex, pbchArea, userArea, AreaIn}
+use Rattle.areas.proofs.AreaPlaces.{leb-same}
 
 gathered : (a b x y o : Bool) → a && b && x && y && o && true ≡ (a && b && (x && y)) && o
 gathered true true true true true = refl
