@@ -6,6 +6,7 @@ use native.Mathlib.Nat.{pow-suc, add-zero, add-suc, mul-assoc}
 use native.Mathlib.Numerals.{add-one}
 use native.Mathlib.Omega.{arith}
 use lib.Dec.{eqb}
+use lib.Pow.{high, low}
 use Rattle.base.specs.Digits.{dig, dig-shr}
 use Rattle.gold.specs.Sequence.{upTo, start1, rule1, x1, start2, rule2, x2, binary}
 
@@ -73,6 +74,13 @@ module _ (x : ℕ → ℕ) (two : (i : ℕ) → x i < 2) where
     where
       half : (a b : ℕ) → b < 2 → (a * 2 + b) / 2 ≡ a
       half a b less = omega arith
+
+  -- the first part of two, and the second
+  pub binary-high : (k m n : ℕ) → binary x k (m + n) / 2 ^ n ≡ binary x k m
+  binary-high k m n = ap (λ (z : ℕ). z / 2 ^ n) (binary-split x k m n) ∙ high (binary x k m) n (binary-lt (k + m) n)
+
+  pub binary-low : (k m n : ℕ) → binary x k (m + n) % 2 ^ n ≡ binary x (k + m) n
+  binary-low k m n = ap (λ (z : ℕ). z % 2 ^ n) (binary-split x k m n) ∙ low (binary x k m) n (binary-lt (k + m) n)
 
 -- ---- the values of the sequences are 0 and 1
 module _ (start : ℕ → ℕ) (rule : (ℕ → ℕ) → ℕ → ℕ)

@@ -1,7 +1,11 @@
 pub mod Binary
+pub mod Jumps
 pub mod Window
-pub mod Cores
+pub mod Values
 pub mod Pair
+pub mod At1600
 pub mod Laws
+pub mod Cores
+pub mod Values64
 pub mod Loops
 pub mod Lent

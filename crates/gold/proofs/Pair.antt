@@ -4,9 +4,9 @@ use Prim.Native.Nat.{ℕ, zero, suc, _+_, _*_, _%_, _^_, _<_}
 use native.Mathlib.Omega.{arith}
 use Rattle.base.specs.Digits.{dig}
 use Rattle.gold.specs.declared.Registers.{Registers}
-use Rattle.gold.specs.Sequence.{start1, start2, x1, x2, x1-start, x1-recurrence, x2-start, x2-recurrence, binary, pairAt}
+use Rattle.gold.specs.Sequence.{x1, x2, x1-recurrence, x2-recurrence, binary}
 use Rattle.gold.specs.Steps.{shift, sum1, sum2, stepped, after, outputOf}
-use Rattle.gold.proofs.Binary.{binary-more, binary-same, binary-split, binary-lt, binary-digit, x1-two, x2-two}
+use Rattle.gold.proofs.Binary.{binary-more, binary-split, binary-lt, binary-digit, x1-two, x2-two}
 
 -- the pair that stands at number n of both
 abbrev pub standing : ℕ → ℕ → Registers
@@ -53,29 +53,3 @@ along ci m (suc n) =
 pub gives : (ci n : ℕ) → outputOf (standing ci n) ≡ (x1 n + x2 ci n) % 2
 unfolding outputOf
 gives ci n = λ i. (first x1 x1-two n i + first (x2 ci) (x2-two ci) n i) % 2
-
--- ---- the start
-x1-begins : (i : ℕ) → i < 31 → start1 i ≡ x1 i
-unfolding start1
-x1-begins zero less = sym (x1-start .0)
-x1-begins (suc i) less = sym (x1-start .1 (suc i) (omega arith) less)
-
-x2-begins : (ci i : ℕ) → i < 31 → start2 ci i ≡ x2 ci i
-unfolding start2
-x2-begins ci i less = sym (x2-start ci i less)
-
-one-first : 2 ^ 30 ≡ binary start1 0 31
-unfolding binary start1
-one-first = refl
-
--- what the calls of `start` give
-pub start-is : (s : Registers) (ci x : ℕ)
-    → x ≡ binary (start2 ci) 0 31 → s ≡ after (record { x1 = 2 ^ 30; x2 = x }) 1600 → s ≡ pairAt ci 0
-unfolding pairAt
-start-is s ci x e f = f ∙ ap (λ (r : Registers). after r 1600) seeded ∙ along ci 0 1600
-  where
-    seeded : _≡_ {A = Registers} (record { x1 = 2 ^ 30; x2 = x }) (standing ci 0)
-    seeded = λ i. record {
-      x1 = (one-first ∙ binary-same start1 x1 0 0 31 (λ i less. x1-begins (0 + i) (omega arith))) i;
-      x2 = (e ∙ binary-same (start2 ci) (x2 ci) 0 0 31 (λ i less. x2-begins ci (0 + i) (omega arith))) i;
-    }

@@ -1,130 +1,110 @@
--- n steps at once: every register of the next 28 steps is 31 bits of the window. Assumes nothing.
-use mathlib.Core.Path.{_≡_, ap, sym, _∙_}
-use Prim.Native.Nat.{ℕ, zero, suc, _+_, _*_, _/_, _%_, _^_, _<_, _≤_}
+-- Numbers that hold values of a sequence, one in each bit: read off, cut out, added, and made longer by the sequence's rule. Assumes nothing.
+use mathlib.Core.Path.{_≡_, refl, ap, sym, _∙_}
+use mathlib.Core.List.{List, [], _∷_}
+use Prim.Native.Nat.{ℕ, zero, suc, _+_, _-_, _*_, _/_, _%_, _^_, _<_, _≤_}
 use native.Mathlib.Omega.{arith}
-use native.Mathlib.Nat.{pow-suc, div-div-eq-div-mul}
+use native.Mathlib.Nat.{pow-suc, div-div-eq-div-mul, zero-div, mod-eq-of-lt}
 use lib.Bits.{bitXor}
+use lib.Dec.{T, leb, leb→le}
+use lib.Ieee.Fits.{and-l, and-r}
+use lib.Pow.{mod-pow-add}
 use Rattle.base.specs.Digits.{dig, dig-xor, dig-shr, dig-mod}
-use Rattle.gold.specs.Steps.{shift, sum1, sum2}
-use Rattle.gold.specs.Window.{window, feed1, feed2}
-
--- a register that runs n steps, its new bits given by f
-unfoldable pub run : (ℕ → ℕ) → ℕ → ℕ → ℕ
-run f x zero = x
-run f x (suc n) = shift (run f x n) (f (run f x n))
+use Rattle.gold.specs.Sequence.{binary}
+use Rattle.gold.specs.Window.{window, sums, offsets1, offsets2}
+use Rattle.gold.proofs.Binary.{binary-same, binary-split, binary-lt, binary-digit}
+use Rattle.gold.proofs.Jumps.{sumAt, within}
 
 pub halve : (z n : ℕ) → z / 2 ^ suc n ≡ z / 2 ^ n / 2
 halve z n = ap (λ (p : ℕ). z / p) (pow-suc 2 n) ∙ sym (div-div-eq-div-mul z (2 ^ n) 2)
 
--- ---- the window's bits
-low-part : (x y : ℕ) → window x y % 2 ^ 28 ≡ y % 2 ^ 28
-low-part x y = omega arith
+-- the w low bits of z are x(k), .., x(k + w - 1)
+abbrev pub Holds : (ℕ → ℕ) → ℕ → ℕ → ℕ → Type 0
+Holds x k w z = z % 2 ^ w ≡ binary x k w
 
-high-part : (x y : ℕ) → window x y / 2 ^ 28 ≡ x
-high-part x y = omega arith
+-- by its bits
+pub spelled : (x : ℕ → ℕ) (k w z : ℕ) → ((i j : ℕ) → j + suc i ≡ w → dig z j ≡ x (k + i)) → Holds x k w z
+unfolding binary dig
+spelled x k zero z all = omega arith
+spelled x k (suc w) z all =
+    let e : suc w ≡ w + 1 = omega arith in
+    let h : z / 2 % 2 ^ w ≡ binary x k w = spelled x k w (z / 2) (λ i j e. dig-shr z 1 j ∙ all i (1 + j) (omega arith)) in
+    let l : z / 1 % 2 ≡ x (k + w) = all w 0 (omega arith) in
+    let b : z % 2 ≡ x (k + w) = omega arith in
+    ap (λ (m : ℕ). z % 2 ^ m) e ∙ mod-pow-add z w 1 ∙ (λ t. h t * 2 + b t)
 
-window-low : (x y i : ℕ) → i < 28 → dig (window x y) i ≡ dig y i
-window-low x y i less = sym (dig-mod (window x y) 28 i less) ∙ ap (λ (z : ℕ). dig z i) (low-part x y) ∙ dig-mod y 28 i less
-
-window-high : (x y i : ℕ) → dig (window x y) (28 + i) ≡ dig x i
-window-high x y i = sym (dig-shr (window x y) 28 i) ∙ ap (λ (z : ℕ). dig z i) (high-part x y)
-
--- ---- one step: x and w / 2 agree in their 31 low bits, and f is w's lowest
-moves : (x w f : ℕ) → x % 2 ^ 31 ≡ w / 2 % 2 ^ 31 → f ≡ dig w 0 → shift x f ≡ w % 2 ^ 31
+-- a bit of a number's sums
+sums-digit : (z c m : ℕ) (x : ℕ → ℕ) (i : ℕ) → ((j : ℕ) → j ≤ c → dig z (c - j + m) ≡ x (i + j))
+    → (A : List ℕ) → T (within c A) → dig (sums z c A) m ≡ sumAt x A i % 2
 unfolding dig
-moves x w f e g =
-    let h : x % 2 ^ 30 ≡ w / 2 % 2 ^ 30 = halved x ∙ ap (λ (z : ℕ). z % 2 ^ 30) e ∙ sym (halved (w / 2)) in
-    let k : w / 2 % 2 ^ 30 * 2 + w % 2 ≡ w % 2 ^ 31 = whole w in
-    omega arith
+sums-digit z c m x i at [] t = ap (λ (v : ℕ). v % 2) (zero-div (2 ^ m))
+sums-digit z c m x i at (j ∷ []) t =
+    let e : dig z (c - j + m) ≡ x (i + j) = at j (leb→le j c (and-l (leb j c) (within c []) t)) in
+    dig-shr z (c - j) m ∙ omega arith
+sums-digit z c m x i at (j ∷ h ∷ A) t =
+    let e : dig z (c - j + m) ≡ x (i + j) = at j (leb→le j c (and-l (leb j c) (within c (h ∷ A)) t)) in
+    dig-xor (sums z c (h ∷ A)) (z / 2 ^ (c - j)) m
+    ∙ (λ u. (sums-digit z c m x i at (h ∷ A) (and-r (leb j c) (within c (h ∷ A)) t) u + (dig-shr z (c - j) m ∙ e) u) % 2)
+    ∙ swap (sumAt x (h ∷ A) i) (x (i + j))
   where
-    halved : (x : ℕ) → x % 2 ^ 30 ≡ x % 2 ^ 31 % 2 ^ 30
-    halved x = omega arith
+    swap : (a b : ℕ) → (a % 2 + b) % 2 ≡ (b + a) % 2
+    swap a b = omega arith
 
-    whole : (w : ℕ) → w / 2 % 2 ^ 30 * 2 + w % 2 ≡ w % 2 ^ 31
-    whole w = omega arith
+module _ (x : ℕ → ℕ) (two : (i : ℕ) → x i < 2) where
+  digit : (k w z : ℕ) → Holds x k w z → (i j : ℕ) → j + suc i ≡ w → dig z j ≡ x (k + i)
+  digit k w z h i j e = sym (dig-mod z w j (omega arith)) ∙ ap (λ (v : ℕ). dig v j) h ∙ binary-digit x two k w i j e
 
--- ---- the register v is the 31 bits of z from bit m on
-abbrev At : ℕ → ℕ → ℕ → Type 0
-At z m v = v % 2 ^ 31 ≡ z / 2 ^ m % 2 ^ 31
+  -- n of the values, after the first a
+  pub cut : (k w z : ℕ) → Holds x k w z → (a n b : ℕ) → a + n + b ≡ w → Holds x (k + a) n (z / 2 ^ b)
+  cut k w z h a n b e =
+      spelled x (k + a) n (z / 2 ^ b)
+      (λ i j f. dig-shr z b j ∙ digit k w z h (a + i) (b + j) (omega arith) ∙ ap x {x = k + (a + i)} {y = k + a + i} (omega arith))
 
-same-bit : (v u j : ℕ) → j < 31 → v % 2 ^ 31 ≡ u % 2 ^ 31 → dig v j ≡ dig u j
-same-bit v u j less e = sym (dig-mod v 31 j less) ∙ ap (λ (z : ℕ). dig z j) e ∙ dig-mod u 31 j less
+  -- w values, and the n that come next
+  pub joined : (k w n z f : ℕ) → Holds x k w z → Holds x (k + w) n f → z % 2 ^ w * 2 ^ n + f % 2 ^ n ≡ binary x k (w + n)
+  joined k w n z f h g = (λ t. h t * 2 ^ n + g t) ∙ sym (binary-split x k w n)
 
-bit-at : (x y v m k : ℕ) → k ≤ 3 → At (window x y) (suc m) v → dig v (27 + k) ≡ dig x (k + m)
-bit-at x y v m k le e =
-    same-bit v (window x y / 2 ^ suc m) (27 + k) (omega arith) e
-    ∙ dig-shr (window x y) (suc m) (27 + k)
-    ∙ ap (dig (window x y)) {x = suc m + (27 + k)} {y = 28 + (k + m)} (omega arith)
-    ∙ window-high x y (k + m)
+  pub exact : (k w z : ℕ) → z ≡ binary x k w → Holds x k w z
+  exact k w z e = ap (λ (v : ℕ). v % 2 ^ w) e ∙ mod-eq-of-lt (binary-lt x two k w)
 
--- ---- n steps of a register, where the bit that comes in is always the next of its window (m is 28 - n)
-module _ (sum feed : ℕ → ℕ)
-    (next : (x v m : ℕ) → m < 28 → At (window x (feed x)) (suc m) v → sum v ≡ dig (window x (feed x)) m) (x : ℕ) where
-  one-more : (n m : ℕ) → m < 28 → At (window x (feed x)) (suc m) (run sum x n) → run sum x (suc n) ≡ window x (feed x) / 2 ^ m % 2 ^ 31
-  unfolding run
-  one-more n m less h =
-      let z = window x (feed x) in
-      moves (run sum x n) (z / 2 ^ m) (sum (run sum x n)) (h ∙ ap (λ (w : ℕ). w % 2 ^ 31) (halve z m))
-      (next x (run sum x n) m less h ∙ ap (dig z) {x = m} {y = m + 0} (omega arith) ∙ sym (dig-shr z m 0))
-
-  runs : (n m : ℕ) → m + n ≡ 28 → At (window x (feed x)) m (run sum x n)
-  unfolding run
-  runs zero m e =
-      ap (λ (v : ℕ). v % 2 ^ 31) (sym (high-part x (feed x)))
-      ∙ ap (λ (k : ℕ). window x (feed x) / 2 ^ k % 2 ^ 31) {x = 28} {y = m} (omega arith)
-  runs (suc n) m e =
-      ap (λ (v : ℕ). v % 2 ^ 31) (one-more n m (omega arith) (runs n (suc m) (omega arith))) ∙ once (window x (feed x) / 2 ^ m)
+  -- the sequence of the sums at some offsets
+  pub sums-held : (y : ℕ → ℕ) (A : List ℕ) → ((n : ℕ) → y n ≡ sumAt x A n % 2)
+      → (k w z : ℕ) → Holds x k w z → (a n c : ℕ) → a + n + c ≡ w → T (within c A) → Holds y (k + a) n (sums z c A)
+  sums-held y A rule k w z h a n c e ok =
+      spelled y (k + a) n (sums z c A)
+      (λ i j f. sums-digit z c j x (k + a + i) (λ m le. at i j m f le) A ok ∙ sym (rule (k + a + i)))
     where
-      once : (x : ℕ) → x % 2 ^ 31 % 2 ^ 31 ≡ x % 2 ^ 31
-      once x = omega arith
+      at : (i j m : ℕ) → j + suc i ≡ n → m ≤ c → dig z (c - m + j) ≡ x (k + a + i + m)
+      at i j m f le = digit k w z h (a + i + m) (c - m + j) (omega arith) ∙ ap x {x = k + (a + i + m)} {y = k + a + i + m} (omega arith)
 
-  -- the register after 1 to 28 steps
-  runs-to : (n m : ℕ) → 1 ≤ n → m + n ≡ 28 → run sum x n ≡ window x (feed x) / 2 ^ m % 2 ^ 31
-  runs-to zero m some e = absurd (omega arith)
-  runs-to (suc n) m some e = one-more n m (omega arith) (runs n (suc m) (omega arith))
+  -- the values d later, by the offsets of x(n + d)
+  pub later : (d k n : ℕ) → binary (λ (i : ℕ). x (i + d)) k n ≡ binary x (k + d) n
+  later d k n = binary-same (λ (i : ℕ). x (i + d)) x k (k + d) n (λ i less. ap x {x = k + i + d} {y = k + d + i} (omega arith))
 
-  -- the bit that it gives after 0 to 27
-  runs-give : (n m : ℕ) → m + n ≡ 27 → dig (run sum x n) 30 ≡ dig x (3 + m)
-  runs-give n m e = bit-at x (feed x) (run sum x n) m 3 (omega arith) (runs n (suc m) (omega arith))
+  pub summed : (d : ℕ) (A : List ℕ) → ((n : ℕ) → x (n + d) ≡ sumAt x A n % 2)
+      → (k w z : ℕ) → Holds x k w z → (a n c : ℕ) → a + n + c ≡ w → T (within c A) → Holds x (k + a + d) n (sums z c A)
+  summed d A rule k w z h a n c e ok = sums-held (λ (i : ℕ). x (i + d)) A rule k w z h a n c e ok ∙ later d (k + a) n
 
--- ---- the feeds give the recurrences' sums
-itself : (x n : ℕ) → dig x n ≡ dig x (0 + n)
-itself x n = ap (dig x) (omega arith)
+  -- of 31 values 59
+  pub windowed : (k : ℕ) (R : List ℕ) → ((n : ℕ) → x (n + 31) ≡ sumAt x R n % 2) → T (within 3 R)
+      → (z y : ℕ) → Holds x k 31 z → y ≡ sums z 3 R → Holds x k 59 (window z y)
+  windowed k R rule ok z y h e =
+      whole z y
+      ∙ joined k 31 28 z y h
+      (rw e (summed 31 R rule k 31 z h 0 28 3 refl ok ∙ ap (λ (i : ℕ). binary x i 28) {x = k + 0 + 31} {y = k + 31} (omega arith)))
+    where
+      whole : (z y : ℕ) → window z y % 2 ^ 59 ≡ z % 2 ^ 31 * 2 ^ 28 + y % 2 ^ 28
+      whole z y = omega arith
 
-fed1 : (x n : ℕ) → dig (feed1 x) n ≡ (dig x (0 + n) + dig x (3 + n)) % 2
-fed1 x n = dig-xor x (x / 8) n ∙ (λ i. (itself x n i + dig-shr x 3 n i) % 2)
+-- the values of two sequences, added
+pub added : (x y : ℕ → ℕ) → ((i : ℕ) → x i < 2) → ((i : ℕ) → y i < 2) → (w u v : ℕ) → Holds x 0 w u → Holds y 0 w v
+    → Holds (λ (i : ℕ). (x i + y i) % 2) 0 w (bitXor u v)
+added x y s t w u v h g =
+    spelled (λ (i : ℕ). (x i + y i) % 2) 0 w (bitXor u v)
+    (λ i j e. dig-xor u v j ∙ (λ a. (digit x s 0 w u h i j e a + digit y t 0 w v g i j e a) % 2))
 
-fed2 : (x n : ℕ) → dig (feed2 x) n ≡ (dig x (0 + n) + dig x (1 + n) + dig x (2 + n) + dig x (3 + n)) % 2
-fed2 x n =
-    dig-xor (bitXor (bitXor x (x / 2)) (x / 4)) (x / 8) n
-    ∙ ap (λ (p : ℕ). (p + dig (x / 8) n) % 2) (dig-xor (bitXor x (x / 2)) (x / 4) n)
-    ∙ ap (λ (p : ℕ). ((p + dig (x / 4) n) % 2 + dig (x / 8) n) % 2) (dig-xor x (x / 2) n)
-    ∙ (λ i. (((itself x n i + dig-shr x 1 n i) % 2 + dig-shr x 2 n i) % 2 + dig-shr x 3 n i) % 2)
-    ∙ flat (dig x (0 + n)) (dig x (1 + n)) (dig x (2 + n)) (dig x (3 + n))
-  where
-    flat : (a b c d : ℕ) → (((a + b) % 2 + c) % 2 + d) % 2 ≡ (a + b + c + d) % 2
-    flat a b c d = omega arith
+-- what `fed1` and `fed2` compute
+pub fed1-is : (x : ℕ) → bitXor x (x / 8) ≡ sums x 3 offsets1
+fed1-is x = ap (λ (v : ℕ). bitXor v (x / 8)) {x = x} {y = x / 1} (omega arith)
 
-next1 : (x v m : ℕ) → m < 28 → At (window x (feed1 x)) (suc m) v → sum1 v ≡ dig (window x (feed1 x)) m
-next1 x v m less e =
-    let bit = bit-at x (feed1 x) v m in
-    (λ i. (bit 0 (omega arith) e i + bit 3 (omega arith) e i) % 2) ∙ sym (fed1 x m) ∙ sym (window-low x (feed1 x) m less)
-
-next2 : (x v m : ℕ) → m < 28 → At (window x (feed2 x)) (suc m) v → sum2 v ≡ dig (window x (feed2 x)) m
-next2 x v m less e =
-    let bit = bit-at x (feed2 x) v m in
-    (λ i. (bit 0 (omega arith) e i + bit 1 (omega arith) e i + bit 2 (omega arith) e i + bit 3 (omega arith) e i) % 2)
-    ∙ sym (fed2 x m) ∙ sym (window-low x (feed2 x) m less)
-
--- ---- both registers
-pub runs1 : (x n m : ℕ) → 1 ≤ n → m + n ≡ 28 → run sum1 x n ≡ window x (feed1 x) / 2 ^ m % 2 ^ 31
-runs1 = runs-to sum1 feed1 next1
-
-pub runs2 : (x n m : ℕ) → 1 ≤ n → m + n ≡ 28 → run sum2 x n ≡ window x (feed2 x) / 2 ^ m % 2 ^ 31
-runs2 = runs-to sum2 feed2 next2
-
-pub gives1 : (x n m : ℕ) → m + n ≡ 27 → dig (run sum1 x n) 30 ≡ dig x (3 + m)
-gives1 = runs-give sum1 feed1 next1
-
-pub gives2 : (x n m : ℕ) → m + n ≡ 27 → dig (run sum2 x n) 30 ≡ dig x (3 + m)
-gives2 = runs-give sum2 feed2 next2
+pub fed2-is : (x : ℕ) → bitXor (bitXor (bitXor x (x / 2)) (x / 4)) (x / 8) ≡ sums x 3 offsets2
+fed2-is x = ap (λ (v : ℕ). bitXor (bitXor (bitXor v (x / 2)) (x / 4)) (x / 8)) {x = x} {y = x / 1} (omega arith)
