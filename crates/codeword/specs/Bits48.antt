@@ -43,7 +43,7 @@ pub record Next48 (bits st : List ℕ) (v : ℕ) (st′ : List ℕ) : Type 0 whe
   pub goes : (r : Registers) (k : ℕ) → Due bits r k st → (v ≡ binary (scrambledBits bits r) (48 * (k + 1)) 48) × Due bits r (k + 1) st′
   pub kept : (i : ℕ) → 3 ≤ i → getD st′ i 0 ≡ getD st i 0
 
--- ---- for the holder of a word: n bits were taken, the word's lowest `left` come next, and then those that the state gives
+-- ---- n bits were taken, the word's lowest `left` come next, and then those that the state gives
 pub record Ready (bits : List ℕ) (r : Registers) (n : ℕ) (st : List ℕ) (word left : ℕ) : Type 0 where
   pub number : ℕ
   pub due : Due bits r number st
@@ -54,6 +54,43 @@ pub record Ready (bits : List ℕ) (r : Registers) (n : ℕ) (st : List ℕ) (wo
 pub record Begins48 (bits : List ℕ) (r : Registers) (st : List ℕ) : Type 0 where
   pub ready : Ready bits r 0 st (getD st 3 0) (getD st 4 0)
   pub full : getD st 4 0 ≡ 48
+
+-- k bits were taken, whole groups of u bits, and the word and the count of its bits that are left are in the array
+pub record Standing (u : ℕ) (bits : List ℕ) (r : Registers) (k : ℕ) (st : List ℕ) : Type 0 where
+  pub ready : Ready bits r k st (getD st 3 0) (getD st 4 0)
+  pub most : getD st 4 0 ≤ 48
+  pub groups : ℕ
+  pub whole : k ≡ u * groups
+
+-- n bits are whole groups of u bits, and so are 48: where fewer than n are left, they are at most 16
+pub record Groups (u n : ℕ) : Type 0 where
+  pub words : ℕ
+  pub divides : u * words ≡ 48
+  pub before : ℕ
+  pub size : n ≡ u * (before + 1)
+  pub few : u * before ≤ 16
+  pub most : n ≤ 48
+
+-- what `take` needs
+pub record CanTake (n : ℕ) (bits st : List ℕ) : Type 0 where
+  pub group : ℕ
+  pub step : Groups group n
+  pub pair : Registers
+  pub taken : ℕ
+  pub early : taken ≤ 2 ^ 32
+  pub standing : Standing group bits pair taken st
+
+-- n bits are left
+pub record Enough (n : ℕ) (bits st st′ : List ℕ) : Type 0 where
+  pub goes : (u : ℕ) (r : Registers) (k : ℕ) → Groups u n → Standing u bits r k st → Ready bits r k st′ (getD st′ 3 0) (getD st′ 4 0)
+  pub enough : n ≤ getD st′ 4 0
+  pub most : getD st′ 4 0 ≤ n + 48
+
+-- what `take` gives: the next n bits, and the state after them
+pub record Takes (n : ℕ) (bits st : List ℕ) (v : ℕ) (st′ : List ℕ) : Type 0 where
+  pub goes :
+      (u : ℕ) (r : Registers) (k : ℕ) → Groups u n → Standing u bits r k st
+      → (v % 2 ^ n ≡ binary (scrambledBits bits r) k n) × Standing u bits r (k + n) st′
 
 -- what `end` gives
 pub record Ends (r : Registers) (st : List ℕ) (x : Registers) : Type 0 where

@@ -4,13 +4,13 @@ use base::Pair;
 use gold::Registers;
 use gold::Wide;
 ghost use mathlib.Core.Path.{_≡_};
-ghost use Prim.Native.Nat.{_+_, _*_, _<_, _≤_, _^_};
+ghost use Prim.Native.Nat.{_+_, _*_, _%_, _<_, _≤_, _^_};
 ghost use lib.ListN.{length, getD};
 ghost use Rattle.base.specs.Bits.{bitAt};
 ghost use Rattle.gold.specs.Sequence.{binary};
 ghost use Rattle.modulation.specs.Symbols.{Order};
 ghost use Rattle.codeword.specs.Streams.{Sound, Begins, Next, Given, Ended, wordAt, more, two};
-ghost use Rattle.codeword.specs.Bits48.{lastAt, Reads, Begins48, Next48, Ends};
+ghost use Rattle.codeword.specs.Bits48.{lastAt, Reads, Begins48, Next48, CanTake, Enough, Takes, Ends};
 
 // Where a channel's stream of symbols stands: the register pair where the word in use begins, the byte of the bits that follows the
 // word, and the word's 24 scrambled bits, of which the lowest `left` are not taken.
@@ -192,9 +192,8 @@ pub fn begin(r: Registers, bits: &[u8]) -> [u64; 8]
     [w.x1, w.x2, 6, word, 48, last, 0, 0]
 }
 
-// The next 48 scrambled bits. Callers pass an array that `begin` or `next48` gave for the same bits, and put the bits below those of the
-// word that are left.
-pub fn next48(st: &mut [u64; 8], bits: &[u8]) -> u64
+// The next 48 scrambled bits.
+fn next48(st: &mut [u64; 8], bits: &[u8]) -> u64
     requires { ⌜ getD (now st) 2 0 ≤ 2 ^ 32 ⌝ }
     ensures { λ v. ⌜ Next48 (now (bits .entry)) (now (st .entry)) v (now (st .exit)) ⌝ }
 {
@@ -207,6 +206,41 @@ pub fn next48(st: &mut [u64; 8], bits: &[u8]) -> u64
     st[1] = w.x2;
     st[2] = at + 6;
     bits48(bits, at as usize, last) ^ gold::word48(w)
+}
+
+// The 16 lowest bits of a word, and 48 more below them.
+fn joined(word: u64, next: u64) -> u64
+    requires { ⌜ next < 2 ^ 48 ⌝ }
+    ensures { λ r. ⌜ r ≡ word % 2 ^ 16 * 2 ^ 48 + next ⌝ }
+{
+    word % 65536 * 281474976710656 + next
+}
+
+// The word has n bits that are not taken, or is given 48 more.
+fn top_up(st: &mut [u64; 8], n: u64, bits: &[u8])
+    requires { ⌜ CanTake n (now bits) (now st) ⌝ }
+    ensures { λ _. ⌜ Enough n (now (bits .entry)) (now (st .entry)) (now (st .exit)) ⌝ }
+{
+    if n <= st[4] {
+        return;
+    }
+    let next = next48(st, bits);
+    let word = joined(st[3], next);
+    let left = st[4] + 48;
+    st[3] = word;
+    st[4] = left;
+}
+
+// The next n scrambled bits, the lowest n of the result. Callers pass an array that `begin` or `take` gave for the same bits, and take them in
+// groups, one or some at a time, that 48 bits are whole groups of.
+pub fn take(st: &mut [u64; 8], n: u64, bits: &[u8]) -> u64
+    requires { ⌜ CanTake n (now bits) (now st) ⌝ }
+    ensures { λ v. ⌜ Takes n (now (bits .entry)) (now (st .entry)) v (now (st .exit)) ⌝ }
+{
+    top_up(st, n, bits);
+    let left = st[4] - n;
+    st[4] = left;
+    st[3] >> left
 }
 
 // The pair after the bits that were taken, where r is the pair that the state was begun with: at the bit after the last that was taken.
