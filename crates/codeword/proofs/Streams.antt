@@ -53,7 +53,7 @@ byte-top s a (suc n) m h e =
     whole : (u : ℕ) → u / 2 * 2 + u % 2 ≡ u
     whole u = omega arith
 
-byte-word : (s : List ℕ) (a : ℕ) → getD s a 0 < 256 → binary (bitAt s) (8 * a) 8 ≡ getD s a 0
+pub byte-word : (s : List ℕ) (a : ℕ) → getD s a 0 < 256 → binary (bitAt s) (8 * a) 8 ≡ getD s a 0
 byte-word s a h = byte-top s a 8 0 h refl ∙ one (getD s a 0)
   where
     one : (v : ℕ) → v / 1 ≡ v
@@ -73,7 +73,7 @@ three-bytes s a u v w hu hv hw =
     let n : binary x (8 * a) 24 ≡ binary x (8 * a) 16 * 256 + binary x (8 * a + 16) 8 = binary-split x (8 * a) 16 8 in
     omega arith
 
--- ---- 24 bits more
+-- ---- the next bits
 -- the bits that a pair gives after n steps
 outputs-after : (r : Registers) (n i : ℕ) → outputs (after r n) i ≡ outputs r (n + i)
 unfolding outputs
@@ -85,11 +85,11 @@ word-after r n k =
     binary-same (outputs (after r n)) (outputs r) 0 n k
     (λ i less. ap (outputs (after r n)) {x = 0 + i} {y = i} (omega arith) ∙ outputs-after r n i)
 
-more-word : (bits : List ℕ) (r : Registers) (k : ℕ)
-    → bitXor (binary (bitAt bits) k 24) (wordOf (after r k) 24) ≡ binary (scrambled (bitAt bits) (outputs r)) k 24
-more-word bits r k =
-    ap (bitXor (binary (bitAt bits) k 24)) (word-after r k 24)
-    ∙ sym (word-scrambled (bitAt bits) (outputs r) (bit-lt bits) (outputs-lt r) k 24)
+pub more-word : (bits : List ℕ) (r : Registers) (k n : ℕ)
+    → bitXor (binary (bitAt bits) k n) (wordOf (after r k) n) ≡ binary (scrambled (bitAt bits) (outputs r)) k n
+more-word bits r k n =
+    ap (bitXor (binary (bitAt bits) k n)) (word-after r k n)
+    ∙ sym (word-scrambled (bitAt bits) (outputs r) (bit-lt bits) (outputs-lt r) k n)
 
 -- a word of which no bit is taken
 word-held : (q : ℕ) (bits : List ℕ) (r : Registers) (i : ℕ) (p : Registers) (a : ℕ) → Order q → p ≡ after r (8 * a) → 8 * a ≡ 2 * q * i → WordHeld q bits r i (wordAt bits p a)
@@ -105,7 +105,7 @@ word-held q bits r i p a o e t =
       pair = e ∙ ap (after r) k;
       held =
           ap (λ (w : ℕ). w % 2 ^ 24)
-          (ap (λ (z : Registers). bitXor (binary (bitAt bits) (8 * a) 24) (wordOf z 24)) e ∙ more-word bits r (8 * a) ∙ ap (λ (k : ℕ). binary x k 24) t)
+          (ap (λ (z : Registers). bitXor (binary (bitAt bits) (8 * a) 24) (wordOf z 24)) e ∙ more-word bits r (8 * a) 24 ∙ ap (λ (k : ℕ). binary x k 24) t)
           ∙ mod-eq-of-lt (binary-lt x (scrambled-lt (bitAt bits) (outputs r)) (2 * q * i) 24);
     }
 

@@ -1,2 +1,3 @@
 pub mod Codewords
 pub mod Streams
+pub mod Bits48

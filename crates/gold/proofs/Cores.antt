@@ -8,14 +8,15 @@ use Rattle.gold.specs.declared.Registers.{Registers}
 use Rattle.gold.specs.Sequence.{binary}
 use Rattle.gold.specs.Steps.{after, outputOf, wordOf}
 use Rattle.gold.specs.Window.{window, sums, offsets1, offsets2}
+use Rattle.gold.specs.Wide.{value, first, second}
 use Rattle.gold.proofs.Binary.{binary-high}
 use Rattle.gold.proofs.Window.{Holds, cut, windowed, added}
-use Rattle.gold.proofs.Values.{value, value-two, Runs, holds-first, whole, rule, first, second, runs1, runs2}
+use Rattle.gold.proofs.Values.{value-two, Runs, holds-first, whole, rule, runs1, runs2}
 
 -- ---- one register
 module _ {π : Registers → ℕ} {f : ℕ → ℕ} {R : List ℕ} (u : Runs π f R) (r : Registers) where
   -- its window holds 59 values
-  fills : (y z : ℕ) → y ≡ sums (π r) 3 R → z ≡ window (π r) y → Holds (value π r) 0 59 z
+  pub fills : (y z : ℕ) → y ≡ sums (π r) 3 R → z ≡ window (π r) y → Holds (value π r) 0 59 z
   fills y z e g =
       ap (λ (v : ℕ). v % 2 ^ 59) g
       ∙ windowed (value π r) (value-two π r) 0 R (rule u r) (u .near) (π r) y (holds-first u r) e
@@ -37,14 +38,14 @@ advance-is r s n y₁ z₁ y₂ z₂ some most a b c d e f = λ i. record {
 }
 
 -- ---- the bits
-abbrev outs : Registers → ℕ → ℕ
+abbrev pub outs : Registers → ℕ → ℕ
 outs r i = (value first r i + value second r i) % 2
 
-outs-two : (r : Registers) (i : ℕ) → outs r i < 2
+pub outs-two : (r : Registers) (i : ℕ) → outs r i < 2
 outs-two r i = omega arith
 
 -- both registers' w first values, added
-outs-held : (r : Registers) (w a b : ℕ) → Holds (value first r) 0 w a → Holds (value second r) 0 w b → Holds (outs r) 0 w (bitXor a b)
+pub outs-held : (r : Registers) (w a b : ℕ) → Holds (value first r) 0 w a → Holds (value second r) 0 w b → Holds (outs r) 0 w (bitXor a b)
 outs-held r w a b = added (value first r) (value second r) (value-two first r) (value-two second r) w a b
 
 -- what `word` computes

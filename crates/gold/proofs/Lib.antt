@@ -6,5 +6,6 @@ pub mod Pair
 pub mod At1600
 pub mod Laws
 pub mod Cores
+pub mod Values64
 pub mod Loops
 pub mod Lent

@@ -10,6 +10,7 @@ use Rattle.gold.specs.declared.Registers.{Registers}
 use Rattle.gold.specs.Sequence.{binary}
 use Rattle.gold.specs.Steps.{shift, sum1, sum2, stepped, after}
 use Rattle.gold.specs.Window.{offsets1, offsets2}
+use Rattle.gold.specs.Wide.{value, first, second}
 use Rattle.gold.proofs.Jumps.{sumAt, within, sum-same}
 use Rattle.gold.proofs.Window.{Holds, spelled}
 
@@ -25,10 +26,7 @@ came : (y b : ℕ) → b < 2 → dig (shift y b) 0 ≡ b
 unfolding dig
 came y b h = omega arith
 
--- ---- value i of a register of the pair, given by its field
-abbrev pub value : (Registers → ℕ) → Registers → ℕ → ℕ
-value π r i = dig (π (after r i)) 30
-
+-- ---- the values of a register
 pub value-two : (π : Registers → ℕ) (r : Registers) (i : ℕ) → value π r i < 2
 value-two π r i = dig-two (π (after r i)) 30
 
@@ -37,6 +35,7 @@ pub record Runs (π : Registers → ℕ) (f : ℕ → ℕ) (R : List ℕ) : Type
   pub steps : (r : Registers) → π (stepped r) ≡ shift (π r) (f (π r))
   pub sum : (y : ℕ) → f y ≡ sumAt (λ (j : ℕ). dig y (30 - j)) R 0 % 2
   pub near : T (within 3 R)
+  pub near26 : T (within 26 R)
 
 module _ {π : Registers → ℕ} {f : ℕ → ℕ} {R : List ℕ} (u : Runs π f R) (r : Registers) where
   bit : (y : ℕ) → f y < 2
@@ -83,16 +82,10 @@ module _ {π : Registers → ℕ} {f : ℕ → ℕ} {R : List ℕ} (u : Runs π 
       ∙ ap (λ (s : ℕ). s % 2) (sum-same (λ (j : ℕ). dig y (30 - j)) (value π r) 0 n 3 (λ j le. held j (30 - (0 + j)) n (omega arith)) R (u .near))
 
 -- ---- both registers
-abbrev pub first : Registers → ℕ
-first r = r .x1
-
-abbrev pub second : Registers → ℕ
-second r = r .x2
-
 pub runs1 : Runs first sum1 offsets1
 unfolding stepped
-runs1 = record { steps = λ r. refl; sum = λ y. omega arith; near = tt }
+runs1 = record { steps = λ r. refl; sum = λ y. omega arith; near = tt; near26 = tt }
 
 pub runs2 : Runs second sum2 offsets2
 unfolding stepped
-runs2 = record { steps = λ r. refl; sum = λ y. omega arith; near = tt }
+runs2 = record { steps = λ r. refl; sum = λ y. omega arith; near = tt; near26 = tt }

@@ -11,7 +11,7 @@ use lib.Pow.{mod-pow-add}
 use Rattle.base.specs.Digits.{dig, dig-xor, dig-shr, dig-mod}
 use Rattle.gold.specs.Sequence.{binary}
 use Rattle.gold.specs.Window.{window, sums, offsets1, offsets2}
-use Rattle.gold.proofs.Binary.{binary-split, binary-lt, binary-digit}
+use Rattle.gold.proofs.Binary.{binary-same, binary-split, binary-lt, binary-digit}
 use Rattle.gold.proofs.Jumps.{sumAt, within}
 
 pub halve : (z n : ℕ) → z / 2 ^ suc n ≡ z / 2 ^ n / 2
@@ -60,24 +60,29 @@ module _ (x : ℕ → ℕ) (two : (i : ℕ) → x i < 2) where
       (λ i j f. dig-shr z b j ∙ digit k w z h (a + i) (b + j) (omega arith) ∙ ap x {x = k + (a + i)} {y = k + a + i} (omega arith))
 
   -- w values, and the n that come next
-  joined : (k w n z f : ℕ) → Holds x k w z → Holds x (k + w) n f → z % 2 ^ w * 2 ^ n + f % 2 ^ n ≡ binary x k (w + n)
+  pub joined : (k w n z f : ℕ) → Holds x k w z → Holds x (k + w) n f → z % 2 ^ w * 2 ^ n + f % 2 ^ n ≡ binary x k (w + n)
   joined k w n z f h g = (λ t. h t * 2 ^ n + g t) ∙ sym (binary-split x k w n)
 
   pub exact : (k w z : ℕ) → z ≡ binary x k w → Holds x k w z
   exact k w z e = ap (λ (v : ℕ). v % 2 ^ w) e ∙ mod-eq-of-lt (binary-lt x two k w)
 
-  -- the sums at the offsets of x(n + d) are the values d later
-  pub summed : (d : ℕ) (A : List ℕ) → ((n : ℕ) → x (n + d) ≡ sumAt x A n % 2)
-      → (k w z : ℕ) → Holds x k w z → (a n c : ℕ) → a + n + c ≡ w → T (within c A) → Holds x (k + a + d) n (sums z c A)
-  summed d A rule k w z h a n c e ok =
-      spelled x (k + a + d) n (sums z c A)
-      (λ i j f.
-      sums-digit z c j x (k + a + i) (λ m le. at i j m f le) A ok
-      ∙ sym (rule (k + a + i))
-      ∙ ap x {x = k + a + i + d} {y = k + a + d + i} (omega arith))
+  -- the sequence of the sums at some offsets
+  pub sums-held : (y : ℕ → ℕ) (A : List ℕ) → ((n : ℕ) → y n ≡ sumAt x A n % 2)
+      → (k w z : ℕ) → Holds x k w z → (a n c : ℕ) → a + n + c ≡ w → T (within c A) → Holds y (k + a) n (sums z c A)
+  sums-held y A rule k w z h a n c e ok =
+      spelled y (k + a) n (sums z c A)
+      (λ i j f. sums-digit z c j x (k + a + i) (λ m le. at i j m f le) A ok ∙ sym (rule (k + a + i)))
     where
       at : (i j m : ℕ) → j + suc i ≡ n → m ≤ c → dig z (c - m + j) ≡ x (k + a + i + m)
       at i j m f le = digit k w z h (a + i + m) (c - m + j) (omega arith) ∙ ap x {x = k + (a + i + m)} {y = k + a + i + m} (omega arith)
+
+  -- the values d later, by the offsets of x(n + d)
+  pub later : (d k n : ℕ) → binary (λ (i : ℕ). x (i + d)) k n ≡ binary x (k + d) n
+  later d k n = binary-same (λ (i : ℕ). x (i + d)) x k (k + d) n (λ i less. ap x {x = k + i + d} {y = k + d + i} (omega arith))
+
+  pub summed : (d : ℕ) (A : List ℕ) → ((n : ℕ) → x (n + d) ≡ sumAt x A n % 2)
+      → (k w z : ℕ) → Holds x k w z → (a n c : ℕ) → a + n + c ≡ w → T (within c A) → Holds x (k + a + d) n (sums z c A)
+  summed d A rule k w z h a n c e ok = sums-held (λ (i : ℕ). x (i + d)) A rule k w z h a n c e ok ∙ later d (k + a) n
 
   -- of 31 values 59
   pub windowed : (k : ℕ) (R : List ℕ) → ((n : ℕ) → x (n + 31) ≡ sumAt x R n % 2) → T (within 3 R)

@@ -1,3 +1,4 @@
 pub mod Sequence
 pub mod Steps
 pub mod Window
+pub mod Wide

@@ -1,10 +1,11 @@
-// The pseudo-random sequence c(n) of TS 36.211 7.2, up to 28 bits at a time. A register holds the next 31 values of its
-// sequence as a number, the first most significant (bit 30), and so does a word.
+// The pseudo-random sequence c(n) of TS 36.211 7.2, up to 28 bits at a time, or 48. A register holds the next 31 values of
+// its sequence as a number, the first most significant (bit 30), and so does a word.
 ghost use mathlib.Core.Path.{_≡_};
 ghost use Prim.Native.Nat.{ℕ, _≤_, _-_, _/_, _%_, _^_};
 ghost use Rattle.gold.specs.Sequence.{binary, start2, pairAt};
 ghost use Rattle.gold.specs.Steps.{after, wordOf};
 ghost use Rattle.gold.specs.Window.{window, sums, offsets1, offsets2};
+ghost use Rattle.gold.specs.Wide.{wideOf, Narrows, Gives48, Goes48};
 
 // The register pair of document 01: the next 31 values of x1 and of x2.
 pub struct Registers {
@@ -13,7 +14,7 @@ pub struct Registers {
 }
 
 // 59 values of a sequence in one number: the register, and the 28 that come next.
-fn widened(x: u32, y: u32) -> u64
+fn windowed(x: u32, y: u32) -> u64
     ensures { λ z. ⌜ z ≡ window x y ⌝ }
 {
     (x as u64) * 268435456 + ((y % 268435456) as u64)
@@ -57,8 +58,8 @@ pub fn advance(r: Registers, n: u32) -> Registers
     let a = r.x1;
     let b = r.x2;
     Registers {
-        x1: moved(widened(a, fed1(a)), n),
-        x2: moved(widened(b, fed2(b)), n),
+        x1: moved(windowed(a, fed1(a)), n),
+        x2: moved(windowed(b, fed2(b)), n),
     }
 }
 
@@ -105,7 +106,7 @@ fn start(c_init: u32) -> Registers
     ensures { λ r. ⌜ r ≡ pairAt «c_init» 0 ⌝ }
 {
     let b = mirrored(c_init);
-    let z = widened(b, fed2(b));
+    let z = windowed(b, fed2(b));
     let near = z / 134217728 ^ z / 67108864 ^ z / 33554432 ^ z / 1048576;
     let all = near ^ z / 65536 ^ z / 4096 ^ z / 512 ^ z / 256 ^ z / 32;
     Registers {
@@ -119,4 +120,54 @@ pub fn pair_at(c_init: u32, first: usize) -> Registers
     ensures { λ r. ⌜ r ≡ pairAt «c_init» first ⌝ }
 {
     skip(start(c_init), first)
+}
+
+// 64 values of x1 and of x2, each as a number, the first most significant: for whoever takes many bits, 48 at a time.
+pub struct Wide {
+    pub x1: u64,
+    pub x2: u64,
+}
+
+// The pair's 64 values: of each register its window, and five more.
+pub fn widen(r: Registers) -> Wide
+    ensures { λ w. ⌜ w ≡ wideOf r ⌝ }
+{
+    let a = windowed(r.x1, fed1(r.x1));
+    let b = windowed(r.x2, fed2(r.x2));
+    Wide {
+        x1: a % 576460752303423488 * 32 + (a / 8388608 ^ a / 67108864) % 32,
+        x2: b % 576460752303423488 * 32
+            + (b / 8388608 ^ b / 16777216 ^ b / 33554432 ^ b / 67108864) % 32,
+    }
+}
+
+// The pair again: the first 31 values of each.
+pub fn narrow(w: Wide) -> Registers
+    ensures { λ r. ⌜ Narrows w r ⌝ }
+{
+    Registers {
+        x1: (w.x1 / 8589934592) as u32,
+        x2: (w.x2 / 8589934592) as u32,
+    }
+}
+
+// The next 48 bits as a word, the first most significant.
+pub fn word48(w: Wide) -> u64
+    ensures { λ v. ⌜ Gives48 w v ⌝ }
+{
+    (w.x1 ^ w.x2) / 65536
+}
+
+// The values 48 steps on: x1(n+62) = x1(n+6) + x1(n), and x2(n+62) = x2(n+6) + x2(n+4) + x2(n+2) + x2(n), where y has the sums of the
+// values two apart.
+pub fn advance48(w: Wide) -> Wide
+    ensures { λ s. ⌜ Goes48 w s ⌝ }
+{
+    let a = w.x1;
+    let b = w.x2;
+    let y = b / 4 ^ b;
+    Wide {
+        x1: a % 65536 * 281474976710656 + (a / 16384 ^ a / 256) % 281474976710656,
+        x2: b % 65536 * 281474976710656 + (y / 4096 ^ y / 256) % 281474976710656,
+    }
 }

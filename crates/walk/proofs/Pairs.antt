@@ -63,7 +63,14 @@ module _ (own : ℕ → Bool) (P T : ℕ) (W : ℕ → Element) where
       record { elements = λ x h. p .elements x (sym (ap (λ (y : ℕ). sentPart own P T 0 y x) e ∙ part-all own P T some x) ∙ h) }
 
 -- ---- a pair: places p and p + gap of the indices j and j + 1, where j is even
-swap : (a b : Bool) → a || b ≡ b || a
+pub pair-value :
+    (W : ℕ → Element) (gap : ℕ) (x y : Element) (a e : ℕ) → W a ≡ x → W (a + gap) ≡ y → eqb a e || eqb (a + gap) e ≡ true → cond (eqb a e) x y ≡ W e
+pair-value W gap x y a e f s d =
+    by-test (eqb a e)
+    (λ q. rw q (sym f ∙ ap W (eqb-true a e q)))
+    (λ q. let r : eqb (a + gap) e ≡ true = (rw q at d) in rw q (sym s ∙ ap W (eqb-true (a + gap) e r)))
+
+pub swap : (a b : Bool) → a || b ≡ b || a
 swap true true = refl
 swap true false = refl
 swap false true = refl
@@ -105,16 +112,10 @@ module _
       ∙ shuffle (eqb (A + gap) e) (eqb (B + gap) e) (eqb A e) (eqb B e)
 
   module _ (W : ℕ → Element) {v w : ℕ} (h : PairHas P T W j p gap v w) where
-    value : (x y : Element) (a e : ℕ) → W a ≡ x → W (a + gap) ≡ y → eqb a e || eqb (a + gap) e ≡ true → cond (eqb a e) x y ≡ W e
-    value x y a e f s d =
-        by-test (eqb a e)
-        (λ q. rw q (sym f ∙ ap W (eqb-true a e q)))
-        (λ q. let r : eqb (a + gap) e ≡ true = (rw q at d) in rw q (sym s ∙ ap W (eqb-true (a + gap) e r)))
-
     pub pair-written : {a b : ℕ} {g f k : List ℕ} → a ≡ 3 * A → b ≡ 3 * B → TwoPut gap a v g f → TwoPut gap b w f k → Written (sentPart own P T j 2) W g k
     pair-written {g = g} {f = f} ia ib r s =
-        over (same (λ e. refl) (λ e d. value _ _ A e (h .own-first) (h .own-second) d) (r .written A ia)) (s .written B ib)
-        (λ e d. value _ _ B e (h .other-first) (h .other-second) d) pair-part
+        over (same (λ e. refl) (λ e d. pair-value W gap _ _ A e (h .own-first) (h .own-second) d) (r .written A ia)) (s .written B ib)
+        (λ e d. pair-value W gap _ _ B e (h .other-first) (h .other-second) d) pair-part
 
     of-part : (e : ℕ) → (eqb B e || eqb (B + gap) e) || (eqb A e || eqb (A + gap) e) ≡ true → sentPart own P T j 2 e ≡ true
     of-part e d = pair-part e ∙ d

@@ -1,7 +1,7 @@
 -- THE LAWS OF PLACES ON ONE PORT: a stretch of a run's places between holes, and one place written or
 -- compared as one number. Assumes nothing.
 use Prim.Native.Nat.{ℕ, _+_, _-_, _*_, _/_, _≤_, _<_}
-use mathlib.Core.Path.{_≡_, refl, sym, ap, _∙_, subst}
+use mathlib.Core.Path.{_≡_, refl, sym, ap, ap₂, _∙_, subst}
 use mathlib.Core.Bool.{Bool, true, false, _||_}
 use mathlib.Core.List.{List}
 use native.Mathlib.Nat.{add-mul, one-mul, zero-mul}
@@ -16,7 +16,7 @@ use Rattle.grid.specs.Elements.{elementIn}
 use Rattle.grid.specs.Writing.{Written}
 use Rattle.grid.proofs.Writing.{same}
 use Rattle.compare.specs.Comparing.{Holds}
-use Rattle.element_pairs.specs.Numbers.{elementFrom, OnePut, OneRead}
+use Rattle.element_pairs.specs.Numbers.{elementFrom, upper, OnePut, TwoPut, OneRead}
 use Rattle.element_pairs.proofs.Puts.{same-one}
 use Rattle.walk.specs.declared.Run.{Run}
 use Rattle.walk.specs.Runs.{runCount, placeAt, Laid, SinglesAt}
@@ -24,7 +24,8 @@ use Rattle.walk.specs.Parts.{sentPart}
 use Rattle.walk.specs.Forms.{Holed, Stretch}
 use Rattle.walk.proofs.Forms.{place-63}
 use Rattle.walk.proofs.Runs.{within-at}
-use Rattle.walk.proofs.Parts.{part-place}
+use Rattle.walk.proofs.Parts.{part-place, part-join}
+use Rattle.walk.proofs.Pairs.{swap, pair-value}
 
 -- ---- stretches
 module _ {first lead each k at c : ℕ} (s : Stretch first lead each k at c) where
@@ -107,3 +108,17 @@ module _ (own : ℕ → Bool) (T t j : ℕ) (l : t < T) (is : own t ≡ true) (a
 
     pub one-found : {x : ℕ} {g : List ℕ} → OneRead a g x → v < 16777216 → Holds (sentPart own 1 T j 1) W g → x ≡ v
     one-found r lv h = same-one (r .few) lv (sym (r .element t ia) ∙ h .elements t (one-part t ∙ eq-eqb t t refl) ∙ w)
+
+-- ---- two places side by side, as one number
+module _ (own : ℕ → Bool) (T t j : ℕ) (l : t + 1 < T) (first : own t ≡ true) (second : own (t + 1) ≡ true) (at-j : cnt own t ≡ j) (at-next : cnt own (t + 1) ≡ j + 1) where
+  two-part : (e : ℕ) → eqb t e || eqb (t + 1) e ≡ sentPart own 1 T j 2 e
+  two-part e =
+      swap (eqb t e) (eqb (t + 1) e)
+      ∙ sym
+      (part-join own 1 T j 1 1 e
+      ∙ ap₂ (λ (a b : Bool). a || b) (one-part own T (t + 1) (j + 1) l second at-next e) (one-part own T t j (omega arith) first at-j e))
+
+  pub two-written :
+      (W : ℕ → Element) (v : ℕ) → W t ≡ elementFrom v → W (t + 1) ≡ elementFrom (upper v) → {a : ℕ} → a ≡ 3 * t → {g h : List ℕ} → TwoPut 1 a v g h
+      → Written (sentPart own 1 T j 2) W g h
+  two-written W v w x ia p = same two-part (λ e d. pair-value W 1 _ _ t e w x d) (p .written t ia)

@@ -11,8 +11,8 @@ mirrored-requires c κs = search needs
 fed2-requires : tie.Need-fed2-requires
 fed2-requires c κs = search needs
 
-widened-requires : tie.Need-widened-requires
-widened-requires c κs = search needs
+windowed-requires : tie.Need-windowed-requires
+windowed-requires c κs = search needs
 
 cast-t6 : tie.Need-cast-t6
 cast-t6 c = search needs
@@ -20,8 +20,8 @@ cast-t6 c = search needs
 returns : tie.Need-returns
 returns c =
     let m = c .before .before in
-    start-is _ (m .before .args .c-init) _ _ _ (m .mirrored .ensures) (c .before .fed2 .ensures) (c .widened .ensures) refl refl
+    start-is _ (m .before .args .c-init) _ _ _ (m .mirrored .ensures) (c .before .fed2 .ensures) (c .windowed .ensures) refl refl
 
 pub start-spec : {M : Type 1} → statement M
 start-spec =
-    tie.close (tie.spec mirrored-requires fed2-requires widened-requires cast-t6 returns)
+    tie.close (tie.spec mirrored-requires fed2-requires windowed-requires cast-t6 returns)
