@@ -1,5 +1,3 @@
--- Laws that the proofs cite. Walking, Placing, Rows: the walk through the places. Walking and Rows serve data_read too, which reads the same
--- places.
+-- Laws that comparing and reading cite: the index of a place, and the rows of an area.
 pub mod Walking
-mod Placing
 pub mod Rows
