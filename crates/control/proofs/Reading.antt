@@ -1,6 +1,6 @@
 -- The units' first quads read from a grid place by place, and the loop over a plan's HIs that writes their bits. Assumes nothing.
 use Prim.Native.Nat.{ℕ, zero, suc, _+_, _-_, _*_, _/_, _%_, _^_, _≤_, _<_}
-use mathlib.Core.Path.{_≡_, refl, sym, ap, ap₂, _∙_}
+use mathlib.Core.Path.{_≡_, sym, ap, ap₂, _∙_}
 use mathlib.Core.Bool.{cond}
 use mathlib.Core.List.{List, [], _∷_}
 use native.Mathlib.Nat.{not-suc-le-zero}
@@ -9,7 +9,6 @@ use native.Mathlib.Omega.{arith}
 use lib.Dec.{eqb}
 use lib.IntN.{ℤ, pos, negsuc}
 use lib.ListN.{length, getD, drop, set, length-set}
-use Rattle.base.specs.declared.Pair.{Pair}
 use Rattle.base.specs.declared.Element.{Element}
 use Rattle.base.specs.Bytes.{signedOf, pairOf}
 use Rattle.base.specs.Pairs.{nil}

@@ -13,7 +13,6 @@ use Rattle.codeword.specs.Streams.{outputs}
 use Rattle.precoding.specs.Places.{placed}
 use Rattle.phich.specs.Loops.{scrambledSums}
 use Rattle.phich.specs.Spreading.{spreadLength}
-use Rattle.plan.specs.Fields.{unitsOf}
 use Rattle.plan.specs.declared.Cell.{Cell}
 use Rattle.layout.specs.Rules.{unitGroup, pcfich, phich, formatGroup}
 use Rattle.places.specs.Places.{symbolAt, carrierAt, placesOf}

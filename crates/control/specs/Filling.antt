@@ -1,5 +1,5 @@
 -- For the inner contracts and loops only: what the functions that fill PCFICH and a PHICH unit require, and what their steps do.
-use Prim.Native.Nat.{ℕ, _+_, _*_, _/_, _%_, _≤_, _<_}
+use Prim.Native.Nat.{ℕ, _*_, _/_, _≤_, _<_}
 use mathlib.Core.List.{List}
 use lib.ListN.{getD}
 use Rattle.base.specs.declared.Pair.{Pair}

@@ -1,14 +1,12 @@
 -- The first quad along an HI is its own places along its own chips, and the loop over these: what is totalled so far. Assumes nothing.
 use Prim.Native.Nat.{ℕ, _+_, _-_, _*_, _/_, _%_, _≤_, _<_}
 use mathlib.Core.Path.{_≡_, refl, sym, ap, ap₂, _∙_}
-use mathlib.Core.Bool.{Bool, true, false, cond}
+use mathlib.Core.Bool.{true, false}
 use mathlib.Core.List.{List}
 use native.Mathlib.Decide.{ℕ-discrete}
 use native.Mathlib.Nat.{zero-mul}
 use native.Mathlib.Numerals.{add-one}
 use native.Mathlib.Omega.{arith}
-use borrow.Author.Tests.{lt-ltb, le-ltb}
-use lib.Dec.{leb, ltb}
 use lib.ListN.{getD}
 use lib.IntN.{ℤ, pos, natAbs, _+ℤ_, +ℤ-idr}
 use lib.Signed.{ltZ}
@@ -18,16 +16,15 @@ use mir.Facts.{toZ-ofZ}
 use Rattle.base.specs.declared.Pair.{Pair}
 use Rattle.base.specs.Signs.{below}
 use Rattle.base.specs.Pairs.{nil, turned}
-use Rattle.base.specs.Tables.{table}
 use Rattle.base.proofs.Fits.{abs-add, fits-abs, below-yes, below-not}
 use Rattle.base.proofs.Tables.{table-at}
 use Rattle.plan.specs.declared.Hi.{Hi}
 use Rattle.phich.specs.Spreading.{Length, signAt, plainChip}
 use Rattle.phich.specs.Units.{mappingUnit, firstPlace, partAt}
 use Rattle.phich.specs.Recovery.{dot, total, along, bitIn}
-use Rattle.phich.specs.Loops.{HiIn, levelsAt, quadOf}
+use Rattle.phich.specs.Loops.{levelsAt, quadOf}
 use Rattle.phich.proofs.Lengths.{by-length}
-use Rattle.phich.proofs.Correlation.{total-same, dot-nil}
+use Rattle.phich.proofs.Correlation.{total-same}
 use Rattle.phich.proofs.Parts.{part-below, part-above, part-in}
 use Rattle.phich.proofs.Along.{along-same}
 use Rattle.phich.proofs.Own.{group-fits}

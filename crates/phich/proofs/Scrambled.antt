@@ -1,7 +1,7 @@
 -- Scrambling distributes over sums: the twelve sums of a unit are those of one quad, each turned by the scrambling bit of its place, which is the
 -- same for both groups of a unit. So they come from the bytes of the unit's quad. Assumes nothing.
-use Prim.Native.Nat.{ℕ, suc, _+_, _-_, _*_, _/_, _%_, _≤_, _<_}
-use mathlib.Core.Path.{_≡_, refl, sym, ap, ap₂, _∙_, subst}
+use Prim.Native.Nat.{ℕ, suc, _+_, _-_, _*_, _/_, _%_, _<_}
+use mathlib.Core.Path.{_≡_, sym, ap, ap₂, _∙_, subst}
 use mathlib.Core.Bool.{Bool, true, false, cond, _&&_}
 use mathlib.Core.List.{List, [], _∷_}
 use native.Mathlib.Nat.{mod-lt}
@@ -12,7 +12,6 @@ use lib.Seq.{getD-take, getD-drop, length-take-le}
 use Rattle.base.specs.declared.Pair.{Pair}
 use Rattle.base.specs.Bytes.{signedOf}
 use Rattle.base.specs.Pairs.{nil, plus, turned, Small}
-use Rattle.base.specs.Tables.{table}
 use Rattle.base.proofs.Pairs.{pair-of, turned-nil}
 use Rattle.base.proofs.Signs.{turn-add}
 use Rattle.plan.specs.declared.Hi.{Hi}

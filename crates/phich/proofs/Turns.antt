@@ -1,12 +1,12 @@
 -- The loops over a plan's HIs: those from number k on stand from position `from` on, and what is summed and what is left make the whole sums.
 -- Assumes nothing.
 use Prim.Native.Nat.{ℕ, zero, suc, _+_, _-_, _*_, _/_, _%_, _≤_, _<_}
-use mathlib.Core.Path.{_≡_, refl, sym, ap, ap₂, _∙_}
+use mathlib.Core.Path.{_≡_, sym, ap, _∙_}
 use mathlib.Core.List.{List, _∷_}
 use native.Mathlib.Nat.{not-suc-le-zero}
 use native.Mathlib.Numerals.{add-one, sub-one}
 use native.Mathlib.Omega.{arith}
-use lib.ListN.{length, getD, drop}
+use lib.ListN.{length, drop}
 use Rattle.base.specs.declared.Pair.{Pair}
 use Rattle.base.specs.Pairs.{nil, plus}
 use Rattle.base.specs.Tables.{table}

@@ -1,5 +1,5 @@
 -- For the loops only: sums of quads as bytes. Place y is place y % 4 of unit y / 4, and its levels I and J are bytes 2y and 2y + 1.
-use Prim.Native.Nat.{ℕ, zero, suc, _+_, _-_, _*_, _/_, _%_, _≤_, _<_}
+use Prim.Native.Nat.{ℕ, _+_, _-_, _*_, _/_, _%_, _<_}
 use mathlib.Core.Path.{_≡_}
 use mathlib.Core.Bool.{cond}
 use mathlib.Core.List.{List}

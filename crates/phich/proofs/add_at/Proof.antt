@@ -1,5 +1,5 @@
 -- `phich::add_at` meets its contract: two bytes of one place. Assumes nothing.
-use mathlib.Core.Path.{refl, ap, _∙_}
+use mathlib.Core.Path.{ap, _∙_}
 use native.Mathlib.Omega.{arith}
 use mir.Syntax.{w8}
 use mir.Facts.{toZ-ofZ}

@@ -1,5 +1,5 @@
 -- `phich::add_hi` meets its contract: the HI's first n chips are added. Assumes nothing.
-use Prim.Native.Nat.{_-_, _*_}
+use Prim.Native.Nat.{_-_}
 use native.Mathlib.Omega.{arith}
 use mathlib.Core.Path.{_∙_}
 use Rattle.phich.proofs.Parts.{chip-turns}

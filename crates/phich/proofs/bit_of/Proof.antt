@@ -1,5 +1,5 @@
 -- `phich::bit_of` meets its contract: the HI's first n places are totalled along its chips. Assumes nothing.
-use Prim.Native.Nat.{_-_, _*_}
+use Prim.Native.Nat.{_-_}
 use native.Mathlib.Omega.{arith}
 use mir.Syntax.{w16}
 use mir.Val.{toZ}

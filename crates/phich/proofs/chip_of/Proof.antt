@@ -1,5 +1,4 @@
 -- `phich::chip_of` meets its contract, by the length. Assumes nothing.
-use native.Mathlib.Omega.{arith}
 use Rattle.phich.proofs.Lengths.{chip-four, chip-two}
 use borrow.Author.Needs.{needs}
 use Rattle.phich.proofs.chip_of.Statement.{statement}
