@@ -99,11 +99,11 @@ module _ {a b : ℕ} (la : a < 16777216) (lb : b < 16777216) where
   pair-few : (jointOf a b < 281474976710656) × (partnersOf a b < 281474976710656)
   pair-few = (joint-few a b la lb, xor-lt 48 (jointOf b a) minusBits (joint-few b a lb la) (omega arith))
 
-  joint-low : elementFrom (jointOf a b) ≡ elementFrom a
+  pub joint-low : elementFrom (jointOf a b) ≡ elementFrom a
   unfolding elementFrom
   joint-low = element-same (omega arith) (omega arith) (omega arith)
 
-  joint-high : elementFrom (upper (jointOf a b)) ≡ elementFrom b
+  pub joint-high : elementFrom (upper (jointOf a b)) ≡ elementFrom b
   joint-high = let h : upper (jointOf a b) ≡ b = omega arith in ap elementFrom h
 
 -- an exclusive or, byte by byte

@@ -1,0 +1,76 @@
+-- `data_write::fill_runs` meets its contract. Invariant: the runs before the cursor are filled. Assumes nothing.
+use native.Mathlib.Omega.{arith}
+use Rattle.data_write.proofs.Areas.{symbols-are, carriers-are, places-are, extent-small, blocks-small, places-small, inside, area-begins, cursor-in, area-sending, area-run, area-on, area-ends}
+use Rattle.data_write.specs.Areas.{Going}
+use Rattle.walk.proofs.Cursors.{less, measure}
+use Rattle.data_write.proofs.fill_runs.Statement.{statement}
+use Rattle.data_write.proofs.fill_runs.Tie as tie
+
+abbrev Inv-loop : tie.InvT-loop
+Inv-loop st₀ q t bits grid₀ a rows spans symbols carriers places c₀ j₀ st grid c j = Going a q rows spans t bits st₀ grid₀ c j st grid
+
+abbrev μ-loop : tie.MeasureT-loop
+μ-loop st₀ q t bits grid₀ a rows spans symbols carriers places c₀ j₀ st grid c j = measure symbols c
+
+slot-length-requires : tie.Need-slot-length-requires Inv-loop μ-loop
+slot-length-requires c κs = tt
+
+mul-symbols : tie.Need-mul-symbols Inv-loop μ-loop
+mul-symbols c = omega (arith, extent-small (c .before .before .before .pre) (c .slot-length .ensures))
+
+wide-requires : tie.Need-wide-requires Inv-loop μ-loop
+wide-requires c κs = tt
+
+mul-carriers : tie.Need-mul-carriers Inv-loop μ-loop
+mul-carriers c = omega (arith, blocks-small (c .before .before .before .before .pre) (c .wide .ensures))
+
+mul-places : tie.Need-mul-places Inv-loop μ-loop
+mul-places c = omega (arith, places-small (c .before .before .before .before .pre) (c .before .slot-length .ensures) (c .wide .ensures))
+
+start-requires : tie.Need-start-requires Inv-loop μ-loop
+start-requires c κs = tt
+
+loop-holds : tie.Need-loop-holds Inv-loop μ-loop
+loop-holds c = area-begins (c .before .before .before .before .before .pre) (c .start .ensures)
+
+run-at-requires : tie.Need-run-at-requires Inv-loop μ-loop
+run-at-requires c κs = cursor-in (c .before .before .before .before .before .before .before .before .pre) (c .before .before .loop .inv) (inside (c .before .before .before .before .before .before .before .before .args .a .cell) (c .before .before .before .before .before .slot-length .ensures) (c .if1 .taken)) (carriers-are (c .before .before .before .before .before .before .before .before .args .a .cell) (c .before .before .before .before .wide .ensures))
+
+fill-run-requires : tie.Need-fill-run-requires Inv-loop μ-loop
+fill-run-requires c κs = (area-run (c .before .before .before .before .before .before .before .before .before .before .before .pre) (c .before .before .before .before .before .loop .inv) (inside (c .before .before .before .before .before .before .before .before .before .before .before .args .a .cell) (c .before .before .before .before .before .before .before .before .slot-length .ensures) (c .before .before .before .if1 .taken)) (carriers-are (c .before .before .before .before .before .before .before .before .before .before .before .args .a .cell) (c .before .before .before .before .before .before .before .wide .ensures)) (places-are (c .before .before .before .before .before .before .before .before .before .before .before .args .a .cell) (c .before .before .before .before .before .before .before .before .slot-length .ensures) (c .before .before .before .before .before .before .before .wide .ensures)) (c .before .before .run-at .ensures .0) (c .before .before .run-at .ensures .1), area-sending (c .before .before .before .before .before .before .before .before .before .before .before .pre) (c .before .before .before .before .before .loop .inv) (inside (c .before .before .before .before .before .before .before .before .before .before .before .args .a .cell) (c .before .before .before .before .before .before .before .before .slot-length .ensures) (c .before .before .before .if1 .taken)))
+
+next-requires : tie.Need-next-requires Inv-loop μ-loop
+next-requires c κs = omega (arith, extent-small (c .before .before .before .before .before .before .before .before .before .before .before .before .before .before .pre) (c .before .before .before .before .before .before .before .before .before .before .before .slot-length .ensures), c .before .before .before .before .before .before .if1 .taken)
+
+loop-less : tie.Need-loop-less Inv-loop μ-loop
+loop-less c = less _ (c .before .before .before .before .before .before .before .before .before .before .before .before .before .before .before .args .rows .now) (c .before .before .before .before .before .before .before .before .before .loop .c) (c .next .ensures .0) (c .before .before .before .before .before .before .before .if1 .taken) (c .next .ensures .1)
+
+loop-again : tie.Need-loop-again Inv-loop μ-loop
+loop-again c = area-on (c .before .before .before .before .before .before .before .before .before .before .before .before .before .before .before .pre) (c .before .before .before .before .before .before .before .before .before .loop .inv) (inside (c .before .before .before .before .before .before .before .before .before .before .before .before .before .before .before .args .a .cell) (c .before .before .before .before .before .before .before .before .before .before .before .before .slot-length .ensures) (c .before .before .before .before .before .before .before .if1 .taken)) (carriers-are (c .before .before .before .before .before .before .before .before .before .before .before .before .before .before .before .args .a .cell) (c .before .before .before .before .before .before .before .before .before .before .before .wide .ensures)) (places-are (c .before .before .before .before .before .before .before .before .before .before .before .before .before .before .before .args .a .cell) (c .before .before .before .before .before .before .before .before .before .before .before .before .slot-length .ensures) (c .before .before .before .before .before .before .before .before .before .before .before .wide .ensures)) (c .before .before .before .before .before .before .run-at .ensures .0) (c .next .ensures .0) (c .before .before .before .fill-run .ensures)
+
+same-length : tie.Need-same-length Inv-loop μ-loop
+same-length c = c .before .before .loop .inv .size
+
+returns : tie.Need-returns Inv-loop μ-loop
+returns c = area-ends (c .before .before .before .before .before .before .before .before .pre) (symbols-are (c .before .before .before .before .before .before .before .before .args .a .cell) (c .before .before .before .before .before .slot-length .ensures)) (c .before .before .loop .inv) (c .if1 .left)
+
+pub fill-runs-spec : {M : Type 1} → statement M
+fill-runs-spec =
+    tie.close
+    (tie.spec
+    Inv-loop
+    μ-loop
+    slot-length-requires
+    mul-symbols
+    wide-requires
+    mul-carriers
+    mul-places
+    start-requires
+    loop-holds
+    run-at-requires
+    fill-run-requires
+    next-requires
+    loop-less
+    loop-again
+    same-length
+    returns)

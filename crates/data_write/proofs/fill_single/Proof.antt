@@ -1,0 +1,55 @@
+-- `data_write::fill_single` meets its contract. Assumes nothing.
+use native.Mathlib.Omega.{arith}
+use Rattle.data_write.proofs.OnePort.{single-total, single-small, holes-in, doubles-in, holes-filled, doubles-filled}
+use borrow.Author.Needs.{needs}
+use Rattle.data_write.proofs.fill_single.Statement.{statement}
+use Rattle.data_write.proofs.fill_single.Tie as tie
+
+holes-of-requires : tie.Need-holes-of-requires
+holes-of-requires c κs = c .before .before .pre .0 .form
+
+mul-total : tie.Need-mul-total
+mul-total c = omega (arith, single-small (c .before .before .before .before .pre .0) (c .before .holes-of .ensures))
+
+mul-doubles : tie.Need-mul-doubles
+mul-doubles c = omega (arith, c .before .before .before .before .before .before .before .before .pre .0 .short)
+
+doubles-requires : tie.Need-doubles-requires
+doubles-requires c κs = (doubles-in (c .before .before .before .before .before .before .before .before .pre .0) (c .before .before .before .before .before .holes-of .ensures) (c .before .before .if1 .taken), c .before .before .before .before .before .before .before .before .pre .1)
+
+add-result : tie.Need-add-result
+add-result c = omega (arith, single-total (c .before .before .before .before .before .before .before .before .before .before .before .pre .0) (c .before .before .before .before .before .before .before .before .holes-of .ensures), c .before .before .before .before .before .before .before .before .before .before .before .pre .0 .index)
+
+same-length : tie.Need-same-length
+same-length c = search needs
+
+returns : tie.Need-returns
+returns c = doubles-filled (c .before .before .before .before .before .before .before .before .before .before .before .pre .0) (c .before .before .before .before .before .before .before .before .holes-of .ensures) (c .before .before .before .before .before .if1 .taken) (c .before .before .doubles .ensures)
+
+holes-requires : tie.Need-holes-requires
+holes-requires c κs = (holes-in (c .before .before .before .before .before .before .before .before .pre .0) (c .before .before .before .before .before .holes-of .ensures) (c .before .before .if1 .left), c .before .before .before .before .before .before .before .before .pre .1)
+
+add-result-2 : tie.Need-add-result-2
+add-result-2 c = omega (arith, single-total (c .before .before .before .before .before .before .before .before .before .before .before .pre .0) (c .before .before .before .before .before .before .before .before .holes-of .ensures), c .before .before .before .before .before .before .before .before .before .before .before .pre .0 .index)
+
+same-length-2 : tie.Need-same-length-2
+same-length-2 c = search needs
+
+returns-2 : tie.Need-returns-2
+returns-2 c = holes-filled (c .before .before .before .before .before .before .before .before .before .before .before .pre .0) (c .before .before .before .before .before .before .before .before .holes-of .ensures) (c .before .before .holes .ensures)
+
+pub fill-single-spec : {M : Type 1} → statement M
+fill-single-spec =
+    tie.close
+    (tie.spec
+    holes-of-requires
+    mul-total
+    mul-doubles
+    doubles-requires
+    add-result
+    same-length
+    returns
+    holes-requires
+    add-result-2
+    same-length-2
+    returns-2)

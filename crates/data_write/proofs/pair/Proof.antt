@@ -1,0 +1,69 @@
+-- `data_write::pair` meets its contract. Assumes nothing.
+use native.Mathlib.Omega.{arith}
+use Rattle.data_write.proofs.Source.{entries-small, from-table}
+use Rattle.data_write.proofs.Filled.{one-takes, one-fits, one-done}
+use Rattle.walk.proofs.Addresses.{offsets-small}
+use borrow.Author.Needs.{needs}
+use Rattle.data_write.proofs.pair.Statement.{statement}
+use Rattle.data_write.proofs.pair.Tie as tie
+
+port-offsets-requires : tie.Need-port-offsets-requires
+port-offsets-requires c κs = c .before .before .pre .0 .room .fits
+
+mul-take : tie.Need-mul-take
+mul-take c = omega (arith, c .before .before .before .before .pre .1 .order)
+
+take-requires : tie.Need-take-requires
+take-requires c κs = one-takes (c .before .before .before .before .pre .0) (c .before .before .before .before .pre .1) (c .before .port-offsets .ensures)
+
+shr-number : tie.Need-shr-number
+shr-number c = omega (arith, c .before .before .before .before .before .pre .1 .order)
+
+number-requires : tie.Need-number-requires
+number-requires c κs = tt
+
+number-requires-2 : tie.Need-number-requires-2
+number-requires-2 c κs = tt
+
+add-put-pair : tie.Need-add-put-pair
+add-put-pair c = omega (arith, offsets-small (c .before .before .before .before .before .before .before .before .before .pre .0) (c .before .before .before .before .before .before .port-offsets .ensures))
+
+mul-put-pair : tie.Need-mul-put-pair
+mul-put-pair c = omega (arith, offsets-small (c .before .before .before .before .before .before .before .before .before .pre .0) (c .before .before .before .before .before .before .port-offsets .ensures))
+
+mul-put-pair-2 : tie.Need-mul-put-pair-2
+mul-put-pair-2 c = omega (arith, offsets-small (c .before .before .before .before .before .before .before .before .before .before .pre .0) (c .before .before .before .before .before .before .before .port-offsets .ensures))
+
+joint-requires : tie.Need-joint-requires
+joint-requires c κs = entries-small (c .before .before .before .before .before .before .before .before .before .before .pre .1) _ _ (c .before .before .before .before .number .ensures) (c .before .before .before .number2 .ensures)
+
+partners-requires : tie.Need-partners-requires
+partners-requires c κs = entries-small (c .before .before .before .before .before .before .before .before .before .before .before .pre .1) _ _ (c .before .before .before .before .before .number .ensures) (c .before .before .before .before .number2 .ensures)
+
+put-pair-requires : tie.Need-put-pair-requires
+put-pair-requires c κs = one-fits (c .before .before .before .before .before .before .before .before .before .before .before .before .pre .0) (c .before .before .before .before .before .before .before .before .before .before .before .before .pre .1) (c .before .before .before .before .before .before .before .before .before .port-offsets .ensures)
+
+same-length : tie.Need-same-length
+same-length c = search needs
+
+returns : tie.Need-returns
+returns c = one-done (c .before .before .before .before .before .before .before .before .before .before .before .before .before .before .before .pre .0) (c .before .before .before .before .before .before .before .before .before .before .before .before .before .before .before .pre .1) (c .before .before .before .before .before .before .before .before .before .before .before .before .port-offsets .ensures) (c .before .before .before .before .before .before .before .before .before .before .take .ensures) (from-table (c .before .before .before .before .before .before .before .before .before .number .ensures) (c .before .before .before .before .before .before .before .before .number2 .ensures) (c .before .before .before .before .joint .ensures) (c .before .before .before .partners .ensures)) (c .before .before .put-pair .ensures)
+
+pub pair-spec : {M : Type 1} → statement M
+pair-spec =
+    tie.close
+    (tie.spec
+    port-offsets-requires
+    mul-take
+    take-requires
+    shr-number
+    number-requires
+    number-requires-2
+    add-put-pair
+    mul-put-pair
+    mul-put-pair-2
+    joint-requires
+    partners-requires
+    put-pair-requires
+    same-length
+    returns)

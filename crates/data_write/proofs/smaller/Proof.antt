@@ -1,0 +1,15 @@
+-- `data_write::smaller` meets its contract. Assumes nothing.
+use native.Mathlib.Omega.{arith}
+use mathlib.Core.Logic.{inl, inr}
+use mathlib.Core.Path.{refl}
+use Rattle.data_write.proofs.smaller.Statement.{statement}
+use Rattle.data_write.proofs.smaller.Tie as tie
+
+returns : tie.Need-returns
+returns c = record { first = omega arith; second = omega arith; one = inl refl }
+
+returns-2 : tie.Need-returns-2
+returns-2 c = record { first = omega arith; second = omega arith; one = inr refl }
+
+pub smaller-spec : {M : Type 1} → statement M
+smaller-spec = tie.close (tie.spec returns returns-2)

@@ -1,0 +1,37 @@
+-- For the inner contracts and loops only: pairs and runs of a channel's places, filled whatever channel they belong to.
+use Prim.Native.Nat.{ℕ, _+_, _*_}
+use mathlib.Core.Path.{_≡_}
+use mathlib.Core.Bool.{Bool}
+use mathlib.Core.List.{List}
+use lib.ListN.{length}
+use Rattle.gold.specs.declared.Registers.{Registers}
+use Rattle.codeword.specs.Bits48.{Standing}
+use Rattle.codeword.specs.Streams.{symbolsOf}
+use Rattle.grid.specs.Writing.{Written}
+use Rattle.walk.specs.declared.Run.{Run}
+use Rattle.walk.specs.Runs.{runCount, Laid, PairsAt}
+use Rattle.walk.specs.Parts.{sentPart}
+use Rattle.walk.specs.Addresses.{RoundAt}
+use Rattle.data_write.specs.Sent.{sentElement, TableOf}
+
+-- of m pairs i are filled, and the bits stand after their symbols
+pub record PairsDone (P T gap j start step m i q : ℕ) (t bits st before st′ after : List ℕ) : Type 0 where
+  pub size : length after ≡ length before
+  pub stands : (r : Registers) → Standing (2 * q) bits r (q * j) st → Standing (2 * q) bits r (q * (j + 2 * i)) st′
+  pub done :
+      (own : ℕ → Bool) (unit : ℕ) (r : Registers) → TableOf P q unit t → Standing (2 * q) bits r (q * j) st → PairsAt own T j start step gap m
+      → Written (sentPart own P T j (2 * i)) (sentElement own P T unit (symbolsOf q bits r)) before after
+
+-- two pairs in each round, those of i rounds are filled
+pub record Rounds (P T gap j start step n q : ℕ) (t bits st before : List ℕ) (at next i : ℕ) (st′ grid : List ℕ) : Type 0 where
+  pub round : RoundAt P T j start step n at next i
+  pub done : PairsDone P T gap j start step (2 * n) (2 * i) q t bits st before st′ grid
+
+-- what is done with a run, whatever channel it belongs to; bits are taken in groups of u
+pub record RunFilled (u P T j : ℕ) (run : Run) (q : ℕ) (t bits st before : List ℕ) (next : ℕ) (st′ after : List ℕ) : Type 0 where
+  pub next-index : next ≡ j + runCount run
+  pub size : length after ≡ length before
+  pub stands : (r : Registers) → Standing u bits r (q * j) st → Standing u bits r (q * (j + runCount run)) st′
+  pub filled :
+      (own : ℕ → Bool) (unit : ℕ) (r : Registers) → TableOf P q unit t → Standing u bits r (q * j) st → Laid own T j run
+      → Written (sentPart own P T j (runCount run)) (sentElement own P T unit (symbolsOf q bits r)) before after

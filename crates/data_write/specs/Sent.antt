@@ -1,0 +1,36 @@
+-- For the inner contracts and loops only: the elements of a channel's symbols, and what sending them needs.
+use Prim.Native.Nat.{ℕ, _*_, _/_, _%_, _<_}
+use mathlib.Core.Bool.{Bool, cond}
+use mathlib.Core.List.{List}
+use lib.Dec.{eqb}
+use Rattle.base.specs.declared.Element.{Element}
+use Rattle.base.specs.declared.Pair.{Pair}
+use Rattle.base.specs.Counts.{cnt}
+use Rattle.gold.specs.declared.Registers.{Registers}
+use Rattle.modulation.specs.Symbols.{Order}
+use Rattle.codeword.specs.Bits48.{Standing}
+use Rattle.precoding.specs.Matrices.{unitOn}
+use Rattle.precoding.specs.Places.{placed}
+use Rattle.constellation.specs.Entries.{Elements}
+
+-- THE VALUES of the elements of a channel of the places `own`, with the symbols d in a unit
+unfoldable pub sentElement : (ℕ → Bool) → ℕ → ℕ → ℕ → (ℕ → Pair) → ℕ → Element
+sentElement own P T unit d e = placed P (cnt own (e % T) / 2 % 2) unit d (cnt own (e % T)) (e / T)
+
+-- bits are taken in groups: a symbol's with one port, those of a pair of places with two or four
+abbrev pub groupOf : ℕ → ℕ → ℕ
+groupOf P q = cond (eqb P 1) q (2 * q)
+
+-- the order's table, for a unit on P ports
+pub record TableOf (P q unit : ℕ) (t : List ℕ) : Type 0 where
+  pub small : unitOn P unit < 256
+  pub table : Elements q (unitOn P unit) t
+
+-- what sending from index j on needs, in groups of u bits
+pub record Sending (u q j : ℕ) (t bits st : List ℕ) : Type 0 where
+  pub order : Order q
+  pub byte : ℕ
+  pub small : byte < 256
+  pub table : Elements q byte t
+  pub pair : Registers
+  pub standing : Standing u bits pair (q * j) st

@@ -1,0 +1,513 @@
+// PBCH and the users written into a grid (TS 36.211 6.3.5, 6.6.4): their places run by run, on two ports or four a pair of places at a time,
+// with elements from an order's table.
+use areas::Area;
+use gold::Registers;
+use walk::Run;
+ghost use mathlib.Core.Path.{_≡_};
+ghost use Prim.Native.Nat.{_+_, _*_};
+ghost use Rattle.gold.specs.Steps.{after as afterBits};
+ghost use Rattle.grid.specs.Writing.{Written};
+ghost use Rattle.areas.specs.Areas.{areaCount, areaSends, areaElement, AreaIn};
+ghost use Rattle.walk.specs.Addresses.{PairsIn, RunIn};
+ghost use Rattle.walk.specs.Forms.{Stretch};
+ghost use Rattle.data_write.specs.Sent.{groupOf, Sending};
+ghost use Rattle.data_write.specs.Pairs.{PairsDone, RunFilled};
+ghost use Rattle.data_write.specs.OnePort.{runFrom, Smaller, SinglesIn, SinglesDone, HolesIn, HolesDone, SingleIn};
+ghost use Rattle.data_write.specs.Areas.{SignalsIn, AnyIn, RunsIn, RunsDone, FillIn, AreaFilled};
+
+// Half blocks with all six places open, two pairs in each round: twice n pairs, pair i at `start` + 2i. A loop of its own beside `quads`:
+// with one loop for both, the processor foresees its end less often.
+fn sixes(
+    st: &mut [u64; 8],
+    q: u64,
+    t: &[u32; 256],
+    bits: &[u8],
+    grid: &mut [u8],
+    ports: u8,
+    places: usize,
+    j: usize,
+    start: usize,
+    n: usize,
+)
+    requires { ⌜ PairsIn ports places 1 j start 2 (2 * n) (now grid) × Sending (2 * q) q j (now t) (now bits) (now st) ⌝ }
+    ensures { λ _. ⌜ PairsDone ports places 1 j start 2 (2 * n) (2 * n) q (now (t .entry)) (now (bits .entry)) (now (st .entry)) (now (grid .entry)) (now (st .exit)) (now (grid .exit)) ⌝ }
+{
+    let p = walk::port_offsets(ports, places, j);
+    let across = 3 * p.across;
+    let four = 4 * q;
+    let mut at = 3 * (p.own + start);
+    let mut next = 3 * (p.next + start + 2);
+    let mut i: usize = 0;
+    while i < n {
+        let z = codeword::take(st, four, bits);
+        let y = z >> q;
+        let x = y >> q;
+        let a = constellation::number(t, x >> q);
+        let b = constellation::number(t, x);
+        let c = constellation::number(t, y);
+        let d = constellation::number(t, z);
+        element_pairs::put_pair(
+            grid,
+            at,
+            across,
+            constellation::joint(a, b),
+            constellation::partners(a, b),
+        );
+        element_pairs::put_pair(
+            grid,
+            next,
+            across,
+            constellation::joint(c, d),
+            constellation::partners(c, d),
+        );
+        at += 12;
+        next += 12;
+        i += 1;
+    }
+}
+
+// Twice n pairs with holes between them: pair i at `start` + `step` × i and beside it. The table is read before the grid is written, since
+// the compiler cannot tell the two apart.
+fn quads(
+    st: &mut [u64; 8],
+    q: u64,
+    t: &[u32; 256],
+    bits: &[u8],
+    grid: &mut [u8],
+    ports: u8,
+    places: usize,
+    j: usize,
+    start: usize,
+    n: usize,
+)
+    requires { ⌜ PairsIn ports places 1 j start 3 (2 * n) (now grid) × Sending (2 * q) q j (now t) (now bits) (now st) ⌝ }
+    ensures { λ _. ⌜ PairsDone ports places 1 j start 3 (2 * n) (2 * n) q (now (t .entry)) (now (bits .entry)) (now (st .entry)) (now (grid .entry)) (now (st .exit)) (now (grid .exit)) ⌝ }
+{
+    let p = walk::port_offsets(ports, places, j);
+    let across = 3 * p.across;
+    let four = 4 * q;
+    let mut at = 3 * (p.own + start);
+    let mut next = 3 * (p.next + start + 3);
+    let mut i: usize = 0;
+    while i < n {
+        let z = codeword::take(st, four, bits);
+        let y = z >> q;
+        let x = y >> q;
+        let a = constellation::number(t, x >> q);
+        let b = constellation::number(t, x);
+        let c = constellation::number(t, y);
+        let d = constellation::number(t, z);
+        element_pairs::put_pair(
+            grid,
+            at,
+            across,
+            constellation::joint(a, b),
+            constellation::partners(a, b),
+        );
+        element_pairs::put_pair(
+            grid,
+            next,
+            across,
+            constellation::joint(c, d),
+            constellation::partners(c, d),
+        );
+        at += 18;
+        next += 18;
+        i += 1;
+    }
+}
+
+// The same where a hole is between the two places of a pair.
+fn quads_apart(
+    st: &mut [u64; 8],
+    q: u64,
+    t: &[u32; 256],
+    bits: &[u8],
+    grid: &mut [u8],
+    ports: u8,
+    places: usize,
+    j: usize,
+    start: usize,
+    n: usize,
+)
+    requires { ⌜ PairsIn ports places 2 j start 3 (2 * n) (now grid) × Sending (2 * q) q j (now t) (now bits) (now st) ⌝ }
+    ensures { λ _. ⌜ PairsDone ports places 2 j start 3 (2 * n) (2 * n) q (now (t .entry)) (now (bits .entry)) (now (st .entry)) (now (grid .entry)) (now (st .exit)) (now (grid .exit)) ⌝ }
+{
+    let p = walk::port_offsets(ports, places, j);
+    let across = 3 * p.across;
+    let four = 4 * q;
+    let mut at = 3 * (p.own + start);
+    let mut next = 3 * (p.next + start + 3);
+    let mut i: usize = 0;
+    while i < n {
+        let z = codeword::take(st, four, bits);
+        let y = z >> q;
+        let x = y >> q;
+        let a = constellation::number(t, x >> q);
+        let b = constellation::number(t, x);
+        let c = constellation::number(t, y);
+        let d = constellation::number(t, z);
+        element_pairs::put_pair_apart(
+            grid,
+            at,
+            across,
+            constellation::joint(a, b),
+            constellation::partners(a, b),
+        );
+        element_pairs::put_pair_apart(
+            grid,
+            next,
+            across,
+            constellation::joint(c, d),
+            constellation::partners(c, d),
+        );
+        at += 18;
+        next += 18;
+        i += 1;
+    }
+}
+
+// One pair, side by side.
+fn pair(
+    st: &mut [u64; 8],
+    q: u64,
+    t: &[u32; 256],
+    bits: &[u8],
+    grid: &mut [u8],
+    ports: u8,
+    places: usize,
+    j: usize,
+    start: usize,
+)
+    requires { ⌜ PairsIn ports places 1 j start 2 1 (now grid) × Sending (2 * q) q j (now t) (now bits) (now st) ⌝ }
+    ensures { λ _. ⌜ PairsDone ports places 1 j start 2 1 1 q (now (t .entry)) (now (bits .entry)) (now (st .entry)) (now (grid .entry)) (now (st .exit)) (now (grid .exit)) ⌝ }
+{
+    let p = walk::port_offsets(ports, places, j);
+    let y = codeword::take(st, 2 * q, bits);
+    let a = constellation::number(t, y >> q);
+    let b = constellation::number(t, y);
+    element_pairs::put_pair(
+        grid,
+        3 * (p.own + start),
+        3 * p.across,
+        constellation::joint(a, b),
+        constellation::partners(a, b),
+    );
+}
+
+// Half blocks with all six places open: where their number is odd, one pair is left after the rounds.
+fn all_six(
+    st: &mut [u64; 8],
+    q: u64,
+    t: &[u32; 256],
+    bits: &[u8],
+    grid: &mut [u8],
+    ports: u8,
+    places: usize,
+    j: usize,
+    first: usize,
+    halves: usize,
+)
+    requires { ⌜ PairsIn ports places 1 j first 2 (3 * halves) (now grid) × Sending (2 * q) q j (now t) (now bits) (now st) ⌝ }
+    ensures { λ _. ⌜ PairsDone ports places 1 j first 2 (3 * halves) (3 * halves) q (now (t .entry)) (now (bits .entry)) (now (st .entry)) (now (grid .entry)) (now (st .exit)) (now (grid .exit)) ⌝ }
+{
+    let n = 3 * halves / 2;
+    sixes(st, q, t, bits, grid, ports, places, j, first, n);
+    if 3 * halves % 2 == 1 {
+        pair(
+            st,
+            q,
+            t,
+            bits,
+            grid,
+            ports,
+            places,
+            j + 4 * n,
+            first + 4 * n,
+        );
+    }
+}
+
+// A run on two ports or four, from the channel's index j on; the index after it.
+fn fill_pairs(
+    st: &mut [u64; 8],
+    q: u64,
+    t: &[u32; 256],
+    bits: &[u8],
+    grid: &mut [u8],
+    run: Run,
+    j: usize,
+    ports: u8,
+    places: usize,
+) -> usize
+    requires { ⌜ RunIn ports places j run (now grid) × Sending (2 * q) q j (now t) (now bits) (now st) ⌝ }
+    ensures { λ x. ⌜ RunFilled (2 * q) ports places j run q (now (t .entry)) (now (bits .entry)) (now (st .entry)) (now (grid .entry)) x (now (st .exit)) (now (grid .exit)) ⌝ }
+{
+    let first = run.first;
+    let halves = run.halves;
+    let mask = run.mask;
+    if mask == 63 {
+        all_six(st, q, t, bits, grid, ports, places, j, first, halves);
+        return j + 6 * halves;
+    }
+    if mask == 27 {
+        quads(st, q, t, bits, grid, ports, places, j, first, halves);
+        return j + 4 * halves;
+    }
+    if mask == 54 {
+        quads(st, q, t, bits, grid, ports, places, j, first + 1, halves);
+        return j + 4 * halves;
+    }
+    quads_apart(st, q, t, bits, grid, ports, places, j, first, halves);
+    j + 4 * halves
+}
+
+// n places side by side on one port.
+fn singles(
+    st: &mut [u64; 8],
+    q: u64,
+    t: &[u32; 256],
+    bits: &[u8],
+    grid: &mut [u8],
+    j: usize,
+    start: usize,
+    n: usize,
+)
+    requires { ⌜ SinglesIn j start n (now grid) × Sending q q j (now t) (now bits) (now st) ⌝ }
+    ensures { λ _. ⌜ SinglesDone j start n n q (now (t .entry)) (now (bits .entry)) (now (st .entry)) (now (grid .entry)) (now (st .exit)) (now (grid .exit)) ⌝ }
+{
+    let mut at = 3 * start;
+    let mut i: usize = 0;
+    while i < n {
+        let x = codeword::take(st, q, bits);
+        element_pairs::put_three(grid, at, constellation::number(t, x));
+        at += 3;
+        i += 1;
+    }
+}
+
+// Twice n places side by side on one port, two in each round.
+fn doubles(
+    st: &mut [u64; 8],
+    q: u64,
+    t: &[u32; 256],
+    bits: &[u8],
+    grid: &mut [u8],
+    j: usize,
+    start: usize,
+    n: usize,
+)
+    requires { ⌜ SinglesIn j start (2 * n) (now grid) × Sending q q j (now t) (now bits) (now st) ⌝ }
+    ensures { λ _. ⌜ SinglesDone j start (2 * n) (2 * n) q (now (t .entry)) (now (bits .entry)) (now (st .entry)) (now (grid .entry)) (now (st .exit)) (now (grid .exit)) ⌝ }
+{
+    let two = 2 * q;
+    let mut at = 3 * start;
+    let mut i: usize = 0;
+    while i < n {
+        let y = codeword::take(st, two, bits);
+        let a = constellation::number(t, y >> q);
+        let b = constellation::number(t, y);
+        element_pairs::put_six(grid, at, constellation::joint(a, b));
+        at += 6;
+        i += 1;
+    }
+}
+
+fn smaller(a: usize, b: usize) -> usize
+    ensures { λ r. ⌜ Smaller a b r ⌝ }
+{
+    if a < b { a } else { b }
+}
+
+// A run's places on one port, stretch after stretch between holes: the first stretch has c places from `start` on, the others `each`.
+fn between(
+    st: &mut [u64; 8],
+    q: u64,
+    t: &[u32; 256],
+    bits: &[u8],
+    grid: &mut [u8],
+    first: usize,
+    halves: usize,
+    mask: usize,
+    j: usize,
+    lead: usize,
+    each: usize,
+    total: usize,
+    start: usize,
+    c: usize,
+)
+    requires { ⌜ HolesIn j (runFrom first halves mask) lead each total (now grid) × Stretch first lead each 0 start c × Sending q q j (now t) (now bits) (now st) ⌝ }
+    ensures { λ _. ⌜ HolesDone j (runFrom first halves mask) total q (now (t .entry)) (now (bits .entry)) (now (st .entry)) (now (grid .entry)) (now (st .exit)) (now (grid .exit)) ⌝ }
+{
+    let mut at = start;
+    let mut left = c;
+    let mut k: usize = 0;
+    while k < total {
+        let n = smaller(left, total - k);
+        singles(st, q, t, bits, grid, j + k, at, n);
+        k += n;
+        at += n + 1;
+        left = each;
+    }
+}
+
+// The same where the hole may be the first place.
+fn holes(
+    st: &mut [u64; 8],
+    q: u64,
+    t: &[u32; 256],
+    bits: &[u8],
+    grid: &mut [u8],
+    run: Run,
+    j: usize,
+    lead: usize,
+    each: usize,
+    total: usize,
+)
+    requires { ⌜ HolesIn j run lead each total (now grid) × Sending q q j (now t) (now bits) (now st) ⌝ }
+    ensures { λ _. ⌜ HolesDone j run total q (now (t .entry)) (now (bits .entry)) (now (st .entry)) (now (grid .entry)) (now (st .exit)) (now (grid .exit)) ⌝ }
+{
+    let first = run.first;
+    if lead == 0 {
+        between(
+            st,
+            q,
+            t,
+            bits,
+            grid,
+            first,
+            run.halves,
+            run.mask,
+            j,
+            lead,
+            each,
+            total,
+            first + 1,
+            each,
+        );
+        return;
+    }
+    between(
+        st,
+        q,
+        t,
+        bits,
+        grid,
+        first,
+        run.halves,
+        run.mask,
+        j,
+        lead,
+        each,
+        total,
+        first,
+        lead,
+    );
+}
+
+// A run on one port, from the channel's index j on; the index after it.
+fn fill_single(
+    st: &mut [u64; 8],
+    q: u64,
+    t: &[u32; 256],
+    bits: &[u8],
+    grid: &mut [u8],
+    run: Run,
+    j: usize,
+    places: usize,
+) -> usize
+    requires { ⌜ SingleIn places j run (now grid) × Sending q q j (now t) (now bits) (now st) ⌝ }
+    ensures { λ x. ⌜ RunFilled q 1 places j run q (now (t .entry)) (now (bits .entry)) (now (st .entry)) (now (grid .entry)) x (now (st .exit)) (now (grid .exit)) ⌝ }
+{
+    let first = run.first;
+    let halves = run.halves;
+    let h = walk::holes_of(run.mask);
+    let total = h.count * halves;
+    if h.each == 0 {
+        doubles(st, q, t, bits, grid, j, first, 3 * halves);
+        return j + total;
+    }
+    holes(st, q, t, bits, grid, run, j, h.lead, h.each, total);
+    j + total
+}
+
+// A run of half blocks, from the channel's index j on; the index after it.
+fn fill_run(
+    st: &mut [u64; 8],
+    q: u64,
+    t: &[u32; 256],
+    bits: &[u8],
+    grid: &mut [u8],
+    run: Run,
+    j: usize,
+    ports: u8,
+    places: usize,
+) -> usize
+    requires { ⌜ AnyIn ports places j run (now grid) × Sending (groupOf ports q) q j (now t) (now bits) (now st) ⌝ }
+    ensures { λ x. ⌜ RunFilled (groupOf ports q) ports places j run q (now (t .entry)) (now (bits .entry)) (now (st .entry)) (now (grid .entry)) x (now (st .exit)) (now (grid .exit)) ⌝ }
+{
+    if ports == 1 {
+        return fill_single(st, q, t, bits, grid, run, j, places);
+    }
+    fill_pairs(st, q, t, bits, grid, run, j, ports, places)
+}
+
+// All runs of an area, by its tables.
+fn fill_runs(
+    st: &mut [u64; 8],
+    q: u64,
+    t: &[u32; 256],
+    bits: &[u8],
+    grid: &mut [u8],
+    a: Area,
+    rows: &[u8; 45],
+    spans: &[u8; 512],
+)
+    requires { ⌜ RunsIn a q (now rows) (now spans) (now t) (now bits) (now st) (now grid) ⌝ }
+    ensures { λ _. ⌜ RunsDone a q (now (rows .entry)) (now (spans .entry)) (now (t .entry)) (now (bits .entry)) (now (st .entry)) (now (grid .entry)) (now (st .exit)) (now (grid .exit)) ⌝ }
+{
+    let symbols = 2 * layout::slot_length(a.cell);
+    let carriers = 12 * base::wide(a.cell.blocks);
+    let places = symbols * carriers;
+    let mut c = walk::start(rows);
+    let mut j: usize = 0;
+    while c.s < symbols {
+        let run = walk::run_at(c, carriers, rows, spans);
+        j = fill_run(st, q, t, bits, grid, run, j, a.cell.ports, places);
+        c = walk::next(c, rows);
+    }
+}
+
+// An area's places, with symbols of q bits whose elements are in the order's table, from a slice's bits scrambled by what the pair gives; the
+// pair after them, at the bit after the last that was used. The masks are those of `areas::row_masks`.
+fn fill_by_tables(
+    r: Registers,
+    a: Area,
+    q: u32,
+    t: &[u32; 256],
+    masks: &[u8; 14],
+    bits: &[u8],
+    grid: &mut [u8],
+) -> Registers
+    requires { ⌜ FillIn a q (now t) (now masks) (now grid) ⌝ }
+    ensures { λ x. ⌜ AreaFilled a q (now (t .entry)) (now (bits .entry)) r (now (grid .entry)) x (now (grid .exit)) ⌝ }
+{
+    let mut rows: [u8; 45] = [0; 45];
+    let mut spans: [u8; 512] = [0; 512];
+    areas::set_tables(a, masks, &mut rows, &mut spans);
+    let mut st = codeword::begin(r, bits);
+    fill_runs(&mut st, q as u64, t, bits, grid, a, &rows, &spans);
+    codeword::end(r, &st)
+}
+
+// The same with tables that it makes: the elements of the order's symbols in the unit that the ports have, and the masks of the rows.
+pub fn fill_area(r: Registers, a: Area, q: u32, unit: u8, bits: &[u8], grid: &mut [u8]) -> Registers
+    requires { ⌜ AreaIn a q unit (now grid) × SignalsIn a ⌝ }
+    ensures { λ x. ⌜ Written (areaSends a) (areaElement a q unit (now (bits .entry)) r) (now (grid .entry)) (now (grid .exit)) × (x ≡ afterBits r (q * areaCount a)) ⌝ }
+{
+    let mut t: [u32; 256] = [0; 256];
+    constellation::set_elements(&mut t, q, precoding::unit_on(a.cell.ports, unit));
+    let mut masks: [u8; 14] = [0; 14];
+    areas::row_masks(a.cell, a.frame, a.signals, a.leaves, &mut masks);
+    fill_by_tables(r, a, q, &t, &masks, bits, grid)
+}
