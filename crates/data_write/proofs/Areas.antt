@@ -2,16 +2,18 @@
 -- filling an area needs.
 use Prim.Native.Nat.{ℕ, _+_, _*_, _/_, _%_, _≤_, _<_}
 use mathlib.Core.Path.{_≡_, refl, sym, ap, ap₂, _∙_, subst}
-use mathlib.Core.Bool.{Bool, cond}
+use mathlib.Core.Bool.{Bool, true, false, cond}
 use mathlib.Core.List.{List}
 use native.Mathlib.Nat.{mod-lt, mul-zero}
 use native.Mathlib.Omega.{arith}
+use lib.Dec.{eqb}
 use borrow.Author.Tests.{ne-eqb}
 use Rattle.base.proofs.Rows.{row-inside}
 use Rattle.base.specs.declared.Element.{Element}
 use Rattle.base.specs.Counts.{cnt}
 use Rattle.base.proofs.Counts.{cnt-most}
 use Rattle.gold.specs.declared.Registers.{Registers}
+use Rattle.gold.specs.Steps.{after as afterBits}
 use Rattle.codeword.specs.Streams.{symbolsOf}
 use Rattle.codeword.specs.Bits48.{Standing, Begins48, Ends}
 use Rattle.precoding.specs.Matrices.{unitOn}
@@ -22,7 +24,7 @@ use Rattle.layout.specs.Owners.{symbols, carriers}
 use Rattle.layout.specs.Rules.{slotLength}
 use Rattle.places.specs.Places.{placesOf}
 use Rattle.places.proofs.Numbers.{symbols-most, symbols-least}
-use Rattle.grid.specs.Writing.{Room}
+use Rattle.grid.specs.Writing.{Written, Room}
 use Rattle.grid.proofs.Writing.{same}
 use Rattle.walk.specs.declared.Cursor.{Cursor}
 use Rattle.walk.specs.declared.Run.{Run}
@@ -33,12 +35,13 @@ use Rattle.walk.proofs.Runs.{form-even}
 use Rattle.walk.proofs.Cursors.{starts, run-in, run-laid, goes-on, through}
 use Rattle.walk.proofs.Pairs.{written-none, written-join, written-all}
 use Rattle.areas.specs.declared.Area.{Area}
-use Rattle.areas.specs.Areas.{areaCount, areaElement}
-use Rattle.areas.specs.Tables.{AreaTables}
+use Rattle.constellation.specs.Entries.{Elements}
+use Rattle.areas.specs.Areas.{areaCount, areaSends, areaElement, AreaIn}
+use Rattle.areas.specs.Tables.{RowMasks, AreaTables}
 use Rattle.areas.proofs.Tables.{tables-index, tables-count, tables-sends}
-use Rattle.data_write.specs.Sent.{sentElement, groupOf, Sending}
+use Rattle.data_write.specs.Sent.{sentElement, groupOf, TableOf, Sending}
 use Rattle.data_write.specs.Pairs.{RunFilled}
-use Rattle.data_write.specs.Areas.{AnyIn, tablesAt, portsOf, groupIn, RunsIn, Going, RunsDone, FillIn, AreaFilled}
+use Rattle.data_write.specs.Areas.{AnyIn, tablesAt, portsOf, groupIn, SignalsIn, RunsIn, Going, RunsDone, FillIn, AreaFilled}
 use Rattle.data_write.proofs.Filled.{later-sending}
 
 -- ---- one port, and two or four
@@ -248,3 +251,31 @@ module _ {a : Area} {q : ℕ} {t masks grid : List ℕ} (h : FillIn a q t masks 
         written = λ unit tb. d .written unit r tb (begins q b);
         pair = e .exact bits (q * areaCount a) (d .stands r (begins q b) .ready);
       }
+
+-- the tables that an area's filling makes for itself
+unit-small : (P unit : ℕ) → unit ≤ 127 → unitOn P unit < 256
+unfolding unitOn
+unit-small P unit l = pick (eqb P 1)
+  where
+    pick : (b : Bool) → cond b unit (2 * unit) < 256
+    pick true = omega arith
+    pick false = omega arith
+
+pub tables-made :
+    {a : Area} {q unit u : ℕ} {t masks grid : List ℕ} → AreaIn a q unit grid × SignalsIn a → u ≡ unitOn (portsOf a) unit → Elements q u t
+    → RowMasks (a .cell) (a .frame) (a .signals) (a .leaves) 14 masks → FillIn a q t masks grid
+tables-made {a} {q} {unit} {u} {t} i e s m =
+    record {
+      unit = unit;
+      area = i .0;
+      signals = i .1;
+      table = record { small = unit-small (portsOf a) unit (i .0 .level); table = subst (λ (x : ℕ). Elements q x t) e s };
+      bytes = m;
+    }
+
+pub by-tables :
+    {a : Area} {q unit u : ℕ} {t bits before after : List ℕ} {r x : Registers} → unit ≤ 127 → u ≡ unitOn (portsOf a) unit → Elements q u t
+    → AreaFilled a q t bits r before x after
+    → Written (areaSends a) (areaElement a q unit bits r) before after × (x ≡ afterBits r (q * areaCount a))
+by-tables {a} {q} {unit} {t = t} l e s f =
+    (f .written unit (record { small = unit-small (portsOf a) unit l; table = subst (λ (x : ℕ). Elements q x t) e s }), f .pair)
