@@ -151,7 +151,8 @@ pub fn row_masks(cell: Cell, frame: Frame, signals: u8, leaves: bool, masks: &mu
     }
 }
 
-fn smaller(a: usize, b: usize) -> usize
+// The smaller of two numbers.
+pub fn smaller(a: usize, b: usize) -> usize
     ensures { λ r. ⌜ Smaller a b r ⌝ }
 {
     if a < b { a } else { b }

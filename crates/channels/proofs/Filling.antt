@@ -11,9 +11,10 @@ use Rattle.phich.specs.Spreading.{spreadLength}
 use Rattle.modulation.specs.Symbols.{Order, unitOf}
 use Rattle.modulation.proofs.Formulas.{unit-small}
 use Rattle.plan.specs.Lists.{Among as OneOf}
-use Rattle.plan.specs.Fields.{orders}
+use Rattle.plan.specs.Fields.{portCounts, orders}
 use Rattle.plan.specs.Rows.{nthUser}
 use Rattle.plan.specs.Valid.{Valid, CellIn, FrameIn, UserIn}
+use Rattle.plan.specs.declared.Cell.{Cell}
 use Rattle.plan.specs.declared.Plan.{Plan}
 use Rattle.plan.specs.declared.User.{User}
 use Rattle.plan.proofs.OneOf.{among-holds}
@@ -28,6 +29,7 @@ use Rattle.subframe.proofs.OwnerBits.{pbch-both}
 use Rattle.areas.specs.Areas.{areaCount, areaSends, areaElement, pbchArea, userArea, AreaIn}
 use Rattle.areas.specs.declared.Area.{Area}
 use Rattle.areas.proofs.AreaOwners.{pbch-count, user-count}
+use Rattle.data_write.specs.Areas.{SignalsIn}
 use Rattle.signals.specs.Signals.{crsSends, crsSent}
 use Rattle.signals.specs.Rows.{SignalIn}
 use Rattle.control.specs.Control.{pcfichSends, pcfichSent, phichSends, phichSent}
@@ -43,6 +45,14 @@ order-ok q h = (
   leb→le 2 q (among-holds (λ (n : ℕ). leb 2 n) orders q tt h),
   leb→le q 6 (among-holds (λ (n : ℕ). leb n 6) orders q tt h),
 )
+
+-- ---- a cell has one, two or four ports
+not-three : (c : Cell) → CellIn c → c .ports ≡ 3 → ⊥
+not-three c h e =
+    let a : c .ports * c .ports % 3 ≡ 1 = eqb→eq (c .ports * c .ports % 3) 1 (among-holds (λ (n : ℕ). eqb (n * n % 3) 1) portCounts (c .ports) tt (h .ports)) in
+    let b : c .ports * c .ports % 3 ≡ 0 = ap (λ (n : ℕ). n * n % 3) e in
+    let z : _≡_ {A = ℕ} 0 1 = sym b ∙ a in
+    omega arith
 
 -- ---- what the functions require
 module _ (w : List ℕ) (p : Plan) (ch : Channel) (grid : List ℕ) {bits : List ℕ} (ok : ChannelIn w p ch bits grid) where
@@ -62,18 +72,21 @@ module _ (w : List ℕ) (p : Plan) (ch : Channel) (grid : List ℕ) {bits : List
   pub pbch-wide : 6 ≤ p .cell .blocks
   pbch-wide = omega (arith, blocks-least (p .cell) (v .cell))
 
-  pub pbch-in : (a : Area) → a ≡ pbchArea (p .cell) (p .frame) → AreaIn a 2 2 grid
+  pub pbch-in : (a : Area) → a ≡ pbchArea (p .cell) (p .frame) → AreaIn a 2 2 grid × SignalsIn a
   pbch-in a e =
       let L = slot-length (p .cell) in
-      subst (λ (b : Area). AreaIn b 2 2 grid) (sym e) (record {
-        cell = v .cell;
-        frame = v .frame;
-        rows = omega (arith, L .0);
-        halves = omega (arith, pbch-wide);
-        order = (omega arith, omega arith, omega arith);
-        level = omega arith;
-        room = ok .room;
-      })
+      subst (λ (b : Area). AreaIn b 2 2 grid × SignalsIn b) (sym e) (
+        record {
+          cell = v .cell;
+          frame = v .frame;
+          rows = omega (arith, L .0);
+          halves = omega (arith, pbch-wide);
+          order = (omega arith, omega arith, omega arith);
+          level = omega arith;
+          room = ok .room;
+        },
+        λ many. (omega arith, λ x. omega (arith, x)),
+      )
 
   pub pcfich-in : PcfichIn (p .cell) (p .frame .cfi) grid
   pcfich-in = record { cell = v .cell; some = v .frame .some; most = v .frame .most; room = ok .room }
@@ -83,19 +96,23 @@ module _ (w : List ℕ) (p : Plan) (ch : Channel) (grid : List ℕ) {bits : List
   phich-in m x e ex =
       record { cell = v .cell; unit = omega (arith, subst (Among p) e (ok .among), ex); room = ok .room; levels = subst (Planned w p bits) e (ok .planned) }
 
-  pub user-in : (u : User) (a : Area) (unit : ℕ) → ch ≡ UserOf u → a ≡ userArea (p .cell) (p .frame) u → unit ≡ unitOf (u .order) → AreaIn a (u .order) unit grid
+  pub user-in : (u : User) (a : Area) (unit : ℕ) → ch ≡ UserOf u → a ≡ userArea (p .cell) (p .frame) u → unit ≡ unitOf (u .order)
+      → AreaIn a (u .order) unit grid × SignalsIn a
   unfolding Among
   user-in u a unit e ea eu =
       let h : UserIn (p .cell) u = subst (Among p) e (ok .among) in
-      subst (λ (b : Area). AreaIn b (u .order) unit grid) (sym ea) (record {
-        cell = v .cell;
-        frame = v .frame;
-        rows = omega arith;
-        halves = omega (arith, h .last);
-        order = order-ok (u .order) (h .order);
-        level = omega (arith, eu, unit-small (u .order));
-        room = ok .room;
-      })
+      subst (λ (b : Area). AreaIn b (u .order) unit grid × SignalsIn b) (sym ea) (
+        record {
+          cell = v .cell;
+          frame = v .frame;
+          rows = omega arith;
+          halves = omega (arith, h .last);
+          order = order-ok (u .order) (h .order);
+          level = omega (arith, eu, unit-small (u .order));
+          room = ok .room;
+        },
+        λ many. (many, not-three (p .cell) (v .cell)),
+      )
 
   -- ---- where they leave the pair
   module _ (r : Registers) {x : Registers} where

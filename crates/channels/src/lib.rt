@@ -127,14 +127,14 @@ fn filled(
         Channel::Crs(s, port) => signals::fill_crs(r, cell, base::wide(s), port, grid),
         Channel::Pbch => {
             let area = areas::pbch_area(cell, frame);
-            data::fill_area(r, area, 2, 2, bits, grid)
+            data_write::fill_area(r, area, 2, 2, bits, grid)
         }
         Channel::Pcfich => control::fill_pcfich(r, cell, frame.cfi, grid),
         Channel::Phich(m) => control::fill_phich(r, cell, base::wide(m), bits, grid),
         Channel::User(u) => {
             let area = areas::user_area(cell, frame, u);
             let order = u.order as u32;
-            data::fill_area(r, area, order, modulation::unit(order), bits, grid)
+            data_write::fill_area(r, area, order, modulation::unit(order), bits, grid)
         }
     }
 }

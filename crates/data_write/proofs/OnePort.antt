@@ -2,9 +2,9 @@
 use Prim.Native.Nat.{ℕ, _+_, _-_, _*_, _/_, _^_, _≤_, _<_}
 use mathlib.Core.Path.{_≡_, refl, sym, ap, _∙_, subst}
 use mathlib.Core.Bool.{Bool}
-use mathlib.Core.Logic.{_⊎_, ⊎-elim}
 use mathlib.Core.List.{List}
 use native.Mathlib.Nat.{mul-comm, mul-le-mul}
+use native.Mathlib.Decide.{decLe}
 use native.Mathlib.Omega.{arith}
 use lib.ListN.{length}
 use Rattle.base.specs.Counts.{cnt}
@@ -24,9 +24,10 @@ use Rattle.walk.specs.Forms.{Stretch, HolesOf}
 use Rattle.walk.proofs.Runs.{six-count}
 use Rattle.walk.proofs.Pairs.{written-none, written-join}
 use Rattle.walk.proofs.Singles.{one-written, two-written, stretch-singles, stretch-inside, stretch-on, six-singles}
+use Rattle.areas.specs.Tables.{Smaller}
 use Rattle.data_write.specs.Sent.{sentElement, TableOf, Sending}
 use Rattle.data_write.specs.Pairs.{RunFilled}
-use Rattle.data_write.specs.OnePort.{Smaller, SinglesIn, SinglesDone, SingleRounds, HolesIn, HolesDone, Stretches, SingleIn}
+use Rattle.data_write.specs.OnePort.{SinglesIn, SinglesDone, SingleRounds, HoledRun, HolesIn, HolesDone, Stretches, SingleIn}
 use Rattle.data_write.proofs.Source.{stands-on, can-take, entryOf, two-symbols, single-has, double-first, double-second}
 
 pub singles-start : {j start n each q : ℕ} {t bits st before : List ℕ} → SingleRounds j start n each q t bits st before (3 * start) 0 st before
@@ -151,8 +152,11 @@ doubles-end {j} {start} {n} {q} {at} {i} {t} {bits} {st} {before} {st′} {grid}
     subst (λ (x : ℕ). SinglesDone j start (2 * n) x q t bits st before st′ grid) e (d .done)
 
 -- ---- stretches
-module _ {j lead each total q : ℕ} {run : Run} {t bits st before : List ℕ} (h : HolesIn j run lead each total before) where
-  pub holes-start : {start c : ℕ} → Stretch (run .first) lead each 0 start c → Stretches j run lead each total q t bits st before start c 0 st before
+pub first-in : {j first lead each total : ℕ} {grid : List ℕ} → HolesIn j first lead each total grid → (first ≤ 16800) × (lead ≤ each) × (0 < each)
+first-in h = (omega (arith, h .places .from, h .small), h .places .holed .early, h .places .holed .some)
+
+module _ {j first lead each total q : ℕ} {t bits st before : List ℕ} (h : HolesIn j first lead each total before) where
+  pub holes-start : {start c : ℕ} → Stretch first lead each 0 start c → Stretches j first lead each total q t bits st before start c 0 st before
   holes-start s =
       record {
         few = omega arith;
@@ -161,18 +165,32 @@ module _ {j lead each total q : ℕ} {run : Run} {t bits st before : List ℕ} (
             record {
               size = refl;
               stands = λ r g. let e : j ≡ j + 0 = omega arith in subst (λ (x : ℕ). Standing q bits r (q * x) st) e g;
-              done = λ own T unit r tb g l. written-none own 1 T (sentElement own 1 T unit (symbolsOf q bits r)) j before;
+              done = λ own T unit r run a tb g l. written-none own 1 T (sentElement own 1 T unit (symbolsOf q bits r)) j before;
             };
       }
 
   module _
-      {at left k n : ℕ} {st′ grid : List ℕ} (d : Stretches j run lead each total q t bits st before at left k st′ grid) (l : k < total)
+      {at left k n : ℕ} {st′ grid : List ℕ} (d : Stretches j first lead each total q t bits st before at left k st′ grid) (l : k < total)
       (m : Smaller left (total - k) n) where
     pub some : 0 < n
-    some = ⊎-elim (λ e. omega (arith, d .stretch l .some)) (λ e. omega arith) (m .one)
+    some = pick (decLe left n)
+      where
+        pick : Dec (left ≤ n) → 0 < n
+        pick (yes e) = omega (arith, d .stretch l .some)
+        pick (no e) = omega (arith, m .one (omega arith))
 
-    fit : at + n ≤ run .first + 6 * run .halves
-    fit = stretch-inside (d .stretch l) run refl (h .holed) n some (m .first) (omega (arith, m .second, h .all))
+    -- the stretch is taken whole where places are left after it
+    whole : k + n < total → n ≡ left
+    whole b = pick (decLe left n)
+      where
+        pick : Dec (left ≤ n) → n ≡ left
+        pick (yes e) = omega (arith, m .first)
+        pick (no e) = absurd (omega (arith, m .one (omega arith)))
+
+    fit : at + n ≤ h .run .first + 6 * h .run .halves
+    fit =
+        let a = h .places in
+        stretch-inside (d .stretch l) (h .run) (a .from) (a .holed) n some (m .first) (omega (arith, m .second, a .all))
 
     pub stretch-in : SinglesIn (j + k) at n grid
     stretch-in =
@@ -183,33 +201,34 @@ module _ {j lead each total q : ℕ} {run : Run} {t bits st before : List ℕ} (
 
     pub holes-on :
         {st″ g : List ℕ} → SinglesDone (j + k) at n n q t bits st′ grid st″ g
-        → Stretches j run lead each total q t bits st before (at + (n + 1)) each (k + n) st″ g
+        → Stretches j first lead each total q t bits st before (at + (n + 1)) each (k + n) st″ g
     holes-on {st″} {g} s =
         record {
           few = omega (arith, m .second);
           stretch = λ b.
-              let e : n ≡ left = ⊎-elim (λ x. x) (λ x. absurd (omega arith)) (m .one) in
+              let e : n ≡ left = whole b in
               let z : at + left + 1 ≡ at + (n + 1) = omega arith in
-              subst (λ (x : ℕ). Stretch (run .first) lead each (k + x) (at + (n + 1)) each) (sym e)
-              (subst (λ (x : ℕ). Stretch (run .first) lead each (k + left) x each) z (stretch-on (d .stretch l)));
+              subst (λ (x : ℕ). Stretch first lead each (k + x) (at + (n + 1)) each) (sym e)
+              (subst (λ (x : ℕ). Stretch first lead each (k + left) x each) z (stretch-on (d .stretch l)));
           done =
               record {
                 size = s .size ∙ d .done .size;
                 stands = λ r c.
                     let e : j + k + n ≡ j + (k + n) = omega arith in
                     subst (λ (x : ℕ). Standing q bits r (q * x) st″) e (s .stands r (d .done .stands r c));
-                done = λ own T unit r tb c a.
-                    written-join own 1 T (sentElement own 1 T unit (symbolsOf q bits r)) j k n (d .done .done own T unit r tb c a)
+                done = λ own T unit r run a tb c b.
+                    written-join own 1 T (sentElement own 1 T unit (symbolsOf q bits r)) j k n (d .done .done own T unit r run a tb c b)
                     (s .done own T unit r tb (d .done .stands r c)
-                    (stretch-singles (d .stretch l) refl (h .holed) a n (m .first) (omega (arith, m .second, h .all))));
+                    (stretch-singles (d .stretch l) (a .from) (a .holed) b n (m .first) (omega (arith, m .second, a .all))));
               };
         }
 
 pub holes-end :
-    {j lead each total at left k q : ℕ} {run : Run} {t bits st before st′ grid : List ℕ}
-    → Stretches j run lead each total q t bits st before at left k st′ grid → total ≤ k → HolesDone j run total q t bits st before st′ grid
-holes-end {j} {lead} {each} {total} {at} {left} {k} {q} {run} {t} {bits} {st} {before} {st′} {grid} d l =
-    let e : k ≡ total = omega (arith, d .few) in subst (λ (x : ℕ). HolesDone j run x q t bits st before st′ grid) e (d .done)
+    {j first lead each total at left k q : ℕ} {t bits st before st′ grid : List ℕ}
+    → Stretches j first lead each total q t bits st before at left k st′ grid → total ≤ k
+    → HolesDone j first lead each total total q t bits st before st′ grid
+holes-end {j} {first} {lead} {each} {total} {at} {left} {k} {q} {t} {bits} {st} {before} {st′} {grid} d l =
+    let e : k ≡ total = omega (arith, d .few) in subst (λ (x : ℕ). HolesDone j first lead each total x q t bits st before st′ grid) e (d .done)
 
 -- ---- a run on one port
 module _ {T j : ℕ} {run : Run} {grid : List ℕ} (s : SingleIn T j run grid) {h : Holes} (o : HolesOf (run .mask) h) where
@@ -220,11 +239,14 @@ module _ {T j : ℕ} {run : Run} {grid : List ℕ} (s : SingleIn T j run grid) {
   pub single-small : h .count * run .halves ≤ 1530
   single-small = omega (arith, mul-le-mul {n₁ = h .count} {m₁ = run .halves} {n₂ = 6} {m₂ = 255} (o .most) (s .short))
 
-  pub holes-in : (h .each ≡ 0 → ⊥) → HolesIn j run (h .lead) (h .each) (h .count * run .halves) grid
+  holed-run : (h .each ≡ 0 → ⊥) → HoledRun (run .first) (h .lead) (h .each) (h .count * run .halves) run
+  holed-run e = record { from = refl; holed = o .holed e; all = single-total }
+
+  pub holes-in : (h .each ≡ 0 → ⊥) → HolesIn j (run .first) (h .lead) (h .each) (h .count * run .halves) grid
   holes-in e =
       record {
-        holed = o .holed e;
-        all = single-total;
+        run = run;
+        places = holed-run e;
         inside = omega (arith, s .inside, s .room .size);
         small = omega (arith, s .inside, s .room .fits);
         index = omega (arith, single-total, s .index);
@@ -243,16 +265,16 @@ module _ {T j : ℕ} {run : Run} {grid : List ℕ} (s : SingleIn T j run grid) {
 
   module _ {q : ℕ} {t bits st st′ after : List ℕ} where
     pub holes-filled :
-        HolesDone j run (h .count * run .halves) q t bits st grid st′ after
+        (h .each ≡ 0 → ⊥) → HolesDone j (run .first) (h .lead) (h .each) (h .count * run .halves) (h .count * run .halves) q t bits st grid st′ after
         → RunFilled q 1 T j run q t bits st grid (j + h .count * run .halves) st′ after
-    holes-filled d =
+    holes-filled e d =
         record {
           next-index = ap (λ (x : ℕ). j + x) single-total;
           size = d .size;
           stands = λ r c. subst (λ (x : ℕ). Standing q bits r (q * (j + x)) st′) single-total (d .stands r c);
           filled = λ own unit r tb c l.
               subst (λ (x : ℕ). Written (sentPart own 1 T j x) (sentElement own 1 T unit (symbolsOf q bits r)) grid after) single-total
-              (d .done own T unit r tb c l);
+              (d .done own T unit r run (holed-run e) tb c l);
         }
 
     pub doubles-filled :

@@ -87,13 +87,6 @@ pub record FromTable (t : List ℕ) (w x v u : ℕ) : Type 0 where
 pub from-table : {t : List ℕ} {w x a b v u : ℕ} → a ≡ entryOf t w → b ≡ entryOf t x → v ≡ jointOf a b → u ≡ partnersOf a b → FromTable t w x v u
 from-table ea eb ev eu = record { own = ev ∙ ap₂ jointOf ea eb; other = eu ∙ ap₂ partnersOf ea eb }
 
-module _ {u q j : ℕ} {t bits st : List ℕ} (s : Sending u q j t bits st) where
-  pub entry-small : (w : ℕ) {a : ℕ} → a ≡ entryOf t w → a < 16777216
-  entry-small w e = rw e (number-few (s .table) (s .order .1) (omega (arith, s .order .2)) (s .small) w)
-
-  pub entries-small : (w x : ℕ) {a b : ℕ} → a ≡ entryOf t w → b ≡ entryOf t x → (a < 16777216) × (b < 16777216)
-  entries-small w x ea eb = (entry-small w ea, entry-small x eb)
-
 -- by index
 module _ (own : ℕ → Bool) (P T unit : ℕ) (d : ℕ → Pair) where
   at-place : (p x : ℕ) → x < T → sentElement own P T unit d (p * T + x) ≡ placed P (cnt own x / 2 % 2) unit d (cnt own x) p

@@ -2,7 +2,6 @@
 use Prim.Native.Nat.{ℕ, _+_, _*_, _≤_, _<_}
 use mathlib.Core.Path.{_≡_}
 use mathlib.Core.Bool.{Bool}
-use mathlib.Core.Logic.{_⊎_}
 use mathlib.Core.List.{List}
 use lib.ListN.{length}
 use Rattle.gold.specs.declared.Registers.{Registers}
@@ -14,14 +13,6 @@ use Rattle.walk.specs.Runs.{runCount, Laid, SinglesAt}
 use Rattle.walk.specs.Parts.{sentPart}
 use Rattle.walk.specs.Forms.{Holed, Stretch, SingleForm}
 use Rattle.data_write.specs.Sent.{sentElement, TableOf}
-
-abbrev pub runFrom : ℕ → ℕ → ℕ → Run
-runFrom first halves mask = record { first = first; halves = halves; mask = mask }
-
-pub record Smaller (a b r : ℕ) : Type 0 where
-  pub first : r ≤ a
-  pub second : r ≤ b
-  pub one : (r ≡ a) ⊎ (r ≡ b)
 
 pub record SinglesIn (j start n : ℕ) (grid : List ℕ) : Type 0 where
   pub inside : 3 * (start + n) ≤ length grid
@@ -42,26 +33,32 @@ pub record SingleRounds (j start n each q : ℕ) (t bits st before : List ℕ) (
   pub place : at ≡ 3 * (start + each * i)
   pub done : SinglesDone j start (each * n) (each * i) q t bits st before st′ grid
 
--- a run with holes
-pub record HolesIn (j : ℕ) (run : Run) (lead each total : ℕ) (grid : List ℕ) : Type 0 where
+-- the run is from `first` on, and has `total` places between holes
+pub record HoledRun (first lead each total : ℕ) (run : Run) : Type 0 where
+  pub from : run .first ≡ first
   pub holed : Holed (run .mask) lead each
   pub all : total ≡ runCount run
+
+-- what such a run needs
+pub record HolesIn (j first lead each total : ℕ) (grid : List ℕ) : Type 0 where
+  pub run : Run
+  pub places : HoledRun first lead each total run
   pub inside : 3 * (run .first + 6 * run .halves) ≤ length grid
   pub small : run .first + 6 * run .halves ≤ 16800
   pub index : j + total ≤ 16800
 
 -- of its places k are filled
-pub record HolesDone (j : ℕ) (run : Run) (k q : ℕ) (t bits st before st′ after : List ℕ) : Type 0 where
+pub record HolesDone (j first lead each total k q : ℕ) (t bits st before st′ after : List ℕ) : Type 0 where
   pub size : length after ≡ length before
   pub stands : (r : Registers) → Standing q bits r (q * j) st → Standing q bits r (q * (j + k)) st′
   pub done :
-      (own : ℕ → Bool) (T unit : ℕ) (r : Registers) → TableOf 1 q unit t → Standing q bits r (q * j) st → Laid own T j run
-      → Written (sentPart own 1 T j k) (sentElement own 1 T unit (symbolsOf q bits r)) before after
+      (own : ℕ → Bool) (T unit : ℕ) (r : Registers) (run : Run) → HoledRun first lead each total run → TableOf 1 q unit t → Standing q bits r (q * j) st
+      → Laid own T j run → Written (sentPart own 1 T j k) (sentElement own 1 T unit (symbolsOf q bits r)) before after
 
-pub record Stretches (j : ℕ) (run : Run) (lead each total q : ℕ) (t bits st before : List ℕ) (at left k : ℕ) (st′ grid : List ℕ) : Type 0 where
+pub record Stretches (j first lead each total q : ℕ) (t bits st before : List ℕ) (at left k : ℕ) (st′ grid : List ℕ) : Type 0 where
   pub few : k ≤ total
-  pub stretch : k < total → Stretch (run .first) lead each k at left
-  pub done : HolesDone j run k q t bits st before st′ grid
+  pub stretch : k < total → Stretch first lead each k at left
+  pub done : HolesDone j first lead each total k q t bits st before st′ grid
 
 -- what a run on one port of T places needs
 pub record SingleIn (T j : ℕ) (run : Run) (grid : List ℕ) : Type 0 where

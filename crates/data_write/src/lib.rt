@@ -1,10 +1,19 @@
 // PBCH and the users written into a grid (TS 36.211 6.3.5, 6.6.4): their places run by run, on two ports or four a pair of places at a time,
 // with elements from an order's table.
 use areas::Area;
+use codeword::take;
+use constellation::joint;
+use constellation::number;
+use constellation::partners;
+use element_pairs::put_pair;
+use element_pairs::put_pair_apart;
+use element_pairs::put_six;
+use element_pairs::put_three;
 use gold::Registers;
 use walk::Run;
+use walk::port_offsets;
 ghost use mathlib.Core.Path.{_≡_};
-ghost use Prim.Native.Nat.{_+_, _*_};
+ghost use Prim.Native.Nat.{_+_, _*_, _≤_, _<_};
 ghost use Rattle.gold.specs.Steps.{after as afterBits};
 ghost use Rattle.grid.specs.Writing.{Written};
 ghost use Rattle.areas.specs.Areas.{areaCount, areaSends, areaElement, AreaIn};
@@ -12,7 +21,7 @@ ghost use Rattle.walk.specs.Addresses.{PairsIn, RunIn};
 ghost use Rattle.walk.specs.Forms.{Stretch};
 ghost use Rattle.data_write.specs.Sent.{groupOf, Sending};
 ghost use Rattle.data_write.specs.Pairs.{PairsDone, RunFilled};
-ghost use Rattle.data_write.specs.OnePort.{runFrom, Smaller, SinglesIn, SinglesDone, HolesIn, HolesDone, SingleIn};
+ghost use Rattle.data_write.specs.OnePort.{SinglesIn, SinglesDone, HolesIn, HolesDone, SingleIn};
 ghost use Rattle.data_write.specs.Areas.{SignalsIn, AnyIn, RunsIn, RunsDone, FillIn, AreaFilled};
 
 // Half blocks with all six places open, two pairs in each round: twice n pairs, pair i at `start` + 2i. A loop of its own beside `quads`:
@@ -32,41 +41,29 @@ fn sixes(
     requires { ⌜ PairsIn ports places 1 j start 2 (2 * n) (now grid) × Sending (2 * q) q j (now t) (now bits) (now st) ⌝ }
     ensures { λ _. ⌜ PairsDone ports places 1 j start 2 (2 * n) (2 * n) q (now (t .entry)) (now (bits .entry)) (now (st .entry)) (now (grid .entry)) (now (st .exit)) (now (grid .exit)) ⌝ }
 {
-    let p = walk::port_offsets(ports, places, j);
+    let p = port_offsets(ports, places, j);
     let across = 3 * p.across;
     let four = 4 * q;
     let mut at = 3 * (p.own + start);
     let mut next = 3 * (p.next + start + 2);
     let mut i: usize = 0;
     while i < n {
-        let z = codeword::take(st, four, bits);
+        let z = take(st, four, bits);
         let y = z >> q;
         let x = y >> q;
-        let a = constellation::number(t, x >> q);
-        let b = constellation::number(t, x);
-        let c = constellation::number(t, y);
-        let d = constellation::number(t, z);
-        element_pairs::put_pair(
-            grid,
-            at,
-            across,
-            constellation::joint(a, b),
-            constellation::partners(a, b),
-        );
-        element_pairs::put_pair(
-            grid,
-            next,
-            across,
-            constellation::joint(c, d),
-            constellation::partners(c, d),
-        );
+        let a = number(t, x >> q);
+        let b = number(t, x);
+        let c = number(t, y);
+        let d = number(t, z);
+        put_pair(grid, at, across, joint(a, b), partners(a, b));
+        put_pair(grid, next, across, joint(c, d), partners(c, d));
         at += 12;
         next += 12;
         i += 1;
     }
 }
 
-// Twice n pairs with holes between them: pair i at `start` + `step` × i and beside it. The table is read before the grid is written, since
+// Twice n pairs with holes between them: pair i at `start` + 3i and beside it. The table is read before the grid is written, since
 // the compiler cannot tell the two apart.
 fn quads(
     st: &mut [u64; 8],
@@ -83,34 +80,22 @@ fn quads(
     requires { ⌜ PairsIn ports places 1 j start 3 (2 * n) (now grid) × Sending (2 * q) q j (now t) (now bits) (now st) ⌝ }
     ensures { λ _. ⌜ PairsDone ports places 1 j start 3 (2 * n) (2 * n) q (now (t .entry)) (now (bits .entry)) (now (st .entry)) (now (grid .entry)) (now (st .exit)) (now (grid .exit)) ⌝ }
 {
-    let p = walk::port_offsets(ports, places, j);
+    let p = port_offsets(ports, places, j);
     let across = 3 * p.across;
     let four = 4 * q;
     let mut at = 3 * (p.own + start);
     let mut next = 3 * (p.next + start + 3);
     let mut i: usize = 0;
     while i < n {
-        let z = codeword::take(st, four, bits);
+        let z = take(st, four, bits);
         let y = z >> q;
         let x = y >> q;
-        let a = constellation::number(t, x >> q);
-        let b = constellation::number(t, x);
-        let c = constellation::number(t, y);
-        let d = constellation::number(t, z);
-        element_pairs::put_pair(
-            grid,
-            at,
-            across,
-            constellation::joint(a, b),
-            constellation::partners(a, b),
-        );
-        element_pairs::put_pair(
-            grid,
-            next,
-            across,
-            constellation::joint(c, d),
-            constellation::partners(c, d),
-        );
+        let a = number(t, x >> q);
+        let b = number(t, x);
+        let c = number(t, y);
+        let d = number(t, z);
+        put_pair(grid, at, across, joint(a, b), partners(a, b));
+        put_pair(grid, next, across, joint(c, d), partners(c, d));
         at += 18;
         next += 18;
         i += 1;
@@ -133,34 +118,22 @@ fn quads_apart(
     requires { ⌜ PairsIn ports places 2 j start 3 (2 * n) (now grid) × Sending (2 * q) q j (now t) (now bits) (now st) ⌝ }
     ensures { λ _. ⌜ PairsDone ports places 2 j start 3 (2 * n) (2 * n) q (now (t .entry)) (now (bits .entry)) (now (st .entry)) (now (grid .entry)) (now (st .exit)) (now (grid .exit)) ⌝ }
 {
-    let p = walk::port_offsets(ports, places, j);
+    let p = port_offsets(ports, places, j);
     let across = 3 * p.across;
     let four = 4 * q;
     let mut at = 3 * (p.own + start);
     let mut next = 3 * (p.next + start + 3);
     let mut i: usize = 0;
     while i < n {
-        let z = codeword::take(st, four, bits);
+        let z = take(st, four, bits);
         let y = z >> q;
         let x = y >> q;
-        let a = constellation::number(t, x >> q);
-        let b = constellation::number(t, x);
-        let c = constellation::number(t, y);
-        let d = constellation::number(t, z);
-        element_pairs::put_pair_apart(
-            grid,
-            at,
-            across,
-            constellation::joint(a, b),
-            constellation::partners(a, b),
-        );
-        element_pairs::put_pair_apart(
-            grid,
-            next,
-            across,
-            constellation::joint(c, d),
-            constellation::partners(c, d),
-        );
+        let a = number(t, x >> q);
+        let b = number(t, x);
+        let c = number(t, y);
+        let d = number(t, z);
+        put_pair_apart(grid, at, across, joint(a, b), partners(a, b));
+        put_pair_apart(grid, next, across, joint(c, d), partners(c, d));
         at += 18;
         next += 18;
         i += 1;
@@ -182,16 +155,16 @@ fn pair(
     requires { ⌜ PairsIn ports places 1 j start 2 1 (now grid) × Sending (2 * q) q j (now t) (now bits) (now st) ⌝ }
     ensures { λ _. ⌜ PairsDone ports places 1 j start 2 1 1 q (now (t .entry)) (now (bits .entry)) (now (st .entry)) (now (grid .entry)) (now (st .exit)) (now (grid .exit)) ⌝ }
 {
-    let p = walk::port_offsets(ports, places, j);
-    let y = codeword::take(st, 2 * q, bits);
-    let a = constellation::number(t, y >> q);
-    let b = constellation::number(t, y);
-    element_pairs::put_pair(
+    let p = port_offsets(ports, places, j);
+    let y = take(st, 2 * q, bits);
+    let a = number(t, y >> q);
+    let b = number(t, y);
+    put_pair(
         grid,
         3 * (p.own + start),
         3 * p.across,
-        constellation::joint(a, b),
-        constellation::partners(a, b),
+        joint(a, b),
+        partners(a, b),
     );
 }
 
@@ -279,8 +252,8 @@ fn singles(
     let mut at = 3 * start;
     let mut i: usize = 0;
     while i < n {
-        let x = codeword::take(st, q, bits);
-        element_pairs::put_three(grid, at, constellation::number(t, x));
+        let x = take(st, q, bits);
+        put_three(grid, at, number(t, x));
         at += 3;
         i += 1;
     }
@@ -304,22 +277,39 @@ fn doubles(
     let mut at = 3 * start;
     let mut i: usize = 0;
     while i < n {
-        let y = codeword::take(st, two, bits);
-        let a = constellation::number(t, y >> q);
-        let b = constellation::number(t, y);
-        element_pairs::put_six(grid, at, constellation::joint(a, b));
+        let y = take(st, two, bits);
+        let a = number(t, y >> q);
+        let b = number(t, y);
+        put_six(grid, at, joint(a, b));
         at += 6;
         i += 1;
     }
 }
 
-fn smaller(a: usize, b: usize) -> usize
-    ensures { λ r. ⌜ Smaller a b r ⌝ }
-{
-    if a < b { a } else { b }
+// The places before the first hole: where they begin, and how many they are.
+struct FirstStretch {
+    at: usize,
+    left: usize,
 }
 
-// A run's places on one port, stretch after stretch between holes: the first stretch has c places from `start` on, the others `each`.
+// If the first place is a hole, those from it to the next one.
+fn first_stretch(first: usize, lead: usize, each: usize) -> FirstStretch
+    requires { ⌜ (first ≤ 16800) × (lead ≤ each) × (0 < each) ⌝ }
+    ensures { λ r. ⌜ Stretch first lead each 0 (r .at) (r .left) ⌝ }
+{
+    if lead == 0 {
+        return FirstStretch {
+            at: first + 1,
+            left: each,
+        };
+    }
+    FirstStretch {
+        at: first,
+        left: lead,
+    }
+}
+
+// The places of a run with holes on one port, stretch after stretch between them: `lead` places before the first hole, then `each`.
 fn between(
     st: &mut [u64; 8],
     q: u64,
@@ -327,82 +317,25 @@ fn between(
     bits: &[u8],
     grid: &mut [u8],
     first: usize,
-    halves: usize,
-    mask: usize,
     j: usize,
     lead: usize,
     each: usize,
     total: usize,
-    start: usize,
-    c: usize,
 )
-    requires { ⌜ HolesIn j (runFrom first halves mask) lead each total (now grid) × Stretch first lead each 0 start c × Sending q q j (now t) (now bits) (now st) ⌝ }
-    ensures { λ _. ⌜ HolesDone j (runFrom first halves mask) total q (now (t .entry)) (now (bits .entry)) (now (st .entry)) (now (grid .entry)) (now (st .exit)) (now (grid .exit)) ⌝ }
+    requires { ⌜ HolesIn j first lead each total (now grid) × Sending q q j (now t) (now bits) (now st) ⌝ }
+    ensures { λ _. ⌜ HolesDone j first lead each total total q (now (t .entry)) (now (bits .entry)) (now (st .entry)) (now (grid .entry)) (now (st .exit)) (now (grid .exit)) ⌝ }
 {
-    let mut at = start;
-    let mut left = c;
+    let s = first_stretch(first, lead, each);
+    let mut at = s.at;
+    let mut left = s.left;
     let mut k: usize = 0;
     while k < total {
-        let n = smaller(left, total - k);
+        let n = areas::smaller(left, total - k);
         singles(st, q, t, bits, grid, j + k, at, n);
         k += n;
         at += n + 1;
         left = each;
     }
-}
-
-// The same where the hole may be the first place.
-fn holes(
-    st: &mut [u64; 8],
-    q: u64,
-    t: &[u32; 256],
-    bits: &[u8],
-    grid: &mut [u8],
-    run: Run,
-    j: usize,
-    lead: usize,
-    each: usize,
-    total: usize,
-)
-    requires { ⌜ HolesIn j run lead each total (now grid) × Sending q q j (now t) (now bits) (now st) ⌝ }
-    ensures { λ _. ⌜ HolesDone j run total q (now (t .entry)) (now (bits .entry)) (now (st .entry)) (now (grid .entry)) (now (st .exit)) (now (grid .exit)) ⌝ }
-{
-    let first = run.first;
-    if lead == 0 {
-        between(
-            st,
-            q,
-            t,
-            bits,
-            grid,
-            first,
-            run.halves,
-            run.mask,
-            j,
-            lead,
-            each,
-            total,
-            first + 1,
-            each,
-        );
-        return;
-    }
-    between(
-        st,
-        q,
-        t,
-        bits,
-        grid,
-        first,
-        run.halves,
-        run.mask,
-        j,
-        lead,
-        each,
-        total,
-        first,
-        lead,
-    );
 }
 
 // A run on one port, from the channel's index j on; the index after it.
@@ -427,7 +360,7 @@ fn fill_single(
         doubles(st, q, t, bits, grid, j, first, 3 * halves);
         return j + total;
     }
-    holes(st, q, t, bits, grid, run, j, h.lead, h.each, total);
+    between(st, q, t, bits, grid, first, j, h.lead, h.each, total);
     j + total
 }
 

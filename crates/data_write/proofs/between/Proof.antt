@@ -1,20 +1,23 @@
 -- `data_write::between` meets its contract. Invariant: k places are filled. Assumes nothing.
 use native.Mathlib.Omega.{arith}
-use Rattle.data_write.proofs.OnePort.{holes-start, stretch-in, stretch-small, holes-on, holes-end, some}
+use Rattle.data_write.proofs.OnePort.{first-in, holes-start, stretch-in, stretch-small, holes-on, holes-end, some}
 use Rattle.data_write.proofs.Filled.{later-sending}
 use Prim.Native.Nat.{_-_}
-use Rattle.data_write.specs.OnePort.{runFrom, Stretches}
+use Rattle.data_write.specs.OnePort.{Stretches}
 use Rattle.data_write.proofs.between.Statement.{statement}
 use Rattle.data_write.proofs.between.Tie as tie
 
 abbrev Inv-loop : tie.InvT-loop
-Inv-loop st₀ q t bits grid₀ first halves mask j lead each total start c at₀ left₀ k₀ st grid at left k = Stretches j (runFrom first halves mask) lead each total q t bits st₀ grid₀ at left k st grid
+Inv-loop st₀ q t bits grid₀ first j lead each total at₀ left₀ k₀ st grid at left k = Stretches j first lead each total q t bits st₀ grid₀ at left k st grid
 
 abbrev μ-loop : tie.MeasureT-loop
-μ-loop st₀ q t bits grid₀ first halves mask j lead each total start c at₀ left₀ k₀ st grid at left k = total - k
+μ-loop st₀ q t bits grid₀ first j lead each total at₀ left₀ k₀ st grid at left k = total - k
+
+first-stretch-requires : tie.Need-first-stretch-requires Inv-loop μ-loop
+first-stretch-requires c κs = first-in (c .before .before .pre .0)
 
 loop-holds : tie.Need-loop-holds Inv-loop μ-loop
-loop-holds c = holes-start (c .before .before .pre .0) (c .before .before .pre .1)
+loop-holds c = holes-start (c .before .before .before .pre .0) (c .first-stretch .ensures)
 
 sub-smaller : tie.Need-sub-smaller Inv-loop μ-loop
 sub-smaller c = omega arith
@@ -23,25 +26,25 @@ smaller-requires : tie.Need-smaller-requires Inv-loop μ-loop
 smaller-requires c κs = tt
 
 add-singles : tie.Need-add-singles Inv-loop μ-loop
-add-singles c = omega (arith, c .before .before .before .before .before .before .before .pre .0 .index, c .before .before .before .loop-test .taken)
+add-singles c = omega (arith, c .before .before .before .before .before .before .before .before .pre .0 .index, c .before .before .before .loop-test .taken)
 
 singles-requires : tie.Need-singles-requires Inv-loop μ-loop
-singles-requires c κs = (stretch-in (c .before .before .before .before .before .before .before .pre .0) (c .before .before .before .before .loop .inv) (c .before .before .before .loop-test .taken) (c .before .before .smaller .ensures), later-sending (c .before .before .before .before .before .before .before .pre .2) (c .before .before .before .before .loop .inv .done .stands))
+singles-requires c κs = (stretch-in (c .before .before .before .before .before .before .before .before .pre .0) (c .before .before .before .before .loop .inv) (c .before .before .before .loop-test .taken) (c .before .before .smaller .ensures), later-sending (c .before .before .before .before .before .before .before .before .pre .1) (c .before .before .before .before .loop .inv .done .stands))
 
 add-k : tie.Need-add-k Inv-loop μ-loop
-add-k c = omega (arith, c .before .before .before .before .before .before .before .before .before .before .pre .0 .index, c .before .before .before .before .before .before .loop-test .taken, stretch-small (c .before .before .before .before .before .before .before .before .before .before .pre .0) (c .before .before .before .before .before .before .before .loop .inv) (c .before .before .before .before .before .before .loop-test .taken) (c .before .before .before .before .before .smaller .ensures))
+add-k c = omega (arith, c .before .before .before .before .before .before .before .before .before .before .before .pre .0 .index, c .before .before .before .before .before .before .loop-test .taken, stretch-small (c .before .before .before .before .before .before .before .before .before .before .before .pre .0) (c .before .before .before .before .before .before .before .loop .inv) (c .before .before .before .before .before .before .loop-test .taken) (c .before .before .before .before .before .smaller .ensures))
 
 add-at : tie.Need-add-at Inv-loop μ-loop
-add-at c = omega (arith, stretch-small (c .before .before .before .before .before .before .before .before .before .before .pre .0) (c .before .before .before .before .before .before .before .loop .inv) (c .before .before .before .before .before .before .loop-test .taken) (c .before .before .before .before .before .smaller .ensures))
+add-at c = omega (arith, stretch-small (c .before .before .before .before .before .before .before .before .before .before .before .pre .0) (c .before .before .before .before .before .before .before .loop .inv) (c .before .before .before .before .before .before .loop-test .taken) (c .before .before .before .before .before .smaller .ensures))
 
 add-at-2 : tie.Need-add-at-2 Inv-loop μ-loop
-add-at-2 c = omega (arith, stretch-small (c .before .before .before .before .before .before .before .before .before .before .pre .0) (c .before .before .before .before .before .before .before .loop .inv) (c .before .before .before .before .before .before .loop-test .taken) (c .before .before .before .before .before .smaller .ensures))
+add-at-2 c = omega (arith, stretch-small (c .before .before .before .before .before .before .before .before .before .before .before .pre .0) (c .before .before .before .before .before .before .before .loop .inv) (c .before .before .before .before .before .before .loop-test .taken) (c .before .before .before .before .before .smaller .ensures))
 
 loop-less : tie.Need-loop-less Inv-loop μ-loop
-loop-less c = omega (arith, c .before .before .before .before .before .before .loop-test .taken, some (c .before .before .before .before .before .before .before .before .before .before .pre .0) (c .before .before .before .before .before .before .before .loop .inv) (c .before .before .before .before .before .before .loop-test .taken) (c .before .before .before .before .before .smaller .ensures))
+loop-less c = omega (arith, c .before .before .before .before .before .before .loop-test .taken, some (c .before .before .before .before .before .before .before .before .before .before .before .pre .0) (c .before .before .before .before .before .before .before .loop .inv) (c .before .before .before .before .before .before .loop-test .taken) (c .before .before .before .before .before .smaller .ensures))
 
 loop-again : tie.Need-loop-again Inv-loop μ-loop
-loop-again c = holes-on (c .before .before .before .before .before .before .before .before .before .before .pre .0) (c .before .before .before .before .before .before .before .loop .inv) (c .before .before .before .before .before .before .loop-test .taken) (c .before .before .before .before .before .smaller .ensures) (c .before .before .singles .ensures)
+loop-again c = holes-on (c .before .before .before .before .before .before .before .before .before .before .before .pre .0) (c .before .before .before .before .before .before .before .loop .inv) (c .before .before .before .before .before .before .loop-test .taken) (c .before .before .before .before .before .smaller .ensures) (c .before .before .singles .ensures)
 
 same-length : tie.Need-same-length Inv-loop μ-loop
 same-length c = c .before .loop .inv .done .size
@@ -55,6 +58,7 @@ between-spec =
     (tie.spec
     Inv-loop
     μ-loop
+    first-stretch-requires
     loop-holds
     sub-smaller
     smaller-requires

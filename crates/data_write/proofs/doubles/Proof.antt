@@ -1,7 +1,6 @@
 -- `data_write::doubles` meets its contract. Invariant: the places of the rounds before i are filled. Assumes nothing.
 use native.Mathlib.Omega.{arith}
 use Rattle.data_write.proofs.OnePort.{singles-start, double-takes, double-fits, doubles-on, doubles-end}
-use Rattle.data_write.proofs.Source.{entries-small}
 use mathlib.Core.Path.{ap₂, _∙_}
 use Rattle.constellation.specs.Pairs.{jointOf}
 use Prim.Native.Nat.{_-_}
@@ -37,7 +36,7 @@ number-requires-2 : tie.Need-number-requires-2 Inv-loop μ-loop
 number-requires-2 c κs = tt
 
 joint-requires : tie.Need-joint-requires Inv-loop μ-loop
-joint-requires c κs = entries-small (c .before .before .before .before .before .before .before .before .before .pre .1) _ _ (c .before .before .number .ensures) (c .before .number2 .ensures)
+joint-requires c κs = (c .before .before .number .ensures .1, c .before .number2 .ensures .1)
 
 put-six-requires : tie.Need-put-six-requires Inv-loop μ-loop
 put-six-requires c κs = double-fits (c .before .before .before .before .before .before .before .before .before .before .pre .0) (c .before .before .before .before .before .before .before .before .before .before .pre .1) (c .before .before .before .before .before .before .before .loop .inv) (c .before .before .before .before .before .before .loop-test .taken) .0
@@ -52,7 +51,7 @@ loop-less : tie.Need-loop-less Inv-loop μ-loop
 loop-less c = omega arith
 
 loop-again : tie.Need-loop-again Inv-loop μ-loop
-loop-again c = doubles-on (c .before .before .before .before .before .before .before .before .before .before .before .before .before .pre .0) (c .before .before .before .before .before .before .before .before .before .before .before .before .before .pre .1) (c .before .before .before .before .before .before .before .before .before .before .loop .inv) (c .before .before .before .before .before .before .before .before .before .loop-test .taken) (c .before .before .before .before .before .before .before .take .ensures) (c .before .before .before .joint .ensures ∙ ap₂ jointOf (c .before .before .before .before .before .before .number .ensures) (c .before .before .before .before .before .number2 .ensures)) (c .before .before .put-six .kept .0) (c .before .before .put-six .ensures)
+loop-again c = doubles-on (c .before .before .before .before .before .before .before .before .before .before .before .before .before .pre .0) (c .before .before .before .before .before .before .before .before .before .before .before .before .before .pre .1) (c .before .before .before .before .before .before .before .before .before .before .loop .inv) (c .before .before .before .before .before .before .before .before .before .loop-test .taken) (c .before .before .before .before .before .before .before .take .ensures) (c .before .before .before .joint .ensures ∙ ap₂ jointOf (c .before .before .before .before .before .before .number .ensures .0) (c .before .before .before .before .before .number2 .ensures .0)) (c .before .before .put-six .kept .0) (c .before .before .put-six .ensures)
 
 same-length : tie.Need-same-length Inv-loop μ-loop
 same-length c = c .before .loop .inv .done .size

@@ -26,8 +26,8 @@ same-length c = search needs
 returns : tie.Need-returns
 returns c = doubles-filled (c .before .before .before .before .before .before .before .before .before .before .before .pre .0) (c .before .before .before .before .before .before .before .before .holes-of .ensures) (c .before .before .before .before .before .if1 .taken) (c .before .before .doubles .ensures)
 
-holes-requires : tie.Need-holes-requires
-holes-requires c κs = (holes-in (c .before .before .before .before .before .before .before .before .pre .0) (c .before .before .before .before .before .holes-of .ensures) (c .before .before .if1 .left), c .before .before .before .before .before .before .before .before .pre .1)
+between-requires : tie.Need-between-requires
+between-requires c κs = (holes-in (c .before .before .before .before .before .before .before .before .pre .0) (c .before .before .before .before .before .holes-of .ensures) (c .before .before .if1 .left), c .before .before .before .before .before .before .before .before .pre .1)
 
 add-result-2 : tie.Need-add-result-2
 add-result-2 c = omega (arith, single-total (c .before .before .before .before .before .before .before .before .before .before .before .pre .0) (c .before .before .before .before .before .before .before .before .holes-of .ensures), c .before .before .before .before .before .before .before .before .before .before .before .pre .0 .index)
@@ -36,7 +36,7 @@ same-length-2 : tie.Need-same-length-2
 same-length-2 c = search needs
 
 returns-2 : tie.Need-returns-2
-returns-2 c = holes-filled (c .before .before .before .before .before .before .before .before .before .before .before .pre .0) (c .before .before .before .before .before .before .before .before .holes-of .ensures) (c .before .before .holes .ensures)
+returns-2 c = holes-filled (c .before .before .before .before .before .before .before .before .before .before .before .pre .0) (c .before .before .before .before .before .before .before .before .holes-of .ensures) (c .before .before .before .before .before .if1 .left) (c .before .before .between .ensures)
 
 pub fill-single-spec : {M : Type 1} → statement M
 fill-single-spec =
@@ -49,7 +49,7 @@ fill-single-spec =
     add-result
     same-length
     returns
-    holes-requires
+    between-requires
     add-result-2
     same-length-2
     returns-2)

@@ -1,6 +1,6 @@
 -- `data_write::pair` meets its contract. Assumes nothing.
 use native.Mathlib.Omega.{arith}
-use Rattle.data_write.proofs.Source.{entries-small, from-table}
+use Rattle.data_write.proofs.Source.{from-table}
 use Rattle.data_write.proofs.Filled.{one-takes, one-fits, one-done}
 use Rattle.walk.proofs.Addresses.{offsets-small}
 use borrow.Author.Needs.{needs}
@@ -35,10 +35,10 @@ mul-put-pair-2 : tie.Need-mul-put-pair-2
 mul-put-pair-2 c = omega (arith, offsets-small (c .before .before .before .before .before .before .before .before .before .before .pre .0) (c .before .before .before .before .before .before .before .port-offsets .ensures))
 
 joint-requires : tie.Need-joint-requires
-joint-requires c κs = entries-small (c .before .before .before .before .before .before .before .before .before .before .pre .1) _ _ (c .before .before .before .before .number .ensures) (c .before .before .before .number2 .ensures)
+joint-requires c κs = (c .before .before .before .before .number .ensures .1, c .before .before .before .number2 .ensures .1)
 
 partners-requires : tie.Need-partners-requires
-partners-requires c κs = entries-small (c .before .before .before .before .before .before .before .before .before .before .before .pre .1) _ _ (c .before .before .before .before .before .number .ensures) (c .before .before .before .before .number2 .ensures)
+partners-requires c κs = (c .before .before .before .before .before .number .ensures .1, c .before .before .before .before .number2 .ensures .1)
 
 put-pair-requires : tie.Need-put-pair-requires
 put-pair-requires c κs = one-fits (c .before .before .before .before .before .before .before .before .before .before .before .before .pre .0) (c .before .before .before .before .before .before .before .before .before .before .before .before .pre .1) (c .before .before .before .before .before .before .before .before .before .port-offsets .ensures)
@@ -47,7 +47,7 @@ same-length : tie.Need-same-length
 same-length c = search needs
 
 returns : tie.Need-returns
-returns c = one-done (c .before .before .before .before .before .before .before .before .before .before .before .before .before .before .before .pre .0) (c .before .before .before .before .before .before .before .before .before .before .before .before .before .before .before .pre .1) (c .before .before .before .before .before .before .before .before .before .before .before .before .port-offsets .ensures) (c .before .before .before .before .before .before .before .before .before .before .take .ensures) (from-table (c .before .before .before .before .before .before .before .before .before .number .ensures) (c .before .before .before .before .before .before .before .before .number2 .ensures) (c .before .before .before .before .joint .ensures) (c .before .before .before .partners .ensures)) (c .before .before .put-pair .ensures)
+returns c = one-done (c .before .before .before .before .before .before .before .before .before .before .before .before .before .before .before .pre .0) (c .before .before .before .before .before .before .before .before .before .before .before .before .before .before .before .pre .1) (c .before .before .before .before .before .before .before .before .before .before .before .before .port-offsets .ensures) (c .before .before .before .before .before .before .before .before .before .before .take .ensures) (from-table (c .before .before .before .before .before .before .before .before .before .number .ensures .0) (c .before .before .before .before .before .before .before .before .number2 .ensures .0) (c .before .before .before .before .joint .ensures) (c .before .before .before .partners .ensures)) (c .before .before .put-pair .ensures)
 
 pub pair-spec : {M : Type 1} → statement M
 pair-spec =
