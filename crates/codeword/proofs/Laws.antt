@@ -15,10 +15,8 @@ use Rattle.gold.proofs.Binary.{binary-same, binary-lt, binary-digit}
 use Rattle.gold.proofs.Laws.{pair-after, pair-output, output-lt}
 use Rattle.modulation.specs.Symbols.{Order, symbolOf}
 use Rattle.modulation.proofs.Symbols.{symbol-injective, order-small}
-use Rattle.codeword.specs.declared.Stream.{Stream}
 use Rattle.codeword.specs.Codewords.{scrambled, dataSymbol}
-use Rattle.codeword.specs.Streams.{outputs, symbolsOf, Stands, Sound, Given}
-use Rattle.codeword.proofs.Orders.{early-enough, last-word}
+use Rattle.codeword.specs.Streams.{outputs, symbolsOf}
 
 -- ---- scrambled bits
 pub scrambled-lt : (b x : ℕ → ℕ) (i : ℕ) → scrambled b x i < 2
@@ -85,20 +83,6 @@ symbols-are q bits ci k j = ap (λ (x : ℕ → ℕ). dataSymbol q (bitAt bits) 
 pub symbols-start : (q : ℕ) (bits : List ℕ) (ci j : ℕ) → symbolsOf q bits (pairAt ci 0) j ≡ dataSymbol q (bitAt bits) (c ci) j
 symbols-start q bits ci j =
     symbols-are q bits ci 0 j ∙ ap (λ (x : ℕ → ℕ). dataSymbol q (bitAt bits) x j) (λ t i. c ci (zero-add i t))
-
--- ---- the stream as it goes
--- the stream that stands before any symbol below 200000 has what `next_pair` needs
-pub sound : {q i : ℕ} {bits : List ℕ} {r : Registers} {st : Stream} → Order q → i ≤ 100000 → Stands q bits r i st → Sound q st
-sound {q} {i} {bits} {r} {st} o h s =
-    let w = s .word in
-    record { whole = w .whole; most = w .most; early = early-enough q o i (st .at) (st .left) h (w .most) (w .taken) }
-
--- and where it has given n symbols, what `ended` needs
-pub given : {q : ℕ} (n : ℕ) {bits : List ℕ} {r : Registers} {st : Stream} → Order q → n ≤ 200000 → Stands q bits r ((n + 1) / 2) st → Given q n st
-given {q} n {bits} {r} {st} o h s =
-    let w = s .word in
-    let l = last-word q o n (st .at) (st .left) h (w .most) (s .used) (w .taken) in
-    record { few = l .0; reached = l .1 }
 
 -- ---- the scrambled word
 differ-sum : (a b : ℕ) → a < 2 → b < 2 → differ a b ≡ (a + b) % 2
