@@ -12,7 +12,7 @@ use Rattle.plan.specs.declared.Cell.{Cell}
 use Rattle.places.specs.Places.{placesOf}
 use Rattle.grid.specs.Writing.{sentAt, Written, Room}
 
--- "CFI (1–3)", and a grid of the cell
+-- "CFI u8 (1–3)", and a grid of the cell
 pub record PcfichIn (c : Cell) (cfi : ℕ) (grid : List ℕ) : Type 0 where
   pub cell : CellIn c
   pub some : 1 ≤ cfi

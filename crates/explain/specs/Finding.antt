@@ -59,7 +59,7 @@ abbrev pub demand : Bool → Cause → Reason → Reason
 demand true c r = r
 demand false c r = Is c
 
--- "10 CELL: identity C (0–503); blocks N; prefix (0 normal, 1 extended); ports P; g"
+-- CELL's fields in their order
 unfoldable pub cellCause : Cell → Reason
 cellCause c =
     demand (leb (c .identity) 503) Identity
@@ -68,7 +68,7 @@ cellCause c =
     (demand (oneOf (c .ports) portCounts) Ports
     (demand (oneOf (c .sixths) sixthCounts) Sixths Nothing))))
 
--- "11 FRAME: frame F (0–1023); subframe f (0–9); CFI (1–3)"
+-- FRAME's fields in their order
 unfoldable pub frameCause : Frame → Reason
 frameCause f =
     demand (leb (f .number) 1023) FrameNumber
@@ -89,7 +89,7 @@ sameRnti u v = eqb (u .rnti) (v .rnti)
 unfoldable pub sharesBlock : User → User → Bool
 sharesBlock u v = ltb (u .first) (v .first + v .count) && ltb (v .first) (u .first + u .count)
 
--- "30 USER: RNTI (1–65535); modulation Q; first block; count, at least 1, first + count ≤ N", then 7 by the USERs before: the RNTI's
+-- USER's fields in their order, then 7 by the USERs before: the RNTI's
 -- use is named before a block's
 unfoldable pub userCause : Cell → List User → User → Reason
 userCause c users u =

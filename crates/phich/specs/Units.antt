@@ -29,7 +29,7 @@ has l h i = leb (firstPlace l h) (i % 4) && ltb (i % 4) (firstPlace l h + l)
 abbrev pub chipNumber : ℕ → Hi → ℕ → ℕ
 chipNumber l h i = i / 4 * l + (i % 4 - firstPlace l h)
 
--- 6.9.2: chips at the places of the group, and 0 at the others; "[d(2i) d(2i+1) 0 0]" and "[0 0 d(2i) d(2i+1)]"
+-- 6.9.2: chips at the places of the group, and 0 at the others: d(2i), d(2i+1), 0, 0 or 0, 0, d(2i), d(2i+1) with the extended prefix
 unfoldable pub partAt : ℕ → (ℕ → ℕ) → Hi → ℕ → ℕ → Pair
 partAt l c h b i = cond (has l h i) (chipAt l c (h .sequence) b (chipNumber l h i)) nil
 

@@ -11,16 +11,28 @@ begin-requires : tie.Need-begin-requires
 begin-requires c κs = search needs
 
 fill-runs-requires : tie.Need-fill-runs-requires
-fill-runs-requires c κs = runs-in (c .before .before .before .before .before .before .before .before .before .before .pre) (c .before .before .before .before .before .set-tables .ensures) (c .before .before .before .before .begin .ensures)
+fill-runs-requires c κs =
+    let a = c .before .before .before .before in
+    let b = a .before in
+    let d = b .before .before .before .before .before in
+    runs-in (d .pre) (b .set-tables .ensures) (a .begin .ensures)
 
 end-requires : tie.Need-end-requires
-end-requires c κs = c .before .before .before .fill-runs .ensures .stands (c .before .before .before .before .before .before .before .before .before .before .before .before .before .before .args .r) (begins (c .before .before .before .before .before .before .before .before .before .before .before .before .before .before .args .q) (c .before .before .before .before .before .before .before .before .begin .ensures)) .most
+end-requires c κs =
+    let a = c .before .before .before in
+    let b = a .before .before .before .before .before in
+    let d = b .before .before .before .before .before .before in
+    a .fill-runs .ensures .stands (d .args .r) (begins (d .args .q) (b .begin .ensures)) .most
 
 same-length : tie.Need-same-length
 same-length c = search needs
 
 returns : tie.Need-returns
-returns c = area-filled (c .before .before .before .before .before .before .before .before .before .before .before .before .before .before .before .pre) (c .before .before .before .before .before .before .before .before .before .begin .ensures) (c .before .before .before .before .fill-runs .ensures) (c .end .ensures)
+returns c =
+    let a = c .before .before .before .before in
+    let b = a .before .before .before .before .before in
+    let d = b .before .before .before .before .before .before in
+    area-filled (d .pre) (b .begin .ensures) (a .fill-runs .ensures) (c .end .ensures)
 
 pub fill-by-tables-spec : {M : Type 1} → statement M
 fill-by-tables-spec =

@@ -9,67 +9,165 @@ use Rattle.data_write.proofs.fill_pairs.Statement.{statement}
 use Rattle.data_write.proofs.fill_pairs.Tie as tie
 
 all-six-requires : tie.Need-all-six-requires
-all-six-requires c κs = (run-in (c .before .before .before .before .before .pre .0) (six-pairs (c .before .before .if1 .taken)) (omega arith) (omega arith) (3 * c .before .before .before .before .before .args .run .halves) (c .before .before .before .before .before .args .run .first) (omega arith) (omega arith), c .before .before .before .before .before .pre .1)
+all-six-requires c κs =
+    let a = c .before .before in
+    let b = a .before .before .before in
+    (run-in (b .pre .0) (six-pairs (a .if1 .taken)) (omega arith) (omega arith) (3 * b .args .run .halves) (b .args .run .first) (omega arith) (omega arith), b .pre .1)
 
 mul-result : tie.Need-mul-result
-mul-result c = omega (arith, c .before .before .before .before .before .before .before .before .pre .0 .index, run-total (c .before .before .before .before .before .before .before .before .pre .0) (six-pairs (c .before .before .before .before .before .if1 .taken)) (omega arith) (omega arith) (3 * c .before .before .before .before .before .before .before .before .args .run .halves) (c .before .before .before .before .before .before .before .before .args .run .first) (omega arith) (omega arith))
+mul-result c =
+    let a = c .before .before .before .before .before in
+    let b = a .before .before .before in
+    omega (
+      arith,
+      b .pre .0 .index,
+      run-total (b .pre .0) (six-pairs (a .if1 .taken)) (omega arith) (omega arith) (3 * b .args .run .halves) (b .args .run .first) (omega arith) (omega arith),
+    )
 
 add-result : tie.Need-add-result
-add-result c = omega (arith, c .before .before .before .before .before .before .before .before .pre .0 .index, run-total (c .before .before .before .before .before .before .before .before .pre .0) (six-pairs (c .before .before .before .before .before .if1 .taken)) (omega arith) (omega arith) (3 * c .before .before .before .before .before .before .before .before .args .run .halves) (c .before .before .before .before .before .before .before .before .args .run .first) (omega arith) (omega arith))
+add-result c =
+    let a = c .before .before .before .before .before in
+    let b = a .before .before .before in
+    omega (
+      arith,
+      b .pre .0 .index,
+      run-total (b .pre .0) (six-pairs (a .if1 .taken)) (omega arith) (omega arith) (3 * b .args .run .halves) (b .args .run .first) (omega arith) (omega arith),
+    )
 
 same-length : tie.Need-same-length
 same-length c = search needs
 
 returns : tie.Need-returns
-returns c = run-done (c .before .before .before .before .before .before .before .before .pre .0) (six-pairs (c .before .before .before .before .before .if1 .taken)) (omega arith) (omega arith) (3 * c .before .before .before .before .before .before .before .before .args .run .halves) (c .before .before .before .before .before .before .before .before .args .run .first) (omega arith) (omega arith) (c .before .before .before .before .before .before .before .before .args .j + 6 * c .before .before .before .before .before .before .before .before .args .run .halves) (omega arith) (c .before .before .all-six .ensures)
+returns c =
+    let a = c .before .before in
+    let b = a .before .before .before in
+    let d = b .before .before .before in
+    run-done (d .pre .0) (six-pairs (b .if1 .taken)) (omega arith) (omega arith) (3 * d .args .run .halves) (d .args .run .first) (omega arith) (omega arith)
+    (d .args .j + 6 * d .args .run .halves) (omega arith) (a .all-six .ensures)
 
 quads-requires : tie.Need-quads-requires
-quads-requires c κs = (run-in (c .before .before .before .before .before .before .pre .0) (left-pairs (c .before .before .if2 .taken)) (omega arith) (omega arith) (2 * c .before .before .before .before .before .before .args .run .halves) (c .before .before .before .before .before .before .args .run .first) (omega arith) (omega arith), c .before .before .before .before .before .before .pre .1)
+quads-requires c κs =
+    let a = c .before .before in
+    let b = a .before .before .before .before in
+    (run-in (b .pre .0) (left-pairs (a .if2 .taken)) (omega arith) (omega arith) (2 * b .args .run .halves) (b .args .run .first) (omega arith) (omega arith), b .pre .1)
 
 mul-result-2 : tie.Need-mul-result-2
-mul-result-2 c = omega (arith, c .before .before .before .before .before .before .before .before .before .pre .0 .index, run-total (c .before .before .before .before .before .before .before .before .before .pre .0) (left-pairs (c .before .before .before .before .before .if2 .taken)) (omega arith) (omega arith) (2 * c .before .before .before .before .before .before .before .before .before .args .run .halves) (c .before .before .before .before .before .before .before .before .before .args .run .first) (omega arith) (omega arith))
+mul-result-2 c =
+    let a = c .before .before .before .before .before in
+    let b = a .before .before .before .before in
+    omega (
+      arith,
+      b .pre .0 .index,
+      run-total (b .pre .0) (left-pairs (a .if2 .taken)) (omega arith) (omega arith) (2 * b .args .run .halves) (b .args .run .first) (omega arith) (omega arith),
+    )
 
 add-result-2 : tie.Need-add-result-2
-add-result-2 c = omega (arith, c .before .before .before .before .before .before .before .before .before .pre .0 .index, run-total (c .before .before .before .before .before .before .before .before .before .pre .0) (left-pairs (c .before .before .before .before .before .if2 .taken)) (omega arith) (omega arith) (2 * c .before .before .before .before .before .before .before .before .before .args .run .halves) (c .before .before .before .before .before .before .before .before .before .args .run .first) (omega arith) (omega arith))
+add-result-2 c =
+    let a = c .before .before .before .before .before in
+    let b = a .before .before .before .before in
+    omega (
+      arith,
+      b .pre .0 .index,
+      run-total (b .pre .0) (left-pairs (a .if2 .taken)) (omega arith) (omega arith) (2 * b .args .run .halves) (b .args .run .first) (omega arith) (omega arith),
+    )
 
 same-length-2 : tie.Need-same-length-2
 same-length-2 c = search needs
 
 returns-2 : tie.Need-returns-2
-returns-2 c = run-done (c .before .before .before .before .before .before .before .before .before .pre .0) (left-pairs (c .before .before .before .before .before .if2 .taken)) (omega arith) (omega arith) (2 * c .before .before .before .before .before .before .before .before .before .args .run .halves) (c .before .before .before .before .before .before .before .before .before .args .run .first) (omega arith) (omega arith) (c .before .before .before .before .before .before .before .before .before .args .j + 4 * c .before .before .before .before .before .before .before .before .before .args .run .halves) (omega arith) (c .before .before .quads .ensures)
+returns-2 c =
+    let a = c .before .before in
+    let b = a .before .before .before in
+    let d = b .before .before .before .before in
+    run-done (d .pre .0) (left-pairs (b .if2 .taken)) (omega arith) (omega arith) (2 * d .args .run .halves) (d .args .run .first) (omega arith) (omega arith)
+    (d .args .j + 4 * d .args .run .halves) (omega arith) (a .quads .ensures)
 
 add-quads : tie.Need-add-quads
-add-quads c = omega (arith, c .before .before .before .before .before .before .before .pre .0 .inside, c .before .before .before .before .before .before .before .pre .0 .before, c .before .before .before .before .before .before .before .pre .0 .room .fits)
+add-quads c =
+    let a = c .before .before .before .before .before .before .before in
+    omega (arith, a .pre .0 .inside, a .pre .0 .before, a .pre .0 .room .fits)
 
 quads-requires-2 : tie.Need-quads-requires-2
-quads-requires-2 c κs = (run-in (c .before .before .before .before .before .before .before .pre .0) (right-pairs (c .before .before .if3 .taken)) (omega arith) (omega arith) (2 * c .before .before .before .before .before .before .before .args .run .halves) (c .before .before .before .before .before .before .before .args .run .first + 1) (omega arith) (omega arith), c .before .before .before .before .before .before .before .pre .1)
+quads-requires-2 c κs =
+    let a = c .before .before in
+    let b = a .before .before .before .before .before in
+    (run-in (b .pre .0) (right-pairs (a .if3 .taken)) (omega arith) (omega arith) (2 * b .args .run .halves) (b .args .run .first + 1) (omega arith) (omega arith), b .pre .1)
 
 mul-result-3 : tie.Need-mul-result-3
-mul-result-3 c = omega (arith, c .before .before .before .before .before .before .before .before .before .before .pre .0 .index, run-total (c .before .before .before .before .before .before .before .before .before .before .pre .0) (right-pairs (c .before .before .before .before .before .if3 .taken)) (omega arith) (omega arith) (2 * c .before .before .before .before .before .before .before .before .before .before .args .run .halves) (c .before .before .before .before .before .before .before .before .before .before .args .run .first + 1) (omega arith) (omega arith))
+mul-result-3 c =
+    let a = c .before .before .before .before .before in
+    let b = a .before .before .before .before .before in
+    omega (
+      arith,
+      b .pre .0 .index,
+      run-total (b .pre .0) (right-pairs (a .if3 .taken)) (omega arith) (omega arith) (2 * b .args .run .halves) (b .args .run .first + 1) (omega arith) (omega arith),
+    )
 
 add-result-3 : tie.Need-add-result-3
-add-result-3 c = omega (arith, c .before .before .before .before .before .before .before .before .before .before .pre .0 .index, run-total (c .before .before .before .before .before .before .before .before .before .before .pre .0) (right-pairs (c .before .before .before .before .before .if3 .taken)) (omega arith) (omega arith) (2 * c .before .before .before .before .before .before .before .before .before .before .args .run .halves) (c .before .before .before .before .before .before .before .before .before .before .args .run .first + 1) (omega arith) (omega arith))
+add-result-3 c =
+    let a = c .before .before .before .before .before in
+    let b = a .before .before .before .before .before in
+    omega (
+      arith,
+      b .pre .0 .index,
+      run-total (b .pre .0) (right-pairs (a .if3 .taken)) (omega arith) (omega arith) (2 * b .args .run .halves) (b .args .run .first + 1) (omega arith) (omega arith),
+    )
 
 same-length-3 : tie.Need-same-length-3
 same-length-3 c = search needs
 
 returns-3 : tie.Need-returns-3
-returns-3 c = run-done (c .before .before .before .before .before .before .before .before .before .before .pre .0) (right-pairs (c .before .before .before .before .before .if3 .taken)) (omega arith) (omega arith) (2 * c .before .before .before .before .before .before .before .before .before .before .args .run .halves) (c .before .before .before .before .before .before .before .before .before .before .args .run .first + 1) (omega arith) (omega arith) (c .before .before .before .before .before .before .before .before .before .before .args .j + 4 * c .before .before .before .before .before .before .before .before .before .before .args .run .halves) (omega arith) (c .before .before .quads2 .ensures)
+returns-3 c =
+    let a = c .before .before in
+    let b = a .before .before .before in
+    let d = b .before .before .before .before .before in
+    run-done (d .pre .0) (right-pairs (b .if3 .taken)) (omega arith) (omega arith) (2 * d .args .run .halves) (d .args .run .first + 1) (omega arith) (omega arith)
+    (d .args .j + 4 * d .args .run .halves) (omega arith) (a .quads2 .ensures)
 
 quads-apart-requires : tie.Need-quads-apart-requires
-quads-apart-requires c κs = (run-in (c .before .before .before .before .before .before .before .pre .0) (apart-pairs (form-last (c .before .before .before .before .before .before .before .pre .0 .form) (c .before .before .before .before .if1 .left) (c .before .before .before .if2 .left) (c .before .before .if3 .left))) (omega arith) (omega arith) (2 * c .before .before .before .before .before .before .before .args .run .halves) (c .before .before .before .before .before .before .before .args .run .first) (omega arith) (omega arith), c .before .before .before .before .before .before .before .pre .1)
+quads-apart-requires c κs =
+    let a = c .before .before in
+    let b = a .before in
+    let d = b .before in
+    let e = d .before .before .before in
+    (run-in (e .pre .0) (apart-pairs (form-last (e .pre .0 .form) (d .if1 .left) (b .if2 .left) (a .if3 .left))) (omega arith) (omega arith) (2 * e .args .run .halves) (e .args .run .first) (omega arith) (omega arith), e .pre .1)
 
 mul-result-4 : tie.Need-mul-result-4
-mul-result-4 c = omega (arith, c .before .before .before .before .before .before .before .before .before .before .pre .0 .index, run-total (c .before .before .before .before .before .before .before .before .before .before .pre .0) (apart-pairs (form-last (c .before .before .before .before .before .before .before .before .before .before .pre .0 .form) (c .before .before .before .before .before .before .before .if1 .left) (c .before .before .before .before .before .before .if2 .left) (c .before .before .before .before .before .if3 .left))) (omega arith) (omega arith) (2 * c .before .before .before .before .before .before .before .before .before .before .args .run .halves) (c .before .before .before .before .before .before .before .before .before .before .args .run .first) (omega arith) (omega arith))
+mul-result-4 c =
+    let a = c .before .before .before .before .before in
+    let b = a .before in
+    let d = b .before in
+    let e = d .before .before .before in
+    omega (
+      arith,
+      e .pre .0 .index,
+      run-total (e .pre .0) (apart-pairs (form-last (e .pre .0 .form) (d .if1 .left) (b .if2 .left) (a .if3 .left))) (omega arith) (omega arith) (2 * e .args .run .halves) (e .args .run .first) (omega arith) (omega arith),
+    )
 
 add-result-4 : tie.Need-add-result-4
-add-result-4 c = omega (arith, c .before .before .before .before .before .before .before .before .before .before .pre .0 .index, run-total (c .before .before .before .before .before .before .before .before .before .before .pre .0) (apart-pairs (form-last (c .before .before .before .before .before .before .before .before .before .before .pre .0 .form) (c .before .before .before .before .before .before .before .if1 .left) (c .before .before .before .before .before .before .if2 .left) (c .before .before .before .before .before .if3 .left))) (omega arith) (omega arith) (2 * c .before .before .before .before .before .before .before .before .before .before .args .run .halves) (c .before .before .before .before .before .before .before .before .before .before .args .run .first) (omega arith) (omega arith))
+add-result-4 c =
+    let a = c .before .before .before .before .before in
+    let b = a .before in
+    let d = b .before in
+    let e = d .before .before .before in
+    omega (
+      arith,
+      e .pre .0 .index,
+      run-total (e .pre .0) (apart-pairs (form-last (e .pre .0 .form) (d .if1 .left) (b .if2 .left) (a .if3 .left))) (omega arith) (omega arith) (2 * e .args .run .halves) (e .args .run .first) (omega arith) (omega arith),
+    )
 
 same-length-4 : tie.Need-same-length-4
 same-length-4 c = search needs
 
 returns-4 : tie.Need-returns-4
-returns-4 c = run-done (c .before .before .before .before .before .before .before .before .before .before .pre .0) (apart-pairs (form-last (c .before .before .before .before .before .before .before .before .before .before .pre .0 .form) (c .before .before .before .before .before .before .before .if1 .left) (c .before .before .before .before .before .before .if2 .left) (c .before .before .before .before .before .if3 .left))) (omega arith) (omega arith) (2 * c .before .before .before .before .before .before .before .before .before .before .args .run .halves) (c .before .before .before .before .before .before .before .before .before .before .args .run .first) (omega arith) (omega arith) (c .before .before .before .before .before .before .before .before .before .before .args .j + 4 * c .before .before .before .before .before .before .before .before .before .before .args .run .halves) (omega arith) (c .before .before .quads-apart .ensures)
+returns-4 c =
+    let a = c .before .before in
+    let b = a .before .before .before in
+    let d = b .before in
+    let e = d .before in
+    let f = e .before .before .before in
+    run-done (f .pre .0) (apart-pairs (form-last (f .pre .0 .form) (e .if1 .left) (d .if2 .left) (b .if3 .left))) (omega arith) (omega arith) (2 * f .args .run .halves)
+    (f .args .run .first) (omega arith) (omega arith) (f .args .j + 4 * f .args .run .halves) (omega arith) (a .quads-apart .ensures)
 
 pub fill-pairs-spec : {M : Type 1} → statement M
 fill-pairs-spec =

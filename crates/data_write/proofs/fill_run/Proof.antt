@@ -6,7 +6,10 @@ use Rattle.data_write.proofs.fill_run.Statement.{statement}
 use Rattle.data_write.proofs.fill_run.Tie as tie
 
 fill-single-requires : tie.Need-fill-single-requires
-fill-single-requires c κs = (c .before .before .before .before .before .pre .0 .single (c .before .before .if1 .taken), one-sending (c .before .before .before .before .before .pre .1) (c .before .before .if1 .taken))
+fill-single-requires c κs =
+    let a = c .before .before in
+    let b = a .before .before .before in
+    (b .pre .0 .single (a .if1 .taken), one-sending (b .pre .1) (a .if1 .taken))
 
 same-length : tie.Need-same-length
 same-length c = search needs
@@ -15,7 +18,10 @@ returns : tie.Need-returns
 returns c = one-filled (c .before .before .before .before .before .if1 .taken) (c .before .before .fill-single .ensures)
 
 fill-pairs-requires : tie.Need-fill-pairs-requires
-fill-pairs-requires c κs = (c .before .before .before .before .before .pre .0 .pairs (omega (arith, c .before .before .before .before .before .pre .0 .some, c .before .before .if1 .left)), pairs-sending (c .before .before .before .before .before .pre .1) (c .before .before .if1 .left))
+fill-pairs-requires c κs =
+    let a = c .before .before in
+    let b = a .before .before .before in
+    (b .pre .0 .pairs (omega (arith, b .pre .0 .some, a .if1 .left)), pairs-sending (b .pre .1) (a .if1 .left))
 
 same-length-2 : tie.Need-same-length-2
 same-length-2 c = search needs
