@@ -19,9 +19,9 @@ use Rattle.walk.specs.Addresses.{OffsetsAt, PairsIn, RunIn}
 use Rattle.walk.proofs.Runs.{pairs-of, pairs-fewer, pairs-later}
 use Rattle.walk.proofs.Pairs.{written-join}
 use Rattle.walk.proofs.Addresses.{other-inside, run-total}
-use Rattle.data_write.specs.Sent.{sentElement, Sending}
+use Rattle.data_write.specs.Sent.{sentElement, Sending, FromTable}
 use Rattle.data_write.specs.Pairs.{PairsDone, RunFilled}
-use Rattle.data_write.proofs.Source.{stands-on, can-take, FromTable, two-symbols}
+use Rattle.data_write.proofs.Source.{stands-on, can-take, two-symbols}
 use Rattle.data_write.proofs.Rounds.{pair-filled}
 
 -- ---- one pair

@@ -25,10 +25,10 @@ use Rattle.walk.proofs.Runs.{six-count}
 use Rattle.walk.proofs.Pairs.{written-none, written-join}
 use Rattle.walk.proofs.Singles.{one-written, two-written, stretch-singles, stretch-inside, stretch-on, six-singles}
 use Rattle.areas.specs.Tables.{Smaller}
-use Rattle.data_write.specs.Sent.{sentElement, TableOf, Sending}
+use Rattle.data_write.specs.Sent.{sentElement, TableOf, Sending, entryOf}
 use Rattle.data_write.specs.Pairs.{RunFilled}
 use Rattle.data_write.specs.OnePort.{SinglesIn, SinglesDone, SingleRounds, HoledRun, HolesIn, HolesDone, Stretches, SingleIn}
-use Rattle.data_write.proofs.Source.{stands-on, can-take, entryOf, two-symbols, single-has, double-first, double-second}
+use Rattle.data_write.proofs.Source.{stands-on, can-take, two-symbols, single-has, double-first, double-second}
 
 pub singles-start : {j start n each q : ℕ} {t bits st before : List ℕ} → SingleRounds j start n each q t bits st before (3 * start) 0 st before
 singles-start {j} {start} {n} {each} {q} {t} {bits} {st} {before} =

@@ -17,10 +17,10 @@ use Rattle.walk.specs.Runs.{PairsAt}
 use Rattle.walk.specs.Parts.{sentPart}
 use Rattle.walk.specs.Addresses.{OffsetsAt, PairsIn}
 use Rattle.walk.proofs.Pairs.{written-none, written-join, pair-written}
-use Rattle.walk.proofs.Addresses.{at-own, at-other, next-at, next-other, rounds-on}
-use Rattle.data_write.specs.Sent.{sentElement, TableOf, Sending}
-use Rattle.data_write.specs.Pairs.{PairsDone, Rounds}
-use Rattle.data_write.proofs.Source.{stands-on, can-take, SymbolsAt, FromTable, pair-has, first-symbols, next-symbols}
+use Rattle.walk.proofs.Addresses.{at-own, at-other, next-at, next-other, rounds-on, fits-at, fits-next}
+use Rattle.data_write.specs.Sent.{sentElement, TableOf, Sending, FromTable}
+use Rattle.data_write.specs.Pairs.{RoundIn, RoundDone, PairsDone, Rounds}
+use Rattle.data_write.proofs.Source.{stands-on, can-take, SymbolsAt, pair-has, first-symbols, next-symbols}
 
 module _ {P T gap j start step m : ℕ} {before : List ℕ} (h : PairsIn P T gap j start step m before) where
   -- none yet
@@ -52,11 +52,16 @@ module _
     {P T gap j start step n q : ℕ} {t bits st before : List ℕ} (h : PairsIn P T gap j start step (2 * n) before) (s : Sending (2 * q) q j t bits st)
     {r : PortOffsets} (p : OffsetsAt P T j r) {at next i : ℕ} {st′ grid : List ℕ} (d : Rounds P T gap j start step n q t bits st before at next i st′ grid)
     (l : i < n) where
-  pub round-takes : CanTake (4 * q) bits st′
-  round-takes =
-      can-take {j = j + 2 * (2 * i)} (quad-groups q (s .order)) (s .order) (omega (arith, h .index)) (d .done .stands (s .pair) (s .standing))
+  pub round-in : RoundIn gap q bits st′ at next (3 * r .across) grid
+  round-in =
+      record {
+        takes = can-take {j = j + 2 * (2 * i)} (quad-groups q (s .order)) (s .order) (omega (arith, h .index)) (d .done .stands (s .pair) (s .standing));
+        few = omega (arith, s .order .2);
+        first = omega (arith, d .done .size, fits-at h p (d .round) l);
+        second = omega (arith, d .done .size, fits-next h p (d .round) l);
+      }
 
-  pub filled-on :
+  filled-on :
       {z v u v′ u′ : ℕ} {st″ f k : List ℕ} → Takes (4 * q) bits st′ z st″ → FromTable t (z / 2 ^ q / 2 ^ q / 2 ^ q) (z / 2 ^ q / 2 ^ q) v u
       → FromTable t (z / 2 ^ q) z v′ u′ → PairPut gap at (3 * r .across) v u grid f → PairPut gap next (3 * r .across) v′ u′ f k
       → Rounds P T gap j start step n q t bits st before (at + 6 * step) (next + 6 * step) (i + 1) st″ k
@@ -96,6 +101,11 @@ module _
           (pair-filled h own tb (s .order) pa (2 * i) (omega arith) (at-own h p (d .round) l) (at-other h p (d .round) l) first x (a .own) (a .other)))
           (subst (λ (c : ℕ). Written (sentPart own P T c 2) (sentElement own P T unit (symbolsOf q bits reg)) f k) e″
           (pair-filled h own tb (s .order) pa (2 * i + 1) (omega arith) (next-at h p (d .round) l) (next-other h p (d .round) l) second y (b .own) (b .other))))
+
+  pub round-on :
+      {st″ k : List ℕ} → RoundDone gap q t bits st′ at next (3 * r .across) grid st″ k
+      → Rounds P T gap j start step n q t bits st before (at + 6 * step) (next + 6 * step) (i + 1) st″ k
+  round-on x = filled-on (x .takes) (x .first) (x .second) (x .put) (x .put-next)
 
 pub filled-end :
     {P T gap j start step n q at next i : ℕ} {t bits st before st′ grid : List ℕ} → Rounds P T gap j start step n q t bits st before at next i st′ grid

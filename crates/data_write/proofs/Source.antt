@@ -23,7 +23,7 @@ use Rattle.element_pairs.specs.Numbers.{elementFrom, upper}
 use Rattle.constellation.specs.Pairs.{jointOf, partnersOf}
 use Rattle.constellation.proofs.Numbers.{number-few, own-value, pair-values, joint-low, joint-high}
 use Rattle.walk.proofs.Pairs.{PairHas}
-use Rattle.data_write.specs.Sent.{sentElement, TableOf, Sending}
+use Rattle.data_write.specs.Sent.{sentElement, TableOf, Sending, entryOf, FromTable}
 
 -- ---- bits
 -- those of c symbols after those of a
@@ -76,14 +76,6 @@ module _ (bits : List ℕ) (r : Registers) (q j : ℕ) where
         }
 
 -- ---- elements
-abbrev pub entryOf : List ℕ → ℕ → ℕ
-entryOf t w = getD t (w % 256) 0
-
--- two numbers of the words w and x: what the own port sends, and the other
-pub record FromTable (t : List ℕ) (w x v u : ℕ) : Type 0 where
-  pub own : v ≡ jointOf (entryOf t w) (entryOf t x)
-  pub other : u ≡ partnersOf (entryOf t w) (entryOf t x)
-
 pub from-table : {t : List ℕ} {w x a b v u : ℕ} → a ≡ entryOf t w → b ≡ entryOf t x → v ≡ jointOf a b → u ≡ partnersOf a b → FromTable t w x v u
 from-table ea eb ev eu = record { own = ev ∙ ap₂ jointOf ea eb; other = eu ∙ ap₂ partnersOf ea eb }
 

@@ -1,18 +1,39 @@
 -- For the inner contracts and loops only: pairs and runs of a channel's places, filled whatever channel they belong to.
-use Prim.Native.Nat.{ℕ, _+_, _*_}
+use Prim.Native.Nat.{ℕ, _+_, _*_, _/_, _^_, _≤_, _<_}
 use mathlib.Core.Path.{_≡_}
 use mathlib.Core.Bool.{Bool}
 use mathlib.Core.List.{List}
 use lib.ListN.{length}
 use Rattle.gold.specs.declared.Registers.{Registers}
-use Rattle.codeword.specs.Bits48.{Standing}
+use Rattle.codeword.specs.Bits48.{Standing, CanTake, Takes}
+use Rattle.element_pairs.specs.Numbers.{PairPut}
 use Rattle.codeword.specs.Streams.{symbolsOf}
 use Rattle.grid.specs.Writing.{Written}
 use Rattle.walk.specs.declared.Run.{Run}
 use Rattle.walk.specs.Runs.{runCount, Laid, PairsAt}
 use Rattle.walk.specs.Parts.{sentPart}
 use Rattle.walk.specs.Addresses.{RoundAt}
-use Rattle.data_write.specs.Sent.{sentElement, TableOf}
+use Rattle.data_write.specs.Sent.{sentElement, TableOf, FromTable}
+
+-- what two pairs of places need, `gap` from a pair's first place to its second, and what is done with them
+pub record RoundIn (gap q : ℕ) (bits st : List ℕ) (at next across : ℕ) (grid : List ℕ) : Type 0 where
+  pub takes : CanTake (4 * q) bits st
+  pub few : q ≤ 8
+  pub first : at + across + (3 * gap + 2) < length grid
+  pub second : next + across + (3 * gap + 2) < length grid
+
+pub record RoundDone (gap q : ℕ) (t bits st : List ℕ) (at next across : ℕ) (before st′ after : List ℕ) : Type 0 where
+  pub word : ℕ
+  pub takes : Takes (4 * q) bits st word st′
+  pub own : ℕ
+  pub other : ℕ
+  pub own-next : ℕ
+  pub other-next : ℕ
+  pub first : FromTable t (word / 2 ^ q / 2 ^ q / 2 ^ q) (word / 2 ^ q / 2 ^ q) own other
+  pub second : FromTable t (word / 2 ^ q) word own-next other-next
+  pub middle : List ℕ
+  pub put : PairPut gap at across own other before middle
+  pub put-next : PairPut gap next across own-next other-next middle after
 
 -- of m pairs i are filled, and the bits stand after their symbols
 pub record PairsDone (P T gap j start step m i q : ℕ) (t bits st before st′ after : List ℕ) : Type 0 where

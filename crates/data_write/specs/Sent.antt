@@ -2,7 +2,9 @@
 use Prim.Native.Nat.{ℕ, _*_, _/_, _%_, _<_}
 use mathlib.Core.Bool.{Bool, cond}
 use mathlib.Core.List.{List}
+use mathlib.Core.Path.{_≡_}
 use lib.Dec.{eqb}
+use lib.ListN.{getD}
 use Rattle.base.specs.declared.Element.{Element}
 use Rattle.base.specs.declared.Pair.{Pair}
 use Rattle.base.specs.Counts.{cnt}
@@ -12,6 +14,7 @@ use Rattle.codeword.specs.Bits48.{Standing}
 use Rattle.precoding.specs.Matrices.{unitOn}
 use Rattle.precoding.specs.Places.{placed}
 use Rattle.constellation.specs.Entries.{Elements}
+use Rattle.constellation.specs.Pairs.{jointOf, partnersOf}
 
 -- THE VALUES of the elements of a channel of the places `own`, with the symbols d in a unit
 unfoldable pub sentElement : (ℕ → Bool) → ℕ → ℕ → ℕ → (ℕ → Pair) → ℕ → Element
@@ -34,3 +37,11 @@ pub record Sending (u q j : ℕ) (t bits st : List ℕ) : Type 0 where
   pub table : Elements q byte t
   pub pair : Registers
   pub standing : Standing u bits pair (q * j) st
+
+-- the table's entry for a word, and two numbers of the words w and x: what the own port sends, and the other
+abbrev pub entryOf : List ℕ → ℕ → ℕ
+entryOf t w = getD t (w % 256) 0
+
+pub record FromTable (t : List ℕ) (w x v u : ℕ) : Type 0 where
+  pub own : v ≡ jointOf (entryOf t w) (entryOf t x)
+  pub other : u ≡ partnersOf (entryOf t w) (entryOf t x)

@@ -20,9 +20,60 @@ ghost use Rattle.areas.specs.Areas.{areaCount, areaSends, areaElement, AreaIn};
 ghost use Rattle.walk.specs.Addresses.{PairsIn, RunIn};
 ghost use Rattle.walk.specs.Forms.{Stretch};
 ghost use Rattle.data_write.specs.Sent.{groupOf, Sending};
-ghost use Rattle.data_write.specs.Pairs.{PairsDone, RunFilled};
+ghost use Rattle.data_write.specs.Pairs.{RoundIn, RoundDone, PairsDone, RunFilled};
 ghost use Rattle.data_write.specs.OnePort.{SinglesIn, SinglesDone, HolesIn, HolesDone, SingleIn};
 ghost use Rattle.data_write.specs.Areas.{SignalsIn, AnyIn, RunsIn, RunsDone, FillIn, AreaFilled};
+
+// The next four symbols at two pairs of places, at bytes `at` and `next` of their own ports and `across` further on the others. The table is read
+// before the grid is written, since the compiler cannot tell the two apart.
+fn round(
+    st: &mut [u64; 8],
+    q: u64,
+    t: &[u32; 256],
+    bits: &[u8],
+    grid: &mut [u8],
+    at: usize,
+    next: usize,
+    across: usize,
+)
+    requires { ⌜ RoundIn 1 q (now bits) (now st) at next across (now grid) ⌝ }
+    ensures { λ _. ⌜ RoundDone 1 q (now (t .entry)) (now (bits .entry)) (now (st .entry)) at next across (now (grid .entry)) (now (st .exit)) (now (grid .exit)) ⌝ }
+{
+    let z = take(st, 4 * q, bits);
+    let y = z >> q;
+    let x = y >> q;
+    let a = number(t, x >> q);
+    let b = number(t, x);
+    let c = number(t, y);
+    let d = number(t, z);
+    put_pair(grid, at, across, joint(a, b), partners(a, b));
+    put_pair(grid, next, across, joint(c, d), partners(c, d));
+}
+
+// The same where a hole is between the two places of a pair.
+fn round_apart(
+    st: &mut [u64; 8],
+    q: u64,
+    t: &[u32; 256],
+    bits: &[u8],
+    grid: &mut [u8],
+    at: usize,
+    next: usize,
+    across: usize,
+)
+    requires { ⌜ RoundIn 2 q (now bits) (now st) at next across (now grid) ⌝ }
+    ensures { λ _. ⌜ RoundDone 2 q (now (t .entry)) (now (bits .entry)) (now (st .entry)) at next across (now (grid .entry)) (now (st .exit)) (now (grid .exit)) ⌝ }
+{
+    let z = take(st, 4 * q, bits);
+    let y = z >> q;
+    let x = y >> q;
+    let a = number(t, x >> q);
+    let b = number(t, x);
+    let c = number(t, y);
+    let d = number(t, z);
+    put_pair_apart(grid, at, across, joint(a, b), partners(a, b));
+    put_pair_apart(grid, next, across, joint(c, d), partners(c, d));
+}
 
 // Half blocks with all six places open, two pairs in each round: twice n pairs, pair i at `start` + 2i. A loop of its own beside `quads`:
 // with one loop for both, the processor foresees its end less often.
@@ -43,28 +94,18 @@ fn sixes(
 {
     let p = port_offsets(ports, places, j);
     let across = 3 * p.across;
-    let four = 4 * q;
     let mut at = 3 * (p.own + start);
     let mut next = 3 * (p.next + start + 2);
     let mut i: usize = 0;
     while i < n {
-        let z = take(st, four, bits);
-        let y = z >> q;
-        let x = y >> q;
-        let a = number(t, x >> q);
-        let b = number(t, x);
-        let c = number(t, y);
-        let d = number(t, z);
-        put_pair(grid, at, across, joint(a, b), partners(a, b));
-        put_pair(grid, next, across, joint(c, d), partners(c, d));
+        round(st, q, t, bits, grid, at, next, across);
         at += 12;
         next += 12;
         i += 1;
     }
 }
 
-// Twice n pairs with holes between them: pair i at `start` + 3i and beside it. The table is read before the grid is written, since
-// the compiler cannot tell the two apart.
+// Twice n pairs with holes between them: pair i at `start` + 3i and beside it.
 fn quads(
     st: &mut [u64; 8],
     q: u64,
@@ -82,20 +123,11 @@ fn quads(
 {
     let p = port_offsets(ports, places, j);
     let across = 3 * p.across;
-    let four = 4 * q;
     let mut at = 3 * (p.own + start);
     let mut next = 3 * (p.next + start + 3);
     let mut i: usize = 0;
     while i < n {
-        let z = take(st, four, bits);
-        let y = z >> q;
-        let x = y >> q;
-        let a = number(t, x >> q);
-        let b = number(t, x);
-        let c = number(t, y);
-        let d = number(t, z);
-        put_pair(grid, at, across, joint(a, b), partners(a, b));
-        put_pair(grid, next, across, joint(c, d), partners(c, d));
+        round(st, q, t, bits, grid, at, next, across);
         at += 18;
         next += 18;
         i += 1;
@@ -120,20 +152,11 @@ fn quads_apart(
 {
     let p = port_offsets(ports, places, j);
     let across = 3 * p.across;
-    let four = 4 * q;
     let mut at = 3 * (p.own + start);
     let mut next = 3 * (p.next + start + 3);
     let mut i: usize = 0;
     while i < n {
-        let z = take(st, four, bits);
-        let y = z >> q;
-        let x = y >> q;
-        let a = number(t, x >> q);
-        let b = number(t, x);
-        let c = number(t, y);
-        let d = number(t, z);
-        put_pair_apart(grid, at, across, joint(a, b), partners(a, b));
-        put_pair_apart(grid, next, across, joint(c, d), partners(c, d));
+        round_apart(st, q, t, bits, grid, at, next, across);
         at += 18;
         next += 18;
         i += 1;
