@@ -7,14 +7,17 @@ use std::process::ExitCode;
 /// The public calls; each of their contracts is a statement.
 const CALLS: &str = "crates/mapper/src/lib.rt";
 
-/// The theorems that docs/APPROVAL.md calls A, B and C, and that no two answers meet read's promise.
-const THEOREMS: [(&str, &str); 6] = [
+/// The theorems that docs/APPROVAL.md calls A, B and C, that no two answers meet read's promise, and what a call of read has to do with calls of build.
+const THEOREMS: [(&str, &str); 9] = [
     ("crates/layout/proofs/OneOwner.antt", "one-owner"),
     ("crates/counts/proofs/AddUp.antt", "counts-add-up"),
     ("crates/counts/proofs/AddUp.antt", "kinds-add-up"),
     ("crates/subframe/proofs/TwoBuilds.antt", "two-builds"),
     ("crates/build/proofs/Apart.antt", "builds-apart"),
     ("crates/read/proofs/Once.antt", "once"),
+    ("crates/read/proofs/Builds.antt", "returned-builds"),
+    ("crates/read/proofs/Builds.antt", "none-builds"),
+    ("crates/read/proofs/Builds.antt", "built-back"),
 ];
 
 /// Read's equation: the record `Reads`, which the calls promise beside it, leaves it no choice.
