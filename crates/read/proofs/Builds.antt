@@ -18,34 +18,35 @@ use Rattle.build.proofs.Apart.{left-is}
 use Rattle.read.specs.Read.{Reads}
 
 module _
-  (w : List ℕ)
-  (p : Plan)
-  (ok : checkOf w ≡ accepted p)
-  (grid before : List ℕ)
-  (whole : length grid ≡ gridLength p)
-  (size : length before ≡ payloadLength w p)
-  (a : Answer)
-  (after : List ℕ)
-  (reads : Reads w grid before a after)
+    (w : List ℕ)
+    (p : Plan)
+    (ok : checkOf w ≡ accepted p)
+    (grid before : List ℕ)
+    (whole : length grid ≡ gridLength p)
+    (size : length before ≡ payloadLength w p)
+    (a : Answer)
+    (after : List ℕ)
+    (reads : Reads w grid before a after)
   where
-  -- the payload returned is accepted, and from it a call of build makes that very grid, whatever the grid lent to build held
-  pub returned-builds :
-      (n : ℕ) → a ≡ given n → AcceptedPayload w p after × ((g : List ℕ) → length g ≡ gridLength p → gridAfter w after g ≡ grid)
-  returned-builds n e =
-      let r = reads .under p ok .returned n e in (r .0, λ g right. left-is w p ok after g (r .0) right ∙ r .1)
+    -- the payload returned is accepted, and from it a call of build makes that very grid, whatever the grid lent to build held
+    pub returned-builds :
+        (n : ℕ) → a ≡ given n → AcceptedPayload w p after × ((g : List ℕ) → length g ≡ gridLength p → gridAfter w after g ≡ grid)
+    returned-builds n e =
+        let r = reads .under p ok .returned n e in (r .0, λ g right. left-is w p ok after g (r .0) right ∙ r .1)
 
-  -- 13 exactly when a call of build makes the grid from no accepted payload
-  pub none-builds :
-      (a ≡ refusedAs NoPayload)
-      ↔ ((payload g : List ℕ) → AcceptedPayload w p payload → length g ≡ gridLength p → gridAfter w payload g ≡ grid → ⊥)
-  none-builds =
-      let none = reads .under p ok .none whole size in
-      (λ e payload g good right made. none .0 e payload good (sym (left-is w p ok payload g good right) ∙ made),
-       λ never. none .1 (λ payload good made. never payload grid good whole (left-is w p ok payload grid good whole ∙ made)))
+    -- 13 exactly when a call of build makes the grid from no accepted payload
+    pub none-builds :
+        (a ≡ refusedAs NoPayload)
+        ↔ ((payload g : List ℕ) → AcceptedPayload w p payload → length g ≡ gridLength p → gridAfter w payload g ≡ grid → ⊥)
+    none-builds =
+        let none = reads .under p ok .none whole size in (
+          λ e payload g good right made. none .0 e payload good (sym (left-is w p ok payload g good right) ∙ made),
+          λ never. none .1 (λ payload good made. never payload grid good whole (left-is w p ok payload grid good whole ∙ made)),
+        )
 
-  -- what a call of build made is read back: `payload` is any accepted one, a list of bytes
-  pub built-back :
-      (payload g : List ℕ) → AcceptedPayload w p payload → Every (λ (b : ℕ). b < 256) payload → length g ≡ gridLength p
-      → gridAfter w payload g ≡ grid → (a ≡ given (pdschElements w p)) × (after ≡ payload)
-  built-back payload g good bytes right made =
-      reads .under p ok .back payload good bytes (sym (left-is w p ok payload g good right) ∙ made) size
+    -- what a call of build made is read back: `payload` is any accepted one, a list of bytes
+    pub built-back :
+        (payload g : List ℕ) → AcceptedPayload w p payload → Every (λ (b : ℕ). b < 256) payload → length g ≡ gridLength p
+        → gridAfter w payload g ≡ grid → (a ≡ given (pdschElements w p)) × (after ≡ payload)
+    built-back payload g good bytes right made =
+        reads .under p ok .back payload good bytes (sym (left-is w p ok payload g good right) ∙ made) size
