@@ -38,7 +38,9 @@ symbols-same Q b b′ x j same =
     (λ i less. ap (λ (v : ℕ). (v + x (Q * j + i)) % 2) (same (Q * j + i) (omega arith))))
 
 -- and from the symbol its bits
-pub symbol-bits : (Q : ℕ) (b b′ x : ℕ → ℕ) (j : ℕ) → ((i : ℕ) → b i < 2) → ((i : ℕ) → b′ i < 2) → ((i : ℕ) → x i < 2) → dataSymbol Q b x j ≡ dataSymbol Q b′ x j → (i : ℕ) → i < Q → b (Q * j + i) ≡ b′ (Q * j + i)
+pub symbol-bits :
+    (Q : ℕ) (b b′ x : ℕ → ℕ) (j : ℕ) → ((i : ℕ) → b i < 2) → ((i : ℕ) → b′ i < 2) → ((i : ℕ) → x i < 2) → dataSymbol Q b x j ≡ dataSymbol Q b′ x j → (i : ℕ) → i < Q → b (Q * j + i)
+    ≡ b′ (Q * j + i)
 unfolding dataSymbol
 symbol-bits Q b b′ x j two two′ twox e i less =
     let s = scrambled b x in

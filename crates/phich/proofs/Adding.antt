@@ -61,8 +61,12 @@ module _ (s : List ℕ) (y : ℕ) (d : Pair) (size : length s ≡ 200) (in-y : y
   held z x h (yes e) =
       rw (eq-eqb z y e)
       (record {
-        re = ap (λ (k : ℕ). getD new (2 * k) 0) e ∙ set-even s y a b (omega arith) ∙ ea ∙ byte-sum (x .re) (d .re) (getD s (2 * y) 0) re (small .0) ere (ap (λ (k : ℕ). getD s (2 * k) 0) (sym e) ∙ h .re);
-        im = ap (λ (k : ℕ). getD new (2 * k + 1) 0) e ∙ set-odd s y a b (omega arith) ∙ eb ∙ byte-sum (x .im) (d .im) _ im (small .1) eim (beside ∙ ap (λ (k : ℕ). getD s (2 * k + 1) 0) (sym e) ∙ h .im);
+        re =
+            ap (λ (k : ℕ). getD new (2 * k) 0) e ∙ set-even s y a b (omega arith) ∙ ea ∙ byte-sum (x .re) (d .re) (getD s (2 * y) 0) re (small .0) ere
+            (ap (λ (k : ℕ). getD s (2 * k) 0) (sym e) ∙ h .re);
+        im =
+            ap (λ (k : ℕ). getD new (2 * k + 1) 0) e ∙ set-odd s y a b (omega arith) ∙ eb ∙ byte-sum (x .im) (d .im) _ im (small .1) eim
+            (beside ∙ ap (λ (k : ℕ). getD s (2 * k + 1) 0) (sym e) ∙ h .im);
       })
   held z x h (no n) =
       rw (ne-eqb z y n, plus-nil x)

@@ -58,7 +58,9 @@ module _ (l : ℕ) (c : ℕ → ℕ) where
   along-turn g b s = total-same 4 _ _ (λ i _. dot-turn b (partAt l c g 0 i) (s i)) ∙ total-turn 4 b (λ i. dot (partAt l c g 0 i) (s i))
 
   -- the sums, along g: an HI at a time
-  pub along-sum : (g : Hi) (m : ℕ) (bit : ℕ → ℕ) (h : Hi) (hs : List Hi) (k : ℕ) → along l c g (λ i. sumAt l c m bit i (h ∷ hs) k) ≡ turn (bit k) (along l c g (addedAt l c m h 0)) +ℤ along l c g (λ i. sumAt l c m bit i hs (suc k))
+  pub along-sum :
+      (g : Hi) (m : ℕ) (bit : ℕ → ℕ) (h : Hi) (hs : List Hi) (k : ℕ) → along l c g (λ i. sumAt l c m bit i (h ∷ hs) k) ≡ turn (bit k) (along l c g (addedAt l c m h 0)) +ℤ along l c
+      g (λ i. sumAt l c m bit i hs (suc k))
   unfolding sumAt
   along-sum g m bit h hs k =
       along-plus g (addedAt l c m h (bit k)) (λ i. sumAt l c m bit i hs (suc k))

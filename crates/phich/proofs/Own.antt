@@ -101,7 +101,9 @@ module _ (l : ℕ) (ok : Length l) (h : Hi) (b : ℕ) where
   unfolding upTo only
   upto-more n r y = pick (ℕ-discrete y (first + n))
     where
-      pick : Dec (y ≡ first + n) → plus (cond (ltb y (first + n)) (ownPart l h b y) nil) (cond (eqb y (first + n)) (turned b (plainChip (signAt l (h .sequence) n))) nil) ≡ cond (ltb y (first + (n + 1))) (ownPart l h b y) nil
+      pick :
+          Dec (y ≡ first + n) → plus (cond (ltb y (first + n)) (ownPart l h b y) nil) (cond (eqb y (first + n)) (turned b (plainChip (signAt l (h .sequence) n))) nil) ≡ cond
+          (ltb y (first + (n + 1))) (ownPart l h b y) nil
       pick (yes e) =
           rw (eq-eqb y (first + n) e, le-ltb y (first + n) (omega arith), lt-ltb y (first + (n + 1)) (omega arith))
           (nil-plus _ ∙ sym (ap (ownPart l h b) e ∙ own-in n r))

@@ -58,7 +58,9 @@ pub part-wave : (l : ℕ) → Length l → (c : ℕ → ℕ) (h : Hi) (b i : ℕ
 unfolding partAt has waveAt chipAt firstPlace
 part-wave l ok c h b i = pick (leb (firstPlace l h) (i % 4) && ltb (i % 4) (firstPlace l h + l)) refl
   where
-    pick : (t : Bool) → (leb (firstPlace l h) (i % 4) && ltb (i % 4) (firstPlace l h + l)) ≡ t → cond t (chipAt l c (h .sequence) b (chipNumber l h i)) nil ≡ turned (c (i / 4 * l + i % 4 % l)) (turned b (cond t (plainChip (signAt l (h .sequence) (i % 4 - firstPlace l h))) nil))
+    pick :
+        (t : Bool) → (leb (firstPlace l h) (i % 4) && ltb (i % 4) (firstPlace l h + l)) ≡ t → cond t (chipAt l c (h .sequence) b (chipNumber l h i)) nil ≡ turned
+        (c (i / 4 * l + i % 4 % l)) (turned b (cond t (plainChip (signAt l (h .sequence) (i % 4 - firstPlace l h))) nil))
     pick true s =
         let w = inside (firstPlace l h) (i % 4) l s in
         let m : i % 4 - firstPlace l h ≡ i % 4 % l = place-mod l ok (h .group) (i % 4) (omega arith) (w .0) (w .1) in

@@ -67,7 +67,9 @@ below-turn zero (suc n) hb hn = refl
 below-turn (suc b) (suc n) hb hn = omega arith
 
 -- the law, read as a bit
-pub below-along : (l : ℕ) (ok : Length l) (c : ℕ → ℕ) (hs : List Hi) (n : ℕ) → Within l hs → Distinct hs → (bit : ℕ → ℕ) → bit n ≤ 1 → n < length hs → below (along l c (hiNumber hs n) (λ i. sumAt l c (mappingUnit l (hiNumber hs n)) bit i hs 0)) ≡ bit n
+pub below-along :
+    (l : ℕ) (ok : Length l) (c : ℕ → ℕ) (hs : List Hi) (n : ℕ) → Within l hs → Distinct hs → (bit : ℕ → ℕ) → bit n ≤ 1 → n < length hs → below
+    (along l c (hiNumber hs n) (λ i. sumAt l c (mappingUnit l (hiNumber hs n)) bit i hs 0)) ≡ bit n
 below-along l ok c hs n w d bit b r =
     let e : 0 + n ≡ n = omega arith in
     ap below (one-along l ok c bit w d (subst (λ (i : ℕ). Stands hs 0 (hiNumber hs n) i) e (stands hs 0 n r)))

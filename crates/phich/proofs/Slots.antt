@@ -27,10 +27,13 @@ module _ (l : ℕ) (ok : Length l) (h : Hi) (w : h .sequence < 2 * l) where
       by-length (λ n. h .sequence < 2 * n → (2 * (h .group * n % 4) + h .sequence) % (2 * n) ≡ h .sequence) (λ x. omega arith) (λ x. omega arith) l ok w
 
 -- the same unit and the same slot
-pair-same : (l : ℕ) → Length l → (g h : Hi) → g .sequence < 2 * l → h .sequence < 2 * l → g .group * l / 4 ≡ h .group * l / 4 → 2 * (g .group * l % 4) + g .sequence ≡ 2 * (h .group * l % 4) + h .sequence → (g .group ≡ h .group) × (g .sequence ≡ h .sequence)
+pair-same :
+    (l : ℕ) → Length l → (g h : Hi) → g .sequence < 2 * l → h .sequence < 2 * l → g .group * l / 4 ≡ h .group * l / 4 → 2 * (g .group * l % 4) + g .sequence ≡ 2
+    * (h .group * l % 4) + h .sequence → (g .group ≡ h .group) × (g .sequence ≡ h .sequence)
 pair-same l ok g h =
     by-length
-    (λ n. g .sequence < 2 * n → h .sequence < 2 * n → g .group * n / 4 ≡ h .group * n / 4 → 2 * (g .group * n % 4) + g .sequence ≡ 2 * (h .group * n % 4) + h .sequence → (g .group ≡ h .group) × (g .sequence ≡ h .sequence))
+    (λ n. g .sequence < 2 * n → h .sequence < 2 * n → g .group * n / 4 ≡ h .group * n / 4 → 2 * (g .group * n % 4) + g .sequence ≡ 2 * (h .group * n % 4) + h .sequence
+    → (g .group ≡ h .group) × (g .sequence ≡ h .sequence))
     (λ w v u s. let e : g .group ≡ h .group = omega arith in (e, omega (arith, ap (λ (x : ℕ). x * 2 % 4) e)))
     (λ w v u s. (omega arith, omega arith))
     l ok

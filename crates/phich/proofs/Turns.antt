@@ -85,7 +85,9 @@ start l plan at count bit s z =
     }
 
 module _ {l : ℕ} {plan : List ℕ} {at count : ℕ} {bit : ℕ → ℕ} {s : List ℕ} {from k : ℕ} (t : Turn l plan at count bit s from k) (more : k < count) where
-  adds : (y : ℕ) → sumAt l unscrambled (y / 4) bit (y % 4) (left plan from count k) k ≡ plus (ownPart l (hiOf (drop from plan)) (bit k) y) (sumAt l unscrambled (y / 4) bit (y % 4) (left plan (nextOf plan from) count (k + 1)) (k + 1))
+  adds :
+      (y : ℕ) → sumAt l unscrambled (y / 4) bit (y % 4) (left plan from count k) k ≡ plus (ownPart l (hiOf (drop from plan)) (bit k) y)
+      (sumAt l unscrambled (y / 4) bit (y % 4) (left plan (nextOf plan from) count (k + 1)) (k + 1))
   unfolding sumAt ownPart
   adds y =
       ap (λ (hs : List Hi). sumAt l unscrambled (y / 4) bit (y % 4) hs k) (split (t .where-at) more)

@@ -83,7 +83,8 @@ module _ (l : ℕ) (c : ℕ → ℕ) (m : ℕ) (i : ℕ) where
   pub sum-small : (bit : ℕ → ℕ) (hs : List Hi) (k : ℕ) → Small (countIn l m hs) (sumAt l c m bit i hs k)
   unfolding sumAt countIn
   sum-small bit [] k = (omega arith, omega arith)
-  sum-small bit (h ∷ hs) k = plus-small (cond (eqb (mappingUnit l h) m) 1 0) (countIn l m hs) (addedAt l c m h (bit k) i) (sumAt l c m bit i hs (suc k)) (added-small h (bit k)) (sum-small bit hs (suc k))
+  sum-small bit (h ∷ hs) k =
+      plus-small (cond (eqb (mappingUnit l h) m) 1 0) (countIn l m hs) (addedAt l c m h (bit k) i) (sumAt l c m bit i hs (suc k)) (added-small h (bit k)) (sum-small bit hs (suc k))
 
 -- ---- "an empty unit still owns its elements, with sum 0"
 none-sum : (l : ℕ) (c : ℕ → ℕ) (m : ℕ) (bit : ℕ → ℕ) (i : ℕ) (hs : List Hi) (k : ℕ) → countIn l m hs ≡ 0 → sumAt l c m bit i hs k ≡ nil
@@ -100,7 +101,9 @@ unfolding unitSums
 empty l c m bit hs e = table-same 12 _ _ (λ i. none-sum l c m bit i hs 0 e)
 
 -- ---- the same bits of a unit's HIs make the same sums
-pub agreed : (l : ℕ) (c : ℕ → ℕ) (m : ℕ) (bit bit′ : ℕ → ℕ) (i : ℕ) (hs : List Hi) (k : ℕ) → ((n : ℕ) → n < length hs → mappingUnit l (hiNumber hs n) ≡ m → bit (k + n) ≡ bit′ (k + n)) → sumAt l c m bit i hs k ≡ sumAt l c m bit′ i hs k
+pub agreed :
+    (l : ℕ) (c : ℕ → ℕ) (m : ℕ) (bit bit′ : ℕ → ℕ) (i : ℕ) (hs : List Hi) (k : ℕ) → ((n : ℕ) → n < length hs → mappingUnit l (hiNumber hs n) ≡ m → bit (k + n) ≡ bit′ (k + n))
+    → sumAt l c m bit i hs k ≡ sumAt l c m bit′ i hs k
 unfolding sumAt addedAt
 agreed l c m bit bit′ i [] k h = refl
 agreed l c m bit bit′ i (g ∷ hs) k h =

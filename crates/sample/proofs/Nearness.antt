@@ -4,7 +4,23 @@ use mathlib.Core.Path.{_≡_, refl, sym, ap, _∙_}
 use mathlib.Core.Logic.{_⊎_, inl, inr}
 use mathlib.Core.Bool.{Bool, true, false, not, _&&_}
 use Prim.Native.Nat.{ℕ, zero, suc, _+_, _-_, _*_, _/_, _%_, _^_, _≤_, _<_, max}
-use native.Mathlib.Nat.{le-trans, le-of-eq, le-of-lt, lt-irrefl, lt-of-lt-of-le, lt-of-le-of-lt, add-mul, mul-assoc, mul-one, add-le-add, mul-le-mul-left, mul-le-mul-right, mul-lt-mul-of-pos-right, lt-of-mul-lt-mul-right, sub-add-cancel}
+use native.Mathlib.Nat.{
+  le-trans,
+  le-of-eq,
+  le-of-lt,
+  lt-irrefl,
+  lt-of-lt-of-le,
+  lt-of-le-of-lt,
+  add-mul,
+  mul-assoc,
+  mul-one,
+  add-le-add,
+  mul-le-mul-left,
+  mul-le-mul-right,
+  mul-lt-mul-of-pos-right,
+  lt-of-mul-lt-mul-right,
+  sub-add-cancel,
+}
 use native.Mathlib.Omega.{arith}
 use lib.Dec.{T, leb, ltb, eqb, leb→le, nleb→lt, ltb→lt, eqb→eq, lit<}
 use lib.IntN.{ℤ, pos, negsuc}
@@ -116,7 +132,9 @@ central u (fin false m e) =
     let b = toBits binary32 (fin false m e) in
     fits binary32 (fin false m e) && (positive (fin false m e) && middles u (2 ^ 23 + b % 2 ^ 23) (150 - b / 2 ^ 23) (m * up e) (down e))
 
-none-nearer : (u M k m : ℕ) (e : ℤ) → T (middles u M k (m * up e) (down e)) → (y : Float) → T (fits binary32 y) → (a b t : ℕ) → HasValue (fin false m e) false a (2 ^ t) → HasValue y false b (2 ^ t) → NoNearer u a b t
+none-nearer :
+    (u M k m : ℕ) (e : ℤ) → T (middles u M k (m * up e) (down e)) → (y : Float) → T (fits binary32 y) → (a b t : ℕ) → HasValue (fin false m e) false a (2 ^ t) → HasValue y false b
+    (2 ^ t) → NoNearer u a b t
 none-nearer u M k m e h nan f a b t v w = absurd w
 none-nearer u M k m e h (inf s) f a b t v w = absurd w
 none-nearer u M k m e h (fin s n d) f a b t v w =
@@ -129,8 +147,13 @@ none-nearer u M k m e h (fin s n d) f a b t v w =
     let is = same-by (m * up e) (down e) a (2 ^ t) M (2 ^ k) (down-pos e) (v .1) (eqb→eq (m * up e * 2 ^ k) (M * down e) (and-l t1 (t2 && (t3 && t4)) h)) in
     let s = split in
     record {
-      below = λ l. rw (double t, square (a + b)) (most-by u 4 (a + b) (2 ^ k) (top M) (2 ^ t) (pow-pos k) (under M (2 ^ t) (2 ^ k) a b (pow-pos t) (pow-pos k) is s l) (leb→le (u * (top M * top M)) (4 * (2 ^ k * 2 ^ k)) (and-l t3 t4 h3)));
-      above = λ l. rw (double t, square (a + b)) (least-by u 4 (a + b) (2 ^ k) (2 * M + 1) (2 ^ t) (pow-pos k) (over M (2 ^ t) (2 ^ k) a b (pow-pos t) (pow-pos k) is s (leb→le (2 ^ 23) M (and-l t2 (t3 && t4) h2)) l) (leb→le (4 * (2 ^ k * 2 ^ k)) (u * ((2 * M + 1) * (2 * M + 1))) (and-r t3 t4 h3)));
+      below =
+          λ l. rw (double t, square (a + b)) (most-by u 4 (a + b) (2 ^ k) (top M) (2 ^ t) (pow-pos k) (under M (2 ^ t) (2 ^ k) a b (pow-pos t) (pow-pos k) is s l)
+          (leb→le (u * (top M * top M)) (4 * (2 ^ k * 2 ^ k)) (and-l t3 t4 h3)));
+      above =
+          λ l. rw (double t, square (a + b)) (least-by u 4 (a + b) (2 ^ k) (2 * M + 1) (2 ^ t) (pow-pos k)
+          (over M (2 ^ t) (2 ^ k) a b (pow-pos t) (pow-pos k) is s (leb→le (2 ^ 23) M (and-l t2 (t3 && t4) h2)) l)
+          (leb→le (4 * (2 ^ k * 2 ^ k)) (u * ((2 * M + 1) * (2 * M + 1))) (and-r t3 t4 h3)));
     }
   where
     split : Split b (2 ^ t) (2 ^ k)

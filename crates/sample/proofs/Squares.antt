@@ -1,7 +1,27 @@
 -- Bounds on squares of fractions, carried from one way to write the fraction to another. Nothing here is about floats. Assumes nothing.
 use mathlib.Core.Path.{_≡_, sym, ap, _∙_}
 use Prim.Native.Nat.{ℕ, _*_, _^_, _≤_, _<_}
-use native.Mathlib.Nat.{pow-zero, pow-suc, one-mul, le-trans, le-of-eq, lt-of-lt-of-le, lt-of-le-of-lt, mul-assoc, mul-left-comm, mul-right-comm, mul-le-mul, mul-le-mul-left, mul-le-mul-right, mul-lt-mul-of-pos-right, mul-pos, le-of-mul-le-mul-right, lt-of-mul-lt-mul-right, eq-of-mul-eq-mul-right, two-mul}
+use native.Mathlib.Nat.{
+  pow-zero,
+  pow-suc,
+  one-mul,
+  le-trans,
+  le-of-eq,
+  lt-of-lt-of-le,
+  lt-of-le-of-lt,
+  mul-assoc,
+  mul-left-comm,
+  mul-right-comm,
+  mul-le-mul,
+  mul-le-mul-left,
+  mul-le-mul-right,
+  mul-lt-mul-of-pos-right,
+  mul-pos,
+  le-of-mul-le-mul-right,
+  lt-of-mul-lt-mul-right,
+  eq-of-mul-eq-mul-right,
+  two-mul,
+}
 use lib.Pow.{pow-add}
 
 pub square : (n : ℕ) → n ^ 2 ≡ n * n

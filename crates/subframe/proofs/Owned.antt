@@ -79,5 +79,6 @@ module _ (w : List ℕ) (p : Plan) (ok : checkOf w ≡ accepted p) (o : Owner) w
   pub same-bytes : (A B : List ℕ) → SameBytes w p o (gridOf w p A) (gridOf w p B) ↔ SameElements w p o A B
   same-bytes A B = (
     (λ h port s k in-port place own. element-same (λ b l. sym (owned-byte A port s k place own in-port b l) ∙ h port s k b in-port place own l ∙ owned-byte B port s k place own in-port b l)),
-    (λ h port s k b in-port place own l. owned-byte A port s k place own in-port b l ∙ ap (λ (x : Element). byteIn x b) (h port s k in-port place own) ∙ sym (owned-byte B port s k place own in-port b l)),
+    (λ h port s k b in-port place own l. owned-byte A port s k place own in-port b l ∙ ap (λ (x : Element). byteIn x b) (h port s k in-port place own)
+        ∙ sym (owned-byte B port s k place own in-port b l)),
   )

@@ -37,7 +37,8 @@ signs-are x a b n2 h less {p} {q} {r} {s} {t} ep eq er es et =
     rw (ep, eq, er, es, et)
     (ap₂ (λ (v w : ℕ). record { even = v; odd = w })
     (low-first-is (holds-xor (holds-around a (omega arith) (h .s-bits)) (holds-around n2 (omega arith) (h .c-bits))))
-    (low-first-is (holds-same sums (holds-xor (holds-xor (holds-around b (omega arith) (h .s-bits)) (holds-around (n2 + 3) (omega arith) (h .c-bits))) (holds-around (a % 8) (omega arith) (h .z-bits))))))
+    (low-first-is (holds-same sums (holds-xor (holds-xor (holds-around b (omega arith) (h .s-bits)) (holds-around (n2 + 3) (omega arith) (h .c-bits)))
+    (holds-around (a % 8) (omega arith) (h .z-bits))))))
   where
     mod2 : (u v w : ℕ) → ((u + v) % 2 + w) % 2 ≡ (u + v + w) % 2
     mod2 u v w = omega arith

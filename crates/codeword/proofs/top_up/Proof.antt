@@ -34,7 +34,9 @@ element-write-st-2 : tie.Need-element-write-st-2
 element-write-st-2 c = search needs
 
 returns-2 : tie.Need-returns-2
-returns-2 c = enough-more (c .before .before .before .before .before .before .before .before .pre) (omega (arith, c .before .before .before .before .before .if1 .left)) (c .before .before .before .next48 .ensures) (c .before .joined .ensures) refl
+returns-2 c =
+    let at-next48 = c .before .before .before in let at-if1 = at-next48 .before .before in let entry = at-if1 .before .before .before in
+    enough-more (entry .pre) (omega (arith, at-if1 .if1 .left)) (at-next48 .next48 .ensures) (c .before .joined .ensures) refl
 
 pub top-up-spec : {M : Type 1} → statement M
 top-up-spec =

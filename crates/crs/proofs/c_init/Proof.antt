@@ -39,7 +39,15 @@ n-cp-requires : tie.Need-n-cp-requires
 n-cp-requires c κs = search needs
 
 add-result-6 : tie.Need-add-result-6
-add-result-6 c = record { fits = omega (arith, init-fits (c .before .args .cell) (c .before .args .slot) (c .before .args .l) (c .before .pre .0) (c .before .pre .1) (c .before .pre .2), c .n-cp .ensures, prefix-le (c .before .args .prefix)) }
+add-result-6 c =
+    record {
+      fits = omega (
+        arith,
+        init-fits (c .before .args .cell) (c .before .args .slot) (c .before .args .l) (c .before .pre .0) (c .before .pre .1) (c .before .pre .2),
+        c .n-cp .ensures,
+        prefix-le (c .before .args .prefix),
+      );
+    }
 
 returns : tie.Need-returns
 unfolding crsInit

@@ -12,10 +12,15 @@ enum-known-n : tie.Need-enum-known-n
 enum-known-n c = search needs
 
 slice-relend-prefix-fill : tie.Need-slice-relend-prefix-fill
-slice-relend-prefix-fill c = omega (arith, c .before .before .before .before .before .before .before .pre, grid-largest (c .before .before .before .before .before .before .before .args .plan .now) (c .before .before .before .grid-length .result) (c .before .before .before .grid-length .ensures) _ (c .before .n .given .1))
+slice-relend-prefix-fill c =
+    let at-grid-length = c .before .before .before in let entry = at-grid-length .before .before .before .before in
+    omega (arith, entry .pre, grid-largest (entry .args .plan .now) (at-grid-length .grid-length .result) (at-grid-length .grid-length .ensures) _ (c .before .n .given .1))
 
 slice-aggregate-fill : tie.Need-slice-aggregate-fill
-slice-aggregate-fill c = grid-part-length (c .before .before .before .before .before .before .before .before .args .plan .now) (c .before .before .before .before .grid-length .result) (c .before .before .before .before .grid-length .ensures) _ (c .before .before .n .given .1) (c .before .before .before .before .before .before .before .before .args .buffer .now) (c .before .before .before .before .before .before .before .before .pre)
+slice-aggregate-fill c =
+    let at-n = c .before .before in let at-grid-length = at-n .before .before in let entry = at-grid-length .before .before .before .before in
+    grid-part-length (entry .args .plan .now) (at-grid-length .grid-length .result) (at-grid-length .grid-length .ensures) _ (at-n .n .given .1) (entry .args .buffer .now)
+    (entry .pre)
 
 fill-requires : tie.Need-fill-requires
 fill-requires c κs = search needs

@@ -12,10 +12,20 @@ enum-known-n : tie.Need-enum-known-n
 enum-known-n c = search needs
 
 slice-relend-prefix-fill : tie.Need-slice-relend-prefix-fill
-slice-relend-prefix-fill c = omega (arith, c .before .before .before .before .before .before .before .pre, payload-longest (c .before .before .before .before .before .before .before .args .plan .now) (c .before .before .before .payload-length .result) (c .before .before .before .payload-length .ensures) _ (c .before .n .given .1))
+slice-relend-prefix-fill c =
+    let at-payload-length = c .before .before .before in let entry = at-payload-length .before .before .before .before in
+    omega (
+      arith,
+      entry .pre,
+      payload-longest (entry .args .plan .now) (at-payload-length .payload-length .result) (at-payload-length .payload-length .ensures) _
+          (c .before .n .given .1),
+    )
 
 slice-aggregate-fill : tie.Need-slice-aggregate-fill
-slice-aggregate-fill c = payload-part-length (c .before .before .before .before .before .before .before .before .args .plan .now) (c .before .before .before .before .payload-length .result) (c .before .before .before .before .payload-length .ensures) _ (c .before .before .n .given .1) (c .before .before .before .before .before .before .before .before .args .buffer .now) (c .before .before .before .before .before .before .before .before .pre)
+slice-aggregate-fill c =
+    let at-n = c .before .before in let at-payload-length = at-n .before .before in let entry = at-payload-length .before .before .before .before in
+    payload-part-length (entry .args .plan .now) (at-payload-length .payload-length .result) (at-payload-length .payload-length .ensures) _ (at-n .n .given .1)
+    (entry .args .buffer .now) (entry .pre)
 
 fill-requires : tie.Need-fill-requires
 fill-requires c κs = search needs

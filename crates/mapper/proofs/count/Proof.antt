@@ -20,11 +20,15 @@ enum-known-r c = search needs
 
 returns : tie.Need-returns
 unfolding kindCountOf
-returns c = number-is (c .before .before .before .before .before .before .args .plan .now) _ (c .before .before .before .before .check .ensures) _ (c .before .before .p .given .1) (kindElements (c .before .before .before .before .before .before .args .plan .now) (c .before .before .before .before .before .before .args .kind)) _ (c .count-of .ensures)
+returns c =
+    let at-p = c .before .before in let at-check = at-p .before .before in let entry = at-check .before .before in
+    number-is (entry .args .plan .now) _ (at-check .check .ensures) _ (at-p .p .given .1) (kindElements (entry .args .plan .now) (entry .args .kind)) _ (c .count-of .ensures)
 
 returns-2 : tie.Need-returns-2
 unfolding kindCountOf
-returns-2 c = number-refused (c .before .before .before .before .before .args .plan .now) _ (c .before .before .before .check .ensures) _ (c .before .r .given .1) (kindElements (c .before .before .before .before .before .args .plan .now) (c .before .before .before .before .before .args .kind))
+returns-2 c =
+    let at-check = c .before .before .before in let entry = at-check .before .before in
+    number-refused (entry .args .plan .now) _ (at-check .check .ensures) _ (c .before .r .given .1) (kindElements (entry .args .plan .now) (entry .args .kind))
 
 pub count-spec : {M : Type 1} → statement M
 count-spec =

@@ -20,7 +20,9 @@ enum-known-r c = search needs
 
 returns : tie.Need-returns
 unfolding gridLengthOf
-returns c = number-is (c .before .before .before .before .before .before .args .plan .now) _ (c .before .before .before .before .check .ensures) _ (c .before .before .p .given .1) gridLength _ (c .grid-length .ensures)
+returns c =
+    let at-p = c .before .before in let at-check = at-p .before .before in let entry = at-check .before .before in
+    number-is (entry .args .plan .now) _ (at-check .check .ensures) _ (at-p .p .given .1) gridLength _ (c .grid-length .ensures)
 
 returns-2 : tie.Need-returns-2
 unfolding gridLengthOf

@@ -21,11 +21,15 @@ enum-known-r c = search needs
 
 returns : tie.Need-returns
 unfolding payloadLengthOf
-returns c = number-is (c .before .before .before .before .before .before .args .plan .now) _ (c .before .before .before .before .check .ensures) _ (c .before .before .p .given .1) (payloadLength (c .before .before .before .before .before .before .args .plan .now)) _ (c .payload-length .ensures)
+returns c =
+    let at-p = c .before .before in let at-check = at-p .before .before in let entry = at-check .before .before in
+    number-is (entry .args .plan .now) _ (at-check .check .ensures) _ (at-p .p .given .1) (payloadLength (entry .args .plan .now)) _ (c .payload-length .ensures)
 
 returns-2 : tie.Need-returns-2
 unfolding payloadLengthOf
-returns-2 c = number-refused (c .before .before .before .before .before .args .plan .now) _ (c .before .before .before .check .ensures) _ (c .before .r .given .1) (payloadLength (c .before .before .before .before .before .args .plan .now))
+returns-2 c =
+    let at-check = c .before .before .before in let entry = at-check .before .before in
+    number-refused (entry .args .plan .now) _ (at-check .check .ensures) _ (c .before .r .given .1) (payloadLength (entry .args .plan .now))
 
 pub payload-length-spec : {M : Type 1} → statement M
 payload-length-spec =

@@ -40,7 +40,8 @@ bits-requires c κs =
 bits-requires-2 : tie.Need-bits-requires-2
 bits-requires-2 c κs =
     let a = c .before .before .before .before .before .before .before .before .args in
-    second-no-nan (a .unit) (a .i) (a .j) _ (c .before .before .before .before .before .before .before .sample-at .ensures) _ (c .before .before .before .before .before .s .given .1) _ (c .before .before .s3 .given .1)
+    second-no-nan (a .unit) (a .i) (a .j) _ (c .before .before .before .before .before .before .before .sample-at .ensures) _
+    (c .before .before .before .before .before .s .given .1) _ (c .before .before .s3 .given .1)
 
 nth-requires-2 : tie.Need-nth-requires-2
 nth-requires-2 c κs = search needs
@@ -66,13 +67,15 @@ returns-2 : tie.Need-returns-2
 returns-2 c =
     let a = c .before .before .before .before .before .before .before .before .before .args in
     plus-back _ _ (c .plus .result) (c .plus .ok) (c .plus .ensures)
-    (is-phase (a .unit) (a .i) (a .j) _ (c .before .before .before .before .before .before .before .before .sample-at .ensures) _ (c .before .before .before .before .before .before .s .given .1) (a .n) _ _ (c .before .before .before .s2 .given .1) (c .before .nth .ensures))
+    (is-phase (a .unit) (a .i) (a .j) _ (c .before .before .before .before .before .before .before .before .sample-at .ensures) _
+    (c .before .before .before .before .before .before .s .given .1) (a .n) _ _ (c .before .before .before .s2 .given .1) (c .before .nth .ensures))
 
 returns-3 : tie.Need-returns-3
 returns-3 c =
     let a = c .before .before .before .before .before .before .before .before .before .before .before .args in
     plus-back _ _ (c .plus2 .result) (c .plus2 .ok) (c .plus2 .ensures)
-    (is-pair (a .unit) (a .i) (a .j) _ (c .before .before .before .before .before .before .before .before .before .before .sample-at .ensures) _ (c .before .before .before .before .before .before .before .before .s .given .1)
+    (is-pair (a .unit) (a .i) (a .j) _ (c .before .before .before .before .before .before .before .before .before .before .sample-at .ensures) _
+    (c .before .before .before .before .before .before .before .before .s .given .1)
     _ (c .before .before .before .before .before .s3 .given .1) (a .n) _ _ _ (c .before .before .before .bits .ensures) (c .before .before .bits2 .ensures) (c .before .nth2 .ensures))
 
 returns-4 : tie.Need-returns-4

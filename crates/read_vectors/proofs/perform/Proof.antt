@@ -34,7 +34,10 @@ slice-relend-prefix-sweep-in : tie.Need-slice-relend-prefix-sweep-in
 slice-relend-prefix-sweep-in c = search needs
 
 slice-aggregate-sweep-in-3 : tie.Need-slice-aggregate-sweep-in-3
-slice-aggregate-sweep-in-3 c = sym (length-take-le (c .before .before .before .before .before .before .before .before .lent2 .result) (c .before .before .before .before .before .before .before .before .before .before .before .before .before .before .before .args .out .now) (omega arith))
+slice-aggregate-sweep-in-3 c =
+    let at-lent2 = c .before .before .before .before .before .before .before .before in
+    let entry = at-lent2 .before .before .before .before .before .before .before in
+    sym (length-take-le (at-lent2 .lent2 .result) (entry .args .out .now) (omega arith))
 
 sweep-in-requires : tie.Need-sweep-in-requires
 sweep-in-requires c κs = search needs
@@ -52,7 +55,9 @@ slice-relend-prefix-calls : tie.Need-slice-relend-prefix-calls
 slice-relend-prefix-calls c = search needs
 
 slice-aggregate-calls-2 : tie.Need-slice-aggregate-calls-2
-slice-aggregate-calls-2 c = sym (length-take-le (c .before .before .before .before .lent2 .result) (c .before .before .before .before .before .before .before .before .before .before .before .args .out .now) (omega arith))
+slice-aggregate-calls-2 c =
+    let at-lent2 = c .before .before .before .before in let entry = at-lent2 .before .before .before .before .before .before .before in
+    sym (length-take-le (at-lent2 .lent2 .result) (entry .args .out .now) (omega arith))
 
 calls-requires : tie.Need-calls-requires
 calls-requires c κs = search needs

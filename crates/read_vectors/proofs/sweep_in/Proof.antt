@@ -16,13 +16,17 @@ slice-relend-prefix-sweep : tie.Need-slice-relend-prefix-sweep
 slice-relend-prefix-sweep c = search needs
 
 slice-aggregate-sweep : tie.Need-slice-aggregate-sweep
-slice-aggregate-sweep c = sym (length-take-le (c .before .before .before .before .before .before .before .args .whole) (c .before .before .before .before .before .before .before .args .grid .now) (omega arith))
+slice-aggregate-sweep c =
+    let entry = c .before .before .before .before .before .before .before in
+    sym (length-take-le (entry .args .whole) (entry .args .grid .now) (omega arith))
 
 slice-relend-prefix-sweep-2 : tie.Need-slice-relend-prefix-sweep-2
 slice-relend-prefix-sweep-2 c = search needs
 
 slice-aggregate-sweep-2 : tie.Need-slice-aggregate-sweep-2
-slice-aggregate-sweep-2 c = sym (length-take-le (c .before .before .before .before .before .before .before .before .args .whole) (c .before .before .before .before .before .before .before .before .args .again .now) (omega arith))
+slice-aggregate-sweep-2 c =
+    let entry = c .before .before .before .before .before .before .before .before in
+    sym (length-take-le (entry .args .whole) (entry .args .again .now) (omega arith))
 
 sweep-requires : tie.Need-sweep-requires
 sweep-requires c κs = search needs
