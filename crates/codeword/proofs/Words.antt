@@ -18,7 +18,7 @@ use Rattle.gold.proofs.Binary.{binary-none, binary-split, binary-lt, binary-hig
 use Rattle.gold.proofs.Laws.{after-none, after-after}
 use Rattle.gold.proofs.Values64.{narrow-after}
 use Rattle.codeword.specs.Streams.{outputs}
-use Rattle.codeword.specs.Bits48.{scrambledBits, lastAt, lastWord, Reads, wideIn, Due, Next48, Begins48, Ends}
+use Rattle.codeword.specs.Bits48.{scrambledBits, lastAt, lastWord, WordAt, wideIn, Due, Next48, Begins48, Ends}
 use Rattle.codeword.proofs.Streams.{bit-lt, byte-word, three-bytes, more-word}
 use Rattle.codeword.proofs.Laws.{scrambled-lt}
 
@@ -85,7 +85,7 @@ pub word-fits : (s : List ℕ) (k n u : ℕ) → u ≡ binary (bitAt s) k n → 
 word-fits s k n u e = rw e (binary-lt (bitAt s) (bit-lt s) k n)
 
 pub reads-eight : (s : List ℕ) (a last u v : ℕ) → u ≡ binary (bitAt s) (8 * a) 32 → v ≡ binary (bitAt s) (8 * (a + 4)) 32
-    → Reads s a last ((u * 4294967296 + v) / 65536)
+    → WordAt s a last ((u * 4294967296 + v) / 65536)
 reads-eight s a last u v e f = record {
   word = λ w l.
       let x = bitAt s in
@@ -95,7 +95,7 @@ reads-eight s a last u v e f = record {
       ∙ binary-high x (bit-lt s) (8 * a) 48 16;
 }
 
-pub reads-last : (s : List ℕ) (a last : ℕ) → length s < a + 8 → a + 2 ≤ length s → Reads s a last last
+pub reads-last : (s : List ℕ) (a last : ℕ) → length s < a + 8 → a + 2 ≤ length s → WordAt s a last last
 unfolding lastWord
 reads-last s a last h g = record {
   word = λ w l.
@@ -103,7 +103,7 @@ reads-last s a last h g = record {
       l ∙ ap (λ (i : ℕ). binary (bitAt s) i 48) k;
 }
 
-pub reads-one : (s : List ℕ) (a last b : ℕ) → length s < a + 2 → (b ≡ getD s a 0) × (b < 256) → Reads s a last (b * 1099511627776)
+pub reads-one : (s : List ℕ) (a last b : ℕ) → length s < a + 2 → (b ≡ getD s a 0) × (b < 256) → WordAt s a last (b * 1099511627776)
 reads-one s a last b h e = record {
   word = λ w l.
       let x = bitAt s in
@@ -116,7 +116,7 @@ reads-one s a last b h e = record {
 
 -- ---- the state
 -- word k, scrambled
-sent-word : (bits : List ℕ) (r : Registers) (w : Wide) (k at last b v : ℕ) → at ≡ 6 * k → last ≡ lastWord bits → Reads bits at last b
+sent-word : (bits : List ℕ) (r : Registers) (w : Wide) (k at last b v : ℕ) → at ≡ 6 * k → last ≡ lastWord bits → WordAt bits at last b
     → w ≡ wideOf (after r (48 * k)) → Gives48 w v → bitXor b v ≡ binary (scrambledBits bits r) (48 * k) 48
 sent-word bits r w k at last b v e l h p g =
     let m : at % 6 ≡ 0 = omega arith in
@@ -125,7 +125,7 @@ sent-word bits r w k at last b v e l h p g =
     ∙ more-word bits r (48 * k) 48
 
 -- what the calls of `begin` give
-pub begins48 : (bits : List ℕ) (r : Registers) (w : Wide) (last b v : ℕ) → w ≡ wideOf r → last ≡ lastWord bits → Reads bits 0 last b → Gives48 w v
+pub begins48 : (bits : List ℕ) (r : Registers) (w : Wide) (last b v : ℕ) → w ≡ wideOf r → last ≡ lastWord bits → WordAt bits 0 last b → Gives48 w v
     → Begins48 bits r (w .x1 ∷ w .x2 ∷ 6 ∷ bitXor b v ∷ 48 ∷ last ∷ 0 ∷ 0 ∷ [])
 begins48 bits r w last b v e l h g =
     let p : w ≡ wideOf (after r (48 * 0)) = e ∙ ap wideOf (sym (after-none r)) in
@@ -168,7 +168,7 @@ module _ (st : List ℕ) (a b c : ℕ) where
       ∙ getD-set-other st 0 i a 0 (λ e. omega arith)
 
 -- what the calls of `next48` give
-pub next48-is : (bits st : List ℕ) (w : Wide) (b v : ℕ) → Goes48 (wideIn st) w → Reads bits (getD st 2 0) (getD st 5 0) b → Gives48 w v
+pub next48-is : (bits st : List ℕ) (w : Wide) (b v : ℕ) → Goes48 (wideIn st) w → WordAt bits (getD st 2 0) (getD st 5 0) b → Gives48 w v
     → Next48 bits st (bitXor b v) (set (set (set st 0 (w .x1)) 1 (w .x2)) 2 (getD st 2 0 + 6))
 next48-is bits st w b v h f g = record {
   goes = λ r k d.

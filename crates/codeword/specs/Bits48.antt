@@ -25,7 +25,7 @@ unfoldable pub lastWord : List ℕ → ℕ
 lastWord bits = binary (bitAt bits) (8 * lastAt (length bits)) 48
 
 -- what `bits48` gives
-pub record Reads (bits : List ℕ) (at last w : ℕ) : Type 0 where
+pub record WordAt (bits : List ℕ) (at last w : ℕ) : Type 0 where
   pub word : at % 6 ≡ 0 → last ≡ lastWord bits → w ≡ binary (bitAt bits) (8 * at) 48
 
 -- ---- the state: of a slice's bits, scrambled, word k is the last that was given

@@ -6,7 +6,7 @@ ghost use Prim.Native.Nat.{_+_, _*_, _%_, _<_, _≤_, _^_};
 ghost use lib.ListN.{length, getD};
 ghost use Rattle.base.specs.Bits.{bitAt};
 ghost use Rattle.gold.specs.Sequence.{binary};
-ghost use Rattle.codeword.specs.Bits48.{lastAt, Reads, Begins48, Next48, CanTake, Enough, Takes, Ends};
+ghost use Rattle.codeword.specs.Bits48.{lastAt, WordAt, Begins48, Next48, CanTake, Enough, Takes, Ends};
 
 // A byte of the bits, 0 past their end.
 fn byte_at(bits: &[u8], i: usize) -> u32
@@ -66,7 +66,7 @@ fn last_at(n: usize) -> usize
 // eight bytes to read at once, and one after it has one byte or none.
 fn bits48(bits: &[u8], at: usize, last: u64) -> u64
     requires { ⌜ at ≤ 2 ^ 32 ⌝ }
-    ensures { λ w. ⌜ Reads (now (bits .entry)) at last w ⌝ }
+    ensures { λ w. ⌜ WordAt (now (bits .entry)) at last w ⌝ }
 {
     if at + 8 <= bits.len() {
         let a = bits32(bits, at);

@@ -1,4 +1,4 @@
--- For the inner contracts only: a user's count by products with two numbers of each slot. proofs/Shape.antt: it is the count over the
+-- For the inner contracts only: a user's count by products with two numbers of each slot. proofs/Shapes.antt: it is the count over the
 -- symbols.
 use Prim.Native.Nat.{ℕ, _+_, _-_, _*_, _≤_}
 use lib.Dec.{ltb}

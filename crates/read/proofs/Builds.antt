@@ -1,12 +1,11 @@
 -- THEOREM of a call of read and calls of build (demand 2): `grid` is what is lent to read, `before` and `after` the payload at entry and exit,
 -- a the answer, of which read's contract promises `Reads`. `gridAfter` is what a call of build leaves, as its contract says. Assumes nothing
 -- beyond what demand 2 takes: an accepted plan and buffers of its lengths.
-use Prim.Native.Nat.{ℕ, _<_}
+use Prim.Native.Nat.{ℕ}
 use mathlib.Core.Path.{_≡_, sym, _∙_}
 use mathlib.Core.Logic.{_↔_}
 use mathlib.Core.List.{List}
 use lib.ListN.{length}
-use Rattle.plan.specs.Lists.{Every}
 use Rattle.plan.specs.Answers.{Answer, given}
 use Rattle.plan.specs.Check.{checkOf, refusedAs}
 use Rattle.plan.specs.declared.Plan.{Plan}
@@ -15,7 +14,7 @@ use Rattle.plan.specs.declared.Checked.the-variants.{Plan as accepted}
 use Rattle.payload.specs.Payload.{gridLength, payloadLength, AcceptedPayload}
 use Rattle.build.specs.Build.{pdschElements, gridAfter}
 use Rattle.build.proofs.Apart.{left-is}
-use Rattle.read.specs.Read.{Reads}
+use Rattle.read.specs.Read.{Bytes, Reads}
 
 module _
     (w : List ℕ)
@@ -37,16 +36,16 @@ module _
     -- 13 exactly when a call of build makes the grid from no accepted payload
     pub none-builds :
         (a ≡ refusedAs NoPayload)
-        ↔ ((payload g : List ℕ) → AcceptedPayload w p payload → length g ≡ gridLength p → gridAfter w payload g ≡ grid → ⊥)
+        ↔ ((payload g : List ℕ) → Bytes payload → AcceptedPayload w p payload → length g ≡ gridLength p → gridAfter w payload g ≡ grid → ⊥)
     none-builds =
         let none = reads .under p ok .none whole size in (
-          λ e payload g good right made. none .0 e payload good (sym (left-is w p ok payload g good right) ∙ made),
-          λ never. none .1 (λ payload good made. never payload grid good whole (left-is w p ok payload grid good whole ∙ made)),
+          λ e payload g small good right made. none .0 e payload small good (sym (left-is w p ok payload g good right) ∙ made),
+          λ never. none .1 (λ payload small good made. never payload grid small good whole (left-is w p ok payload grid good whole ∙ made)),
         )
 
-    -- what a call of build made is read back: `payload` is any accepted one, a list of bytes
+    -- what a call of build made is read back
     pub built-back :
-        (payload g : List ℕ) → AcceptedPayload w p payload → Every (λ (b : ℕ). b < 256) payload → length g ≡ gridLength p
+        (payload g : List ℕ) → Bytes payload → AcceptedPayload w p payload → length g ≡ gridLength p
         → gridAfter w payload g ≡ grid → (a ≡ given (pdschElements w p)) × (after ≡ payload)
-    built-back payload g good bytes right made =
-        reads .under p ok .back payload good bytes (sym (left-is w p ok payload g good right) ∙ made) size
+    built-back payload g small good right made =
+        reads .under p ok .back payload small good (sym (left-is w p ok payload g good right) ∙ made) size

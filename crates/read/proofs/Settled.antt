@@ -103,7 +103,7 @@ module _ (w grid before : List ℕ) where
                   answer = inl (sym (u Answer refusedAs _));
                   none = λ right size. absurd (wrong right size);
                   returned = λ n f. no-number f;
-                  back = λ A a small f size. absurd (wrong (ap length (sym f) ∙ grid-size w p A) size);
+                  back = λ A small a f size. absurd (wrong (ap length (sym f) ∙ grid-size w p A) size);
                 })
                 (λ n f. refl);
             only = λ b left h. let q = short (h .under p ok) in (q, h .kept (refusalNumber x) q);
@@ -130,12 +130,12 @@ module _ (w grid before : List ℕ) where
                   under-one
                   (record {
                     answer = inr (sym (lengths-right refusedAs w p grid before _ right size));
-                    none = λ _ _. ((λ e. no), (λ k. refl));
+                    none = λ _ _. ((λ e A small. no A), (λ k. refl));
                     returned = λ n f. no-number f;
-                    back = λ A a small f _. absurd (no A a f);
+                    back = λ A small a f _. absurd (no A a f);
                   })
                   (λ n f. refl);
-              only = λ b left k. let q = k .under p ok .none right size .1 no in (q, k .kept 13 q);
+              only = λ b left k. let q = k .under p ok .none right size .1 (λ A small. no A) in (q, k .kept 13 q);
             }
 
         pub made : gridOf w p (payloadIn w p grid) ≡ grid → Settles w grid before (given (pdschElements w p)) (payloadIn w p grid)
@@ -149,10 +149,10 @@ module _ (w grid before : List ℕ) where
                   under-one
                   (record {
                     answer = inl (sym (lengths-right refusedAs w p grid before _ right size));
-                    none = λ _ _. ((λ e. no-number (sym e)), (λ k. absurd (k (payloadIn w p grid) (accepted-in w p grid) h)));
+                    none = λ _ _. ((λ e. no-number (sym e)), (λ k. absurd (k (payloadIn w p grid) (bytes w p grid) (accepted-in w p grid) h)));
                     returned = λ n f. (accepted-in w p grid, h);
-                    back = λ A a small f _. (refl, ap (payloadIn w p) (sym f) ∙ recovered w p ok A a small);
+                    back = λ A small a f _. (refl, ap (payloadIn w p) (sym f) ∙ recovered w p ok A a small);
                   })
                   (λ n f. no-number (sym f));
-              only = λ b left k. k .under p ok .back (payloadIn w p grid) (accepted-in w p grid) (bytes w p grid) h size;
+              only = λ b left k. k .under p ok .back (payloadIn w p grid) (bytes w p grid) (accepted-in w p grid) h size;
             }

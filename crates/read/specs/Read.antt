@@ -19,6 +19,10 @@ use Rattle.build.specs.Build.{pdschElements}
 use Rattle.read.specs.declared.ReadBack.{ReadBack}
 use Rattle.read.specs.declared.ReadBack.the-variants.{Elements, Refused}
 
+-- a payload is bytes
+abbrev pub Bytes : List ℕ → Type 0
+Bytes payload = Every (λ (b : ℕ). b < 256) payload
+
 -- DEMAND 2: "With an accepted plan and buffers of its lengths, reading returns the payload from which building makes that grid, and
 -- refuses the grid exactly when no accepted payload makes it." What the answer a, in document 01's numbers, and the payload after it
 -- mean under an accepted plan p; `before` is the payload at entry
@@ -29,12 +33,12 @@ pub record ReadUnder (w : List ℕ) (p : Plan) (grid before : List ℕ) (a : Ans
   -- 13 exactly when no accepted payload makes the grid
   pub none :
       length grid ≡ gridLength p → length before ≡ payloadLength w p
-      → (a ≡ refusedAs NoPayload) ↔ ((payload : List ℕ) → AcceptedPayload w p payload → gridOf w p payload ≡ grid → ⊥)
+      → (a ≡ refusedAs NoPayload) ↔ ((payload : List ℕ) → Bytes payload → AcceptedPayload w p payload → gridOf w p payload ≡ grid → ⊥)
   -- the payload returned is accepted, and builds that very grid
   pub returned : (n : ℕ) → a ≡ given n → AcceptedPayload w p after × (gridOf w p after ≡ grid)
-  -- what build wrote is read back: `payload` is any accepted one, a list of bytes
+  -- what build wrote is read back
   pub back :
-      (payload : List ℕ) → AcceptedPayload w p payload → Every (λ (b : ℕ). b < 256) payload → gridOf w p payload ≡ grid
+      (payload : List ℕ) → Bytes payload → AcceptedPayload w p payload → gridOf w p payload ≡ grid
       → length before ≡ payloadLength w p → (a ≡ given (pdschElements w p)) × (after ≡ payload)
 
 -- THE PROMISE, for every input. proofs/Once.antt: no two answers meet it, and the equation (Equation.antt) gives the one that does

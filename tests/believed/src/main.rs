@@ -20,6 +20,17 @@ const THEOREMS: [(&str, &str); 9] = [
     ("crates/read/proofs/Builds.antt", "built-back"),
 ];
 
+/// Laws that answer a sentence of document 01 of their own.
+const FURTHER: [(&str, &str); 7] = [
+    ("crates/known/proofs/Known.antt", "known-elements"),
+    ("crates/known/proofs/Example.antt", "the-example"),
+    ("crates/plan/proofs/Valid.antt", "valid"),
+    ("crates/payload/proofs/EveryBit.antt", "exactly-once"),
+    ("crates/payload/proofs/EveryBit.antt", "bit-owner"),
+    ("crates/payload/proofs/EveryBit.antt", "spare-or-owned"),
+    ("crates/payload/proofs/EveryBit.antt", "spare-not-owned"),
+];
+
 /// Read's equation: the record `Reads`, which the calls promise beside it, leaves it no choice.
 const DETERMINED: [(&str, &str); 2] =
     [("crates/read/specs/Equation.antt", "readOf"), ("crates/read/specs/Equation.antt", "payloadAfter")];
@@ -54,15 +65,16 @@ fn run(root: &str, limit: Option<usize>) -> Result<bool, String> {
     let place = |(path, name): (&str, &str)| -> Place { (path.into(), name.into()) };
     let statements: Vec<Place> = calls.chain(THEOREMS).map(place).collect();
     let reached = reach(&book, &statements, &DETERMINED.map(place))?;
+    let further = reach(&book, &FURTHER.map(place), &[])?;
     let (total, types) = report::counts(&reached.definitions);
     match limit {
-        None => print!("{}", report::table(&book, &reached)),
+        None => print!("{}{}", report::table(&book, &reached), report::further(&book, &reached, &further)),
         Some(_) => println!("{total} lines of definitions, {types} of types"),
     }
-    for ((path, name), word) in &reached.unknown {
+    for ((path, name), word) in reached.unknown.iter().chain(&further.unknown) {
         eprintln!("{path}, {name}: {word} stands for nothing known");
     }
-    Ok(reached.unknown.is_empty() && limit.is_none_or(|limit| total <= limit))
+    Ok(reached.unknown.is_empty() && further.unknown.is_empty() && limit.is_none_or(|limit| total <= limit))
 }
 
 fn main() -> ExitCode {
