@@ -153,8 +153,8 @@ module _ (w : List ℕ) (p : Plan) (ok : checkOf w ≡ accepted p) where
     pub unit-elements : m < unitsOf (p .cell) → SameElements w p (Phich m) A B ↔ SameBits w p (Phich m) A B
     unit-elements in-m = Iff·trans (to-sums in-m, to-elements) (Iff·trans as-list (Iff·trans by-his by-bits))
 
--- THE LAW: "For .. each acknowledgement unit .. they hold the same bytes at all of that owner's elements on all ports exactly when A
--- and B agree in all of that owner's bits"
+-- THE LAW: "For .. each acknowledgement unit .., the two grids hold the same bytes at all of that owner's elements, on all ports, exactly
+-- when A and B agree in all of that owner's bits"
 pub unit-builds :
     (w : List ℕ) (p : Plan) → checkOf w ≡ accepted p → (A B : List ℕ) (m : ℕ) → m < unitsOf (p .cell)
     → SameBytes w p (Phich m) (gridOf w p A) (gridOf w p B) ↔ SameBits w p (Phich m) A B

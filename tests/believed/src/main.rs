@@ -21,10 +21,12 @@ const THEOREMS: [(&str, &str); 9] = [
 ];
 
 /// Laws that answer a sentence of document 01 of their own.
-const FURTHER: [(&str, &str); 7] = [
+const FURTHER: [(&str, &str); 9] = [
     ("crates/known/proofs/Known.antt", "known-elements"),
     ("crates/known/proofs/Example.antt", "the-example"),
     ("crates/plan/proofs/Valid.antt", "valid"),
+    ("crates/plan/proofs/Known.antt", "limits"),
+    ("crates/phich/proofs/Units.antt", "exactly"),
     ("crates/payload/proofs/EveryBit.antt", "exactly-once"),
     ("crates/payload/proofs/EveryBit.antt", "bit-owner"),
     ("crates/payload/proofs/EveryBit.antt", "spare-or-owned"),
