@@ -252,6 +252,14 @@ none-or a b x y = ap₂ (λ (c d : ℕ). bitOr c d) x y ∙ or-zero-l 0
 xor-none : (a b : ℕ) → bitXor a b ≡ 0 → a ≡ b
 xor-none a b e = let h = xor-add-and a b in let l = and-le-l a b in let r = and-le-r a b in omega (arith, h, l, r, e)
 
+-- one element beside a number
+module _ (e v : ℕ) {x : ℕ} {g : List ℕ} (p : OneRead (3 * e) g x) where
+  pub none-same : bitXor x v ≡ 0 → elementIn g e ≡ elementFrom v
+  none-same z = p .element e refl ∙ ap elementFrom (xor-none x v z)
+
+  pub same-none : v < 16777216 → elementIn g e ≡ elementFrom v → bitXor x v ≡ 0
+  same-none l q = ap (λ (k : ℕ). bitXor k v) (same-one (p .few) l (sym (p .element e refl) ∙ q)) ∙ xor-self v
+
 pub pair-compared :
     {gap at across v w x y : ℕ} {g : List ℕ} → TwoRead gap at g x → TwoRead gap (at + across) g y
     → PairCompared gap at across v w g (bitOr (bitXor x v) (bitXor y w))
