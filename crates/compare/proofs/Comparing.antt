@@ -175,7 +175,8 @@ few-length {D = D} {g = g} {r = Weight n} l c = omega (arith, c .found .1, weigh
 few-length {r = Differs} l c = tt
 
 pub few : {P T : ℕ} {D : ℕ → Bool} {W : ℕ → Element} {g : List ℕ} {r : Seen} → Room P T g → Compared D W g r → Few r
-few {P = P} {T = T} {D = D} {W = W} {g = g} {r = r} room = few-length {D = D} {W = W} {g = g} {r = r} (omega (arith, room .size, mul-le-mul {n₁ = P} {m₁ = T} {n₂ = 4} {m₂ = 16800} (room .most) (room .fits)))
+few {P = P} {T = T} {D = D} {W = W} {g = g} {r = r} room =
+    few-length {D = D} {W = W} {g = g} {r = r} (omega (arith, room .size, mul-le-mul {n₁ = P} {m₁ = T} {n₂ = 4} {m₂ = 16800} (room .most) (room .fits)))
 
 -- ---- one element
 -- the three bytes agree
@@ -202,7 +203,9 @@ unfolding seenOf
 look-compared g e el l = pick (sameElement (elementIn g e) el) refl
   where
     pick : (b : Bool) → sameElement (elementIn g e) el ≡ b → Compared (eqb e) (λ (x : ℕ). el) g (cond b (Weight (weightOf (elementIn g e))) Differs)
-    pick true h = holds-of (record { elements = λ x k. ap (λ (y : ℕ). elementIn g y) (sym (eqb-true e x k)) ∙ same-element (elementIn g e) el h }) (sym (weight-one g e (length g / 3) (omega arith)))
+    pick true h =
+        holds-of (record { elements = λ x k. ap (λ (y : ℕ). elementIn g y) (sym (eqb-true e x k)) ∙ same-element (elementIn g e) el h })
+        (sym (weight-one g e (length g / 3) (omega arith)))
     pick false h = differs (λ k. clash (element-same (elementIn g e) el (k .elements e (eq-eqb e e refl))) h)
 
 -- ---- all bytes of a grid

@@ -81,8 +81,10 @@ both-requires c κs =
     let c6 = c4 .before .before in
     let c8 = c6 .before .before in
     let c9 = c8 .before in
-    let c12 = c9 .before .before .before in
-    (few (c12 .pre .0) (own-looked (c12 .pre .0) (c12 .args .turn) (c12 .args .t) (c12 .pre .1) (c8 .wide .ensures ∙ c9 .own-port .ensures) (c6 .look .ensures)), few (c12 .pre .0) (other-looked (c12 .pre .0) (c12 .args .turn) (c12 .args .t) (c12 .pre .1) (c3 .wide2 .ensures ∙ c4 .other-port .ensures) (c .look2 .ensures)))
+    let c12 = c9 .before .before .before in (
+      few (c12 .pre .0) (own-looked (c12 .pre .0) (c12 .args .turn) (c12 .args .t) (c12 .pre .1) (c8 .wide .ensures ∙ c9 .own-port .ensures) (c6 .look .ensures)),
+      few (c12 .pre .0) (other-looked (c12 .pre .0) (c12 .args .turn) (c12 .args .t) (c12 .pre .1) (c3 .wide2 .ensures ∙ c4 .other-port .ensures) (c .look2 .ensures)),
+    )
 
 returns-2 : tie.Need-returns-2
 returns-2 c =

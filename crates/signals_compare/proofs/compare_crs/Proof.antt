@@ -16,8 +16,8 @@ first-carrier-requires c κs = omega (arith, few-ports (c .before .before .args 
 add-first : tie.Need-add-first
 add-first c =
     let c3 = c .before .before .before in
-    omega
-    (arith, row-at-most (c3 .args .cell) (c3 .args .s) (c3 .args .port) (omega arith) (omega arith) (omega (arith, symbols-most (c3 .args .cell), c3 .pre .symbol)), c .before .row-at .ensures, c .first-carrier .ensures)
+    let row = row-at-most (c3 .args .cell) (c3 .args .s) (c3 .args .port) (omega arith) (omega arith) (omega (arith, symbols-most (c3 .args .cell), c3 .pre .symbol)) in
+    omega (arith, row, c .before .row-at .ensures, c .first-carrier .ensures)
 
 wide-requires : tie.Need-wide-requires
 wide-requires c κs = tt
