@@ -23,11 +23,7 @@ add-t10 c = omega (arith, mark-few _ (c .before .before .nonzero-of .ensures), m
 
 returns : tie.Need-returns
 returns c =
-    let c2 = c .before .before in
-    let c3 = c2 .before in
-    let c6 = c3 .before .before .before in
-    let c9 = c6 .before .before .before in
-    let c12 = c9 .before .before .before in
+    let c2 = c .before .before in let c3 = c2 .before in let c6 = c3 .before .before .before in let c9 = c6 .before .before .before in let c12 = c9 .before .before .before in
     all-same (c12 .args .a) (c12 .args .b) (c9 .if1 .taken) (eqb-true _ _ (c6 .if2 .taken)) (eqb-true _ _ (c3 .if3 .taken)) (c2 .nonzero-of .ensures) (c .before .nonzero-of2 .ensures)
     (c .nonzero-of3 .ensures)
 

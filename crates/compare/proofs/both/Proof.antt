@@ -13,8 +13,7 @@ enum-known-b c = search needs
 
 add-t7 : tie.Need-add-t7
 add-t7 c =
-    let c4 = c .before .before .before .before in
-    let c6 = c4 .before .before in
+    let c4 = c .before .before .before .before in let c6 = c4 .before .before in
     omega (arith, both-few (c4 .a .given .1) (c .before .b .given .1) (c6 .pre .0) (c6 .pre .1))
 
 enum-told : tie.Need-enum-told

@@ -32,8 +32,7 @@ part-nonzeros-in-end c = omega arith
 
 nonzeros-in-requires : tie.Need-nonzeros-in-requires Inv-loop μ-loop
 nonzeros-in-requires c κs =
-    let c2 = c .before .before in
-    let c4 = c2 .before .before in
+    let c2 = c .before .before in let c4 = c2 .before .before in
     part-few (c4 .args .grid .now) (c2 .loop .i) (c2 .loop .i + 224) 224 (omega arith)
 
 wide-requires : tie.Need-wide-requires Inv-loop μ-loop
@@ -64,8 +63,7 @@ part-nonzeros-in-end-2 c = omega arith
 
 nonzeros-in-requires-2 : tie.Need-nonzeros-in-requires-2 Inv-loop μ-loop
 nonzeros-in-requires-2 c κs =
-    let c2 = c .before .before in
-    let c4 = c2 .before .before in
+    let c2 = c .before .before in let c4 = c2 .before .before in
     part-few (c4 .args .grid .now) (c2 .loop .i) (length (c4 .args .grid .now)) 224 (omega arith)
 
 wide-requires-2 : tie.Need-wide-requires-2 Inv-loop μ-loop
@@ -73,15 +71,13 @@ wide-requires-2 c κs = tt
 
 add-result : tie.Need-add-result Inv-loop μ-loop
 add-result c =
-    let c4 = c .before .before .before .before in
-    let c6 = c4 .before .before in
+    let c4 = c .before .before .before .before in let c6 = c4 .before .before in
     omega
     (arith, count-most (count-part (c4 .loop .inv) (length (c6 .args .grid .now)) (c4 .loop .inv .inside) (omega arith) (c .before .nonzeros-in2 .ensures) (c .wide2 .ensures)))
 
 returns : tie.Need-returns Inv-loop μ-loop
 returns c =
-    let c4 = c .before .before .before .before in
-    let c6 = c4 .before .before in
+    let c4 = c .before .before .before .before in let c6 = c4 .before .before in
     count-all
     (count-part (c4 .loop .inv) (length (c6 .args .grid .now)) (c4 .loop .inv .inside) (omega arith) (c .before .nonzeros-in2 .ensures) (c .wide2 .ensures))
     (omega arith)

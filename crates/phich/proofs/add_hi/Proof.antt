@@ -38,29 +38,22 @@ wide-requires-2 c κs = tt
 
 mul-add-at : tie.Need-mul-add-at Inv-loop μ-loop
 mul-add-at c =
-    let c4 = c .before .before .before .before in
-    let c8 = c4 .before .before .before .before in
+    let c4 = c .before .before .before .before in let c8 = c4 .before .before .before .before in
     omega (arith, place-fits (c8 .pre .1) (c .wide2 .ensures) (c4 .loop-test .taken) .0)
 
 add-add-at : tie.Need-add-add-at Inv-loop μ-loop
 add-add-at c =
-    let c4 = c .before .before .before .before in
-    let c8 = c4 .before .before .before .before in
+    let c4 = c .before .before .before .before in let c8 = c4 .before .before .before .before in
     omega (arith, place-fits (c8 .pre .1) (c .wide2 .ensures) (c4 .loop-test .taken) .1)
 
 turned-requires : tie.Need-turned-requires Inv-loop μ-loop
 turned-requires c κs =
-    let c2 = c .before .before in
-    let c4 = c2 .before .before in
-    let c6 = c4 .before .before in
+    let c2 = c .before .before in let c4 = c2 .before .before in let c6 = c4 .before .before in
     chip-turns _ _ _ (row-chip (c6 .sequence .ensures) (c4 .loop-test .taken) (c2 .plain-chip .ensures))
 
 add-at-requires : tie.Need-add-at-requires Inv-loop μ-loop
 add-at-requires c κs =
-    let c3 = c .before .before .before in
-    let c5 = c3 .before .before in
-    let c6 = c5 .before in
-    let c7 = c6 .before in
+    let c3 = c .before .before .before in let c5 = c3 .before .before in let c6 = c5 .before in let c7 = c6 .before in
     let c9 = c7 .before .before in (
       c6 .loop .inv .added .size ∙ c6 .loop .inv .size,
       place-fits (c9 .pre .1) (c .before .wide2 .ensures) (c5 .loop-test .taken) .2,
@@ -69,8 +62,7 @@ add-at-requires c κs =
 
 add-n : tie.Need-add-n Inv-loop μ-loop
 add-n c =
-    let c6 = c .before .before .before .before .before .before in
-    let c10 = c6 .before .before .before .before in
+    let c6 = c .before .before .before .before .before .before in let c10 = c6 .before .before .before .before in
     omega (arith, c6 .loop-test .taken, c10 .pre .1 .spread .1)
 
 loop-less : tie.Need-loop-less Inv-loop μ-loop
@@ -78,13 +70,7 @@ loop-less c = omega (arith, c .before .before .before .before .before .before .l
 
 loop-again : tie.Need-loop-again Inv-loop μ-loop
 loop-again c =
-    let c2 = c .before .before in
-    let c4 = c2 .before .before in
-    let c6 = c4 .before .before in
-    let c7 = c6 .before in
-    let c8 = c7 .before in
-    let c9 = c8 .before in
-    let c10 = c9 .before in
+    let c2 = c .before .before in let c4 = c2 .before .before in let c6 = c4 .before .before in let c7 = c6 .before in let c8 = c7 .before in let c9 = c8 .before in let c10 = c9 .before in
     add-next (c10 .args .l) (c10 .pre .1 .spread) (c10 .args .h) (c10 .args .b) (c7 .loop .inv) (c6 .loop-test .taken) (c9 .wide .ensures)
     (row-chip (c8 .sequence .ensures) (c6 .loop-test .taken) (c4 .plain-chip .ensures)) (c .before .turned .ensures) (c2 .wide2 .ensures)
     (c .add-at .ensures)

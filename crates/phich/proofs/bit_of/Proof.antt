@@ -41,26 +41,22 @@ wide-requires-2 c κs = tt
 
 mul-levels-at : tie.Need-mul-levels-at Inv-loop μ-loop
 mul-levels-at c =
-    let c4 = c .before .before .before .before in
-    let c8 = c4 .before .before .before .before in
+    let c4 = c .before .before .before .before in let c8 = c4 .before .before .before .before in
     omega (arith, place-fits (c8 .pre) (c .wide2 .ensures) (c4 .loop-test .taken) .0)
 
 add-levels-at : tie.Need-add-levels-at Inv-loop μ-loop
 add-levels-at c =
-    let c4 = c .before .before .before .before in
-    let c8 = c4 .before .before .before .before in
+    let c4 = c .before .before .before .before in let c8 = c4 .before .before .before .before in
     omega (arith, place-fits (c8 .pre) (c .wide2 .ensures) (c4 .loop-test .taken) .1)
 
 levels-at-requires : tie.Need-levels-at-requires Inv-loop μ-loop
 levels-at-requires c κs =
-    let c4 = c .before .before .before .before in
-    let c8 = c4 .before .before .before .before in
+    let c4 = c .before .before .before .before in let c8 = c4 .before .before .before .before in
     omega (arith, place-fits (c8 .pre) (c .wide2 .ensures) (c4 .loop-test .taken) .2)
 
 scrambling-requires : tie.Need-scrambling-requires Inv-loop μ-loop
 scrambling-requires c κs =
-    let c5 = c .before .before .before .before .before in
-    let c9 = c5 .before .before .before .before in
+    let c5 = c .before .before .before .before .before in let c9 = c5 .before .before .before .before in
     omega (arith, c5 .loop-test .taken, c9 .pre .spread .1)
 
 dot-requires : tie.Need-dot-requires Inv-loop μ-loop
@@ -71,15 +67,12 @@ turned-by-requires c κs = product-held (c .dot .result) (c .dot .ensures .1) .1
 
 add-t : tie.Need-add-t Inv-loop μ-loop
 add-t c =
-    let c8 = c .before .before .before .before .before .before .before .before in
-    let c9 = c8 .before in
-    let c12 = c9 .before .before .before in
+    let c8 = c .before .before .before .before .before .before .before .before in let c9 = c8 .before in let c12 = c9 .before .before .before in
     next-fits (c9 .loop .inv) (c .turned-by .result) (c8 .loop-test .taken) (c12 .pre .spread .1) (c .turned-by .ensures .1)
 
 add-n : tie.Need-add-n Inv-loop μ-loop
 add-n c =
-    let c8 = c .before .before .before .before .before .before .before .before in
-    let c12 = c8 .before .before .before .before in
+    let c8 = c .before .before .before .before .before .before .before .before in let c12 = c8 .before .before .before .before in
     omega (arith, c8 .loop-test .taken, c12 .pre .spread .1)
 
 loop-less : tie.Need-loop-less Inv-loop μ-loop
@@ -87,15 +80,8 @@ loop-less c = omega (arith, c .before .before .before .before .before .before .b
 
 loop-again : tie.Need-loop-again Inv-loop μ-loop
 loop-again c =
-    let c2 = c .before .before in
-    let c3 = c2 .before in
-    let c4 = c3 .before in
-    let c6 = c4 .before .before in
-    let c8 = c6 .before .before in
-    let c9 = c8 .before in
-    let c10 = c9 .before in
-    let c11 = c10 .before in
-    let c12 = c11 .before in
+    let c2 = c .before .before in let c3 = c2 .before in let c4 = c3 .before in let c6 = c4 .before .before in let c8 = c6 .before .before in let c9 = c8 .before in let c10 = c9 .before in
+    let c11 = c10 .before in let c12 = c11 .before in
     next (c9 .loop .inv) (c .turned-by .result) (c8 .loop-test .taken) (c12 .pre .spread .1) (c .turned-by .ensures .1) (c11 .wide .ensures)
     (row-chip (c10 .sequence .ensures) (c8 .loop-test .taken) (c6 .plain-chip .ensures)) (c4 .wide2 .ensures) (c3 .levels-at .ensures)
     (product-held (c .before .dot .result) (c .before .dot .ensures .1) .0 ∙ c .before .dot .ensures .0) (c2 .scrambling .ensures)
@@ -103,14 +89,12 @@ loop-again c =
 
 returns : tie.Need-returns Inv-loop μ-loop
 returns c =
-    let c2 = c .before .before in
-    let c5 = c2 .before .before .before in
+    let c2 = c .before .before in let c5 = c2 .before .before .before in
     finish-one (c5 .pre .spread) (c2 .loop .inv) (c .before .loop-test .left) (c .if1 .taken)
 
 returns-2 : tie.Need-returns-2 Inv-loop μ-loop
 returns-2 c =
-    let c2 = c .before .before in
-    let c5 = c2 .before .before .before in
+    let c2 = c .before .before in let c5 = c2 .before .before .before in
     finish-zero (c5 .pre .spread) (c2 .loop .inv) (c .before .loop-test .left) (c .if1 .left)
 
 pub bit-of-spec : {M : Type 1} → statement M

@@ -32,9 +32,7 @@ compare-values-requires c κs =
 
 returns : tie.Need-returns
 returns c =
-    let c2 = c .before .before in
-    let c3 = c2 .before in
-    let c5 = c3 .before .before in
+    let c2 = c .before .before in let c3 = c2 .before in let c5 = c3 .before .before in
     crs-compared (c5 .args .cell) (c5 .args .s) (c5 .args .port) (c3 .row-at .ensures) (c2 .first-carrier .ensures) (c .before .wide .ensures) (c5 .args .r) (c5 .pre)
     (c .compare-values .ensures)
 

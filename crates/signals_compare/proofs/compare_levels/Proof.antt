@@ -29,8 +29,7 @@ look-requires c κs = omega arith
 
 both-requires : tie.Need-both-requires Inv-loop μ-loop
 both-requires c κs =
-    let c4 = c .before .before .before .before in
-    let c6 = c4 .before .before in
+    let c4 = c .before .before .before .before in let c6 = c4 .before .before in
     few-looked (c6 .args .grid .now) (c6 .args .first + c4 .loop .i) (c .before .element-of .result) (c6 .pre .1) (c4 .loop .inv .found) (omega arith) (c .look .ensures)
 
 add-i : tie.Need-add-i Inv-loop μ-loop
@@ -41,11 +40,7 @@ loop-less c = omega arith
 
 loop-again : tie.Need-loop-again Inv-loop μ-loop
 loop-again c =
-    let c2 = c .before .before in
-    let c3 = c2 .before in
-    let c4 = c3 .before in
-    let c5 = c4 .before in
-    let c7 = c5 .before .before in
+    let c2 = c .before .before in let c3 = c2 .before in let c4 = c3 .before in let c5 = c4 .before in let c7 = c5 .before .before in
     level-turn (c7 .args .d) (c7 .args .first) (c7 .args .grid .now) (c5 .loop .i) (c4 .loop-test .taken) (omega arith) (c5 .loop .inv) (c3 .sss-level .ensures) (c2 .element-of .ensures)
     (c .before .look .ensures) (c .both .ensures)
 

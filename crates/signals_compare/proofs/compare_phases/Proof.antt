@@ -26,8 +26,7 @@ look-requires c κs = omega arith
 
 both-requires : tie.Need-both-requires Inv-loop μ-loop
 both-requires c κs =
-    let c3 = c .before .before .before in
-    let c5 = c3 .before .before in
+    let c3 = c .before .before .before in let c5 = c3 .before .before in
     few-looked (c5 .args .grid .now) (c5 .args .first + c3 .loop .i) (record { unit = 63; i = c .before .pss-phase .result; j = 0 }) (c5 .pre .1) (c3 .loop .inv .found) (omega arith)
     (c .look .ensures)
 
@@ -39,10 +38,7 @@ loop-less c = omega arith
 
 loop-again : tie.Need-loop-again Inv-loop μ-loop
 loop-again c =
-    let c2 = c .before .before in
-    let c3 = c2 .before in
-    let c4 = c3 .before in
-    let c6 = c4 .before .before in
+    let c2 = c .before .before in let c3 = c2 .before in let c4 = c3 .before in let c6 = c4 .before .before in
     phase-turn (c6 .args .identity) (c6 .args .first) (c6 .args .grid .now) (c4 .loop .i) (c3 .loop-test .taken) (omega arith) (c4 .loop .inv) (c2 .pss-phase .ensures) (c .before .look .ensures)
     (c .both .ensures)
 

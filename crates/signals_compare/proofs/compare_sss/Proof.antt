@@ -18,8 +18,7 @@ compare-levels-requires c κs =
 
 returns : tie.Need-returns
 returns c =
-    let c2 = c .before .before in
-    let c4 = c2 .before .before in
+    let c2 = c .before .before in let c4 = c2 .before .before in
     sss-compared (c4 .args .cell) (c4 .pre .cell) 2 _ (omega arith, omega arith) (c .before .mark-at .ensures) (c4 .args .frame) _ (c2 .sss-for .ensures) (c .compare-levels .ensures)
 
 pub compare-sss-spec : {M : Type 1} → statement M

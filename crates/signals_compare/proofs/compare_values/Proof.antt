@@ -50,9 +50,7 @@ loop-less c = omega (arith, c .before .before .before .at-once .ensures)
 
 loop-again : tie.Need-loop-again Inv-loop μ-loop
 loop-again c =
-    let c2 = c .before .before in
-    let c3 = c2 .before in
-    let c5 = c3 .before .before in
+    let c2 = c .before .before in let c3 = c2 .before in let c5 = c3 .before .before in
     values-turn (c5 .loop .inv) (c3 .at-once .result) (c2 .word .result) (omega (arith, c3 .at-once .ensures)) (c2 .word .ensures)
     (c .before .compare-word .ensures) (c .advance .ensures)
 

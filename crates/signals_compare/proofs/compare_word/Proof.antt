@@ -52,8 +52,7 @@ loop-less c = omega arith
 
 loop-again : tie.Need-loop-again Inv-loop μ-loop
 loop-again c =
-    let c2 = c .before .before in
-    let c3 = c2 .before in
+    let c2 = c .before .before in let c3 = c2 .before in
     word-turn (c3 .loop .inv) (c2 .loop-test .taken) (c .before .three-at .ensures) (c .number-of .ensures)
 
 returns : tie.Need-returns Inv-loop μ-loop
