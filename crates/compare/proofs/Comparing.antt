@@ -10,7 +10,7 @@ use native.Mathlib.Omega.{arith}
 use borrow.Author.Tests.{eqb-true, eq-eqb, ne-eqb, not-true}
 use lib.Dec.{eqb}
 use lib.ListN.{length, getD}
-use Rattle.base.proofs.Tests.{by-test, clash}
+use Rattle.base.proofs.Tests.{by-test, clash, or-left, or-right}
 use Rattle.base.specs.declared.Element.{Element}
 use Rattle.base.specs.Bytes.{silent}
 use Rattle.grid.specs.Elements.{elementIn}
@@ -141,13 +141,21 @@ same {D = D} {D′ = D′} {g = g} {r = Weight n} d v c =
     holds-of (holds-less (λ e k. d e ∙ k) (λ e k. v e (d e ∙ k)) (c .found .0)) (c .found .1 ∙ weight-same g D D′ (length g / 3) (λ e l. d e))
 same {r = Differs} d v c = differs (λ h. c .found (holds-less (λ e k. sym (d e) ∙ k) (λ e k. sym (v e k)) h))
 
-or-left : (b c : Bool) → b ≡ true → b || c ≡ true
-or-left true c h = refl
-or-left false c h = clash h refl
+-- elements that hold their values, and others
+module _ (D₁ D₂ : ℕ → Bool) {D : ℕ → Bool} {W W₂ : ℕ → Element} {g : List ℕ}
+    (v : (e : ℕ) → D₂ e ≡ true → W₂ e ≡ W e) (d : (e : ℕ) → D e ≡ D₂ e || D₁ e) where
+  pub holds-both : Holds D₁ W g → Holds D₂ W₂ g → Holds D W g
+  holds-both a b = record { elements = λ e h. part e (D₂ e) refl (sym (d e) ∙ h) }
+    where
+      part : (e : ℕ) (t : Bool) → D₂ e ≡ t → t || D₁ e ≡ true → elementIn g e ≡ W e
+      part e true q h = b .elements e q ∙ v e q
+      part e false q h = a .elements e h
 
-or-right : (b c : Bool) → c ≡ true → b || c ≡ true
-or-right true c h = refl
-or-right false c h = h
+  pub holds-old : Holds D W g → Holds D₁ W g
+  holds-old = holds-less (λ e q. d e ∙ or-right (D₂ e) (D₁ e) q) (λ e q. refl)
+
+  pub holds-new : Holds D W g → Holds D₂ W₂ g
+  holds-new = holds-less (λ e q. d e ∙ or-left (D₂ e) (D₁ e) q) (λ e q. sym (v e q))
 
 -- comparisons of elements apart
 module _ {D₁ D₂ D : ℕ → Bool} {W W₂ : ℕ → Element} {g : List ℕ} where
@@ -155,15 +163,11 @@ module _ {D₁ D₂ D : ℕ → Bool} {W W₂ : ℕ → Element} {g : List ℕ} 
       {r s : Seen} → ((e : ℕ) → D₁ e ≡ true → D₂ e ≡ true → ⊥) → Compared D₁ W g r → Compared D₂ W₂ g s → ((e : ℕ) → D₂ e ≡ true → W₂ e ≡ W e)
       → ((e : ℕ) → D e ≡ D₂ e || D₁ e) → Compared D W g (bothOf r s)
   over {r = Weight m} {s = Weight n} a c k v d =
-      holds-of (record { elements = λ e h. part e (D₂ e) refl (sym (d e) ∙ h) })
+      holds-of (holds-both D₁ D₂ v d (c .found .0) (k .found .0))
       (ap₂ (λ (x y : ℕ). x + y) (c .found .1) (k .found .1) ∙ sym (weight-or g D₁ D₂ (length g / 3) (λ e l. a e))
       ∙ weight-same g (λ (e : ℕ). D₂ e || D₁ e) D (length g / 3) (λ e l. sym (d e)))
-    where
-      part : (e : ℕ) (b : Bool) → D₂ e ≡ b → b || D₁ e ≡ true → elementIn g e ≡ W e
-      part e true q h = k .found .0 .elements e q ∙ v e q
-      part e false q h = c .found .0 .elements e h
-  over {r = Weight m} {s = Differs} a c k v d = differs (λ h. k .found (holds-less (λ e q. d e ∙ or-left (D₂ e) (D₁ e) q) (λ e q. sym (v e q)) h))
-  over {r = Differs} {s = s} a c k v d = differs (λ h. c .found (holds-less (λ e q. d e ∙ or-right (D₂ e) (D₁ e) q) (λ e q. refl) h))
+  over {r = Weight m} {s = Differs} a c k v d = differs (λ h. k .found (holds-new D₁ D₂ v d h))
+  over {r = Differs} {s = s} a c k v d = differs (λ h. c .found (holds-old D₁ D₂ v d h))
 
 -- ---- the number is small
 pub few-length : {D : ℕ → Bool} {W : ℕ → Element} {g : List ℕ} {r : Seen} → length g ≤ 201600 → Compared D W g r → Few r
@@ -171,7 +175,8 @@ few-length {D = D} {g = g} {r = Weight n} l c = omega (arith, c .found .1, weigh
 few-length {r = Differs} l c = tt
 
 pub few : {P T : ℕ} {D : ℕ → Bool} {W : ℕ → Element} {g : List ℕ} {r : Seen} → Room P T g → Compared D W g r → Few r
-few {P = P} {T = T} {D = D} {W = W} {g = g} {r = r} room = few-length {D = D} {W = W} {g = g} {r = r} (omega (arith, room .size, mul-le-mul {n₁ = P} {m₁ = T} {n₂ = 4} {m₂ = 16800} (room .most) (room .fits)))
+few {P = P} {T = T} {D = D} {W = W} {g = g} {r = r} room =
+    few-length {D = D} {W = W} {g = g} {r = r} (omega (arith, room .size, mul-le-mul {n₁ = P} {m₁ = T} {n₂ = 4} {m₂ = 16800} (room .most) (room .fits)))
 
 -- ---- one element
 -- the three bytes agree
@@ -198,7 +203,9 @@ unfolding seenOf
 look-compared g e el l = pick (sameElement (elementIn g e) el) refl
   where
     pick : (b : Bool) → sameElement (elementIn g e) el ≡ b → Compared (eqb e) (λ (x : ℕ). el) g (cond b (Weight (weightOf (elementIn g e))) Differs)
-    pick true h = holds-of (record { elements = λ x k. ap (λ (y : ℕ). elementIn g y) (sym (eqb-true e x k)) ∙ same-element (elementIn g e) el h }) (sym (weight-one g e (length g / 3) (omega arith)))
+    pick true h =
+        holds-of (record { elements = λ x k. ap (λ (y : ℕ). elementIn g y) (sym (eqb-true e x k)) ∙ same-element (elementIn g e) el h })
+        (sym (weight-one g e (length g / 3) (omega arith)))
     pick false h = differs (λ k. clash (element-same (elementIn g e) el (k .elements e (eq-eqb e e refl))) h)
 
 -- ---- all bytes of a grid

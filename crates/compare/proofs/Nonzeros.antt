@@ -22,33 +22,38 @@ pub part-few : (l : List ℕ) (i e n : ℕ) → e ≤ i + n → length (take (e 
 part-few l i e n h = omega (arith, length-take (e - i) (drop i l))
 
 -- ---- n bytes that are not 0 before byte i
-abbrev pub Count : List ℕ → ℕ → ℕ → Type 0
-Count l i n = n + nonzeros (drop i l) ≡ nonzeros l
+pub record Count (l : List ℕ) (i n : ℕ) : Type 0 where
+  pub inside : i ≤ length l
+  pub is : n + nonzeros (drop i l) ≡ nonzeros l
 
 pub count-none : (l : List ℕ) → Count l 0 0
-count-none l = omega arith
+count-none l = record { inside = omega arith; is = omega arith }
 
-turn : (l : List ℕ) (i : ℕ) → i < length l → nonzeros (drop i l) ≡ nonzero (getD l i 0) + nonzeros (drop (i + 1) l)
-unfolding nonzeros
-turn l i h = let e : i + 1 ≡ suc i = omega arith in rw (e, drop-cons l i 0 h) refl
+module _ {l : List ℕ} {i n : ℕ} (c : Count l i n) where
+  -- one byte more
+  turn : i < length l → nonzeros (drop i l) ≡ nonzero (getD l i 0) + nonzeros (drop (i + 1) l)
+  unfolding nonzeros
+  turn h = let e : i + 1 ≡ suc i = omega arith in rw (e, drop-cons l i 0 h) refl
 
-pub count-one : (l : List ℕ) (i n : ℕ) → i < length l → (getD l i 0 ≡ 0 → ⊥) → Count l i n → Count l (i + 1) (n + 1)
-count-one l i n h z c = omega (arith, c, turn l i h, nonzero-one (getD l i 0) z)
+  pub count-one : i < length l → (getD l i 0 ≡ 0 → ⊥) → Count l (i + 1) (n + 1)
+  count-one h z = record { inside = omega arith; is = omega (arith, turn h, nonzero-one (getD l i 0) z) }
 
-pub count-zero : (l : List ℕ) (i n : ℕ) → i < length l → getD l i 0 ≡ 0 → Count l i n → Count l (i + 1) n
-count-zero l i n h z c = omega (arith, c, turn l i h, nonzero-none (getD l i 0) z)
+  pub count-zero : i < length l → getD l i 0 ≡ 0 → Count l (i + 1) n
+  count-zero h z = record { inside = omega arith; is = omega (arith, turn h, nonzero-none (getD l i 0) z) }
 
-pub count-part : (l : List ℕ) (i e n : ℕ) → i ≤ e → Count l i n → Count l e (n + nonzeros (take (e - i) (drop i l)))
-count-part l i e n h c =
-    let q : i + (e - i) ≡ e = omega arith in
-    let s : nonzeros (drop i l) ≡ nonzeros (take (e - i) (drop i l)) + nonzeros (drop e l) =
-    ap nonzeros (sym (take-append-drop (e - i) (drop i l))) ∙ marks-append (take (e - i) (drop i l)) (drop (e - i) (drop i l))
-    ∙ ap (λ (d : List ℕ). nonzeros (take (e - i) (drop i l)) + nonzeros d) (drop-drop (e - i) i l ∙ ap (λ (k : ℕ). drop k l) q) in
-    omega (arith, c, s)
+  -- the bytes up to e, p by a u8 and w by a usize
+  pub count-part : (e : ℕ) {p w : ℕ} → i ≤ e → e ≤ length l → p ≡ nonzeros (take (e - i) (drop i l)) → w ≡ p → Count l e (n + w)
+  count-part e {p} {w} h k ep ew =
+      let part = take (e - i) (drop i l) in
+      let q : i + (e - i) ≡ e = omega arith in
+      let s : nonzeros (drop i l) ≡ nonzeros part + nonzeros (drop e l) =
+      ap nonzeros (sym (take-append-drop (e - i) (drop i l))) ∙ marks-append part (drop (e - i) (drop i l))
+      ∙ ap (λ (d : List ℕ). nonzeros part + nonzeros d) (drop-drop (e - i) i l ∙ ap (λ (k : ℕ). drop k l) q) in
+      record { inside = k; is = omega arith }
 
-pub count-all : (l : List ℕ) (i n : ℕ) → length l ≤ i → Count l i n → n ≡ nonzeros l
-unfolding nonzeros
-count-all l i n h c = let s : nonzeros (drop i l) ≡ 0 = ap nonzeros (drop-of-length-le l h) in omega (arith, c, s)
+  pub count-all : length l ≤ i → n ≡ nonzeros l
+  unfolding nonzeros
+  count-all h = let s : nonzeros (drop i l) ≡ 0 = ap nonzeros (drop-of-length-le l h) in omega (arith, c .is)
 
-pub count-most : (l : List ℕ) (i n : ℕ) → Count l i n → n ≤ length l
-count-most l i n c = omega (arith, c, marks-most l)
+  pub count-most : n ≤ length l
+  count-most = omega (arith, marks-most l)

@@ -17,9 +17,9 @@ pub enum Seen {
     Differs,
 }
 
-// How many of at most 192 bytes are not 0, counted in a u8 so that many bytes are compared at once.
+// How many of at most 224 bytes are not 0, counted in a u8 so that many bytes are compared at once.
 fn nonzeros_in(part: &[u8]) -> u8
-    requires { ⌜ length (now part) ≤ 192 ⌝ }
+    requires { ⌜ length (now part) ≤ 224 ⌝ }
     ensures { λ r. ⌜ r ≡ nonzeros (now (part .entry)) ⌝ }
 {
     let mut n: u8 = 0;
@@ -33,26 +33,18 @@ fn nonzeros_in(part: &[u8]) -> u8
     n
 }
 
-// The end of the part that starts at i: 192 bytes, or what is left. Callers ask inside a grid.
-fn part_end(i: usize, length: usize) -> usize
-    requires { ⌜ i < length ⌝ }
-    ensures { λ r. ⌜ (i < r) × (r ≤ length) × (r ≤ i + 192) ⌝ }
-{
-    if 192 <= length - i { i + 192 } else { length }
-}
-
-// How many bytes of a grid are not 0.
+// How many bytes of a grid are not 0, in parts of one length that the compiler knows, and the rest.
 pub fn weight(grid: &[u8]) -> usize
     ensures { λ r. ⌜ r ≡ nonzeros (now (grid .entry)) ⌝ }
 {
     let mut n: usize = 0;
     let mut i: usize = 0;
-    while i < grid.len() {
-        let end = part_end(i, grid.len());
+    while 224 <= grid.len() - i {
+        let end = i + 224;
         n += base::wide(nonzeros_in(&grid[i..end]));
         i = end;
     }
-    n
+    n + base::wide(nonzeros_in(&grid[i..]))
 }
 
 // 1 for a byte that is not 0.

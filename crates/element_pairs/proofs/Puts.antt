@@ -1,7 +1,7 @@
 -- THE LAWS OF NUMBERS IN A GRID: a byte, bytes after bytes, one element, two elements; and two numbers with the same elements. Assumes
 -- nothing.
 use Prim.Native.Nat.{ℕ, zero, suc, _+_, _-_, _*_, _/_, _%_, _^_, _≤_, _<_}
-use mathlib.Core.Path.{_≡_, refl, sym, ap, ap₂, _∙_}
+use mathlib.Core.Path.{_≡_, refl, sym, ap, ap₂, _∙_, subst}
 use mathlib.Core.Bool.{cond, _||_}
 use mathlib.Core.List.{List}
 use native.Mathlib.Nat.{mod-mod}
@@ -16,7 +16,7 @@ use lib.Seq.{getD-set-same, getD-set-other}
 use Rattle.base.specs.declared.Element.{Element}
 use Rattle.base.specs.Bytes.{byteIn}
 use Rattle.grid.specs.Elements.{elementIn}
-use Rattle.element_pairs.specs.Numbers.{digit, elementFrom, upper, Put, OnePut, TwoPut, OneRead, TwoRead, PairCompared}
+use Rattle.element_pairs.specs.Numbers.{digit, elementFrom, upper, Put, OnePut, TwoPut, HalfRead, OneRead, TwoRead, PairCompared}
 
 -- ---- bytes
 pub put-one : (at v x : ℕ) (g : List ℕ) → at < length g → x ≡ digit v 0 → Put at 1 v g (set g at x)
@@ -179,16 +179,14 @@ two-apart {at} {v} {g} {h} {k} p q =
     second m s (no x) y = q .early m (omega arith)
 
 -- ---- numbers that are read
-pub one-read :
-    {at : ℕ} {g : List ℕ} {a b c : ℕ} → a ≡ getD g at 0 → b ≡ getD g (at + 1) 0 → c ≡ getD g (at + 2) 0 → a < 256 → b < 256 → c < 256
-    → OneRead at g (a + b * 256 + c * 65536)
+pub one-read : {at : ℕ} {g : List ℕ} {v c : ℕ} → HalfRead at g v → c ≡ getD g (at + 2) 0 → c < 256 → OneRead at g (v + c * 65536)
 unfolding elementIn elementFrom
-one-read {at} {g} {a} {b} {c} x y z l m n =
+one-read {at} {g} {v} {c} h z n =
     record {
       element = λ e is.
-          let f : getD g (3 * e) 0 ≡ (a + b * 256 + c * 65536) % 256 = ap (λ (k : ℕ). getD g k 0) (sym is) ∙ sym x ∙ (omega arith) in
-          let i : getD g (3 * e + 1) 0 ≡ (a + b * 256 + c * 65536) / 256 % 256 = ap (λ (k : ℕ). getD g (k + 1) 0) (sym is) ∙ sym y ∙ (omega arith) in
-          let j : getD g (3 * e + 2) 0 ≡ (a + b * 256 + c * 65536) / 65536 % 256 = ap (λ (k : ℕ). getD g (k + 2) 0) (sym is) ∙ sym z ∙ (omega arith) in
+          let f : getD g (3 * e) 0 ≡ (v + c * 65536) % 256 = ap (λ (k : ℕ). getD g k 0) (sym is) ∙ (omega arith) in
+          let i : getD g (3 * e + 1) 0 ≡ (v + c * 65536) / 256 % 256 = ap (λ (k : ℕ). getD g (k + 1) 0) (sym is) ∙ (omega arith) in
+          let j : getD g (3 * e + 2) 0 ≡ (v + c * 65536) / 65536 % 256 = ap (λ (k : ℕ). getD g (k + 2) 0) (sym is) ∙ (omega arith) in
           rw (f, i, j) refl;
       few = omega arith;
     }
@@ -204,6 +202,22 @@ two-read {gap} {at} {g} {a} {b} p q =
   where
     low : elementFrom a ≡ elementFrom (a + b * 16777216)
     low = (let z : a ≡ (a + b * 16777216) % 16777216 = omega (arith, p .few) in ap elementFrom z) ∙ cut (a + b * 16777216)
+
+-- side by side, by their six bytes in twos
+pub six-read :
+    {at : ℕ} {g : List ℕ} {a b c : ℕ} → HalfRead at g a → HalfRead (at + 2) g b → HalfRead (at + 4) g c
+    → TwoRead 1 at g (a + b * 65536 + c * 4294967296)
+six-read {at} {g} {a} {b} {c} p q r =
+    let third = byte (at + 2 + 1) (at + 3) (omega arith) in
+    let fourth = byte (at + 3 + 1) (at + 4) (omega arith) in
+    let fifth = byte (at + 4 + 1) (at + 3 + 2) (omega arith) in
+    let middle : HalfRead (at + 3) g (getD g (at + 3) 0 + getD g (at + 3 + 1) 0 * 256) = record { low = omega (arith, q .high); high = omega (arith, r .low); is = refl } in
+    let e : a + getD g (at + 2) 0 * 65536 + (getD g (at + 3) 0 + getD g (at + 3 + 1) 0 * 256 + getD g (at + 3 + 2) 0 * 65536) * 16777216
+    ≡ a + b * 65536 + c * 4294967296 = omega (arith, q .is, r .is) in
+    subst (TwoRead 1 at g) e (two-read {gap = 1} (one-read p refl (q .low)) (one-read middle refl (omega (arith, r .high))))
+  where
+    byte : (x y : ℕ) → x ≡ y → getD g x 0 ≡ getD g y 0
+    byte x y e = ap (λ (k : ℕ). getD g k 0) e
 
 -- ---- numbers with the same elements are the same
 low-three : (v : ℕ) → v % 16777216 ≡ (v / 65536 % 256 * 256 + v / 256 % 256) * 256 + v % 256
@@ -237,6 +251,14 @@ none-or a b x y = ap₂ (λ (c d : ℕ). bitOr c d) x y ∙ or-zero-l 0
 
 xor-none : (a b : ℕ) → bitXor a b ≡ 0 → a ≡ b
 xor-none a b e = let h = xor-add-and a b in let l = and-le-l a b in let r = and-le-r a b in omega (arith, h, l, r, e)
+
+-- one element beside a number
+module _ (e v : ℕ) {x : ℕ} {g : List ℕ} (p : OneRead (3 * e) g x) where
+  pub none-same : bitXor x v ≡ 0 → elementIn g e ≡ elementFrom v
+  none-same z = p .element e refl ∙ ap elementFrom (xor-none x v z)
+
+  pub same-none : v < 16777216 → elementIn g e ≡ elementFrom v → bitXor x v ≡ 0
+  same-none l q = ap (λ (k : ℕ). bitXor k v) (same-one (p .few) l (sym (p .element e refl) ∙ q)) ∙ xor-self v
 
 pub pair-compared :
     {gap at across v w x y : ℕ} {g : List ℕ} → TwoRead gap at g x → TwoRead gap (at + across) g y

@@ -37,6 +37,12 @@ pub record TwoPut (gap at v : ℕ) (before after : List ℕ) : Type 0 where
       (e : ℕ) → at ≡ 3 * e
       → Written (λ (x : ℕ). eqb e x || eqb (e + gap) x) (λ (x : ℕ). cond (eqb e x) (elementFrom v) (elementFrom (upper v))) before after
 
+-- a number of two bytes that is read
+pub record HalfRead (at : ℕ) (g : List ℕ) (v : ℕ) : Type 0 where
+  pub low : getD g at 0 < 256
+  pub high : getD g (at + 1) 0 < 256
+  pub is : v ≡ getD g at 0 + getD g (at + 1) 0 * 256
+
 -- a number that is read: its element is the grid's, and it has no other bits
 pub record OneRead (at : ℕ) (g : List ℕ) (v : ℕ) : Type 0 where
   pub element : (e : ℕ) → at ≡ 3 * e → elementIn g e ≡ elementFrom v

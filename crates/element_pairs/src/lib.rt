@@ -3,7 +3,7 @@
 ghost use mathlib.Core.Path.{_≡_};
 ghost use Prim.Native.Nat.{_+_, _<_};
 ghost use lib.ListN.{length};
-ghost use Rattle.element_pairs.specs.Numbers.{Put, OnePut, TwoPut, PairPut, OneRead, TwoRead, PairCompared};
+ghost use Rattle.element_pairs.specs.Numbers.{Put, OnePut, TwoPut, PairPut, HalfRead, OneRead, TwoRead, PairCompared};
 
 fn put_two(grid: &mut [u8], at: usize, v: u32)
     requires { ⌜ at + 1 < length (now grid) ⌝ }
@@ -78,24 +78,31 @@ fn byte(x: u8) -> u64
     x as u64
 }
 
+fn two_at(grid: &[u8], at: usize) -> u64
+    requires { ⌜ at + 1 < length (now grid) ⌝ }
+    ensures { λ r. ⌜ HalfRead at (now (grid .entry)) r ⌝ }
+{
+    let a = byte(grid[at]);
+    a + byte(grid[at + 1]) * 256
+}
+
 // One element as a number.
 pub fn three_at(grid: &[u8], at: usize) -> u64
     requires { ⌜ at + 2 < length (now grid) ⌝ }
     ensures { λ r. ⌜ OneRead at (now (grid .entry)) r ⌝ }
 {
-    let a = byte(grid[at]);
-    let b = byte(grid[at + 1]);
-    let c = byte(grid[at + 2]);
-    a + b * 256 + c * 65536
+    let a = two_at(grid, at);
+    a + byte(grid[at + 2]) * 65536
 }
 
-// Two elements side by side.
+// Two elements side by side, as the compiler loads them: four bytes and two.
 pub fn six_at(grid: &[u8], at: usize) -> u64
     requires { ⌜ at + 5 < length (now grid) ⌝ }
     ensures { λ r. ⌜ TwoRead 1 at (now (grid .entry)) r ⌝ }
 {
-    let a = three_at(grid, at);
-    a + three_at(grid, at + 3) * 16777216
+    let a = two_at(grid, at);
+    let b = two_at(grid, at + 2);
+    a + b * 65536 + two_at(grid, at + 4) * 4294967296
 }
 
 // Two elements with one between.

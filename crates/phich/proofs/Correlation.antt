@@ -6,6 +6,7 @@ use lib.IntN.{ℤ, pos, _+ℤ_}
 use Rattle.base.specs.declared.Pair.{Pair}
 use Rattle.base.specs.Signs.{turn, by}
 use Rattle.base.specs.Pairs.{nil, plus, turned}
+use Rattle.base.proofs.Pairs.{turned-back}
 use Rattle.base.proofs.Signs.{by-add, by-zero, by-turn, by-turned, turn-add, turn-zero, four}
 use Rattle.phich.specs.Recovery.{dot, total}
 
@@ -26,6 +27,10 @@ dot-turn b s p =
 -- both turned
 pub dot-turned : (b : ℕ) (s p : Pair) → dot (turned b s) (turned b p) ≡ dot s p
 dot-turned b s p = ap₂ (λ (x y : ℤ). x +ℤ y) (by-turned b (s .re) (p .re)) (by-turned b (s .im) (p .im))
+
+-- the first one turned
+pub turned-dot : (b : ℕ) (s p : Pair) → dot (turned b s) p ≡ turn b (dot s p)
+turned-dot b s p = ap (dot (turned b s)) (sym (turned-back b p)) ∙ dot-turned b s (turned b p) ∙ dot-turn b s p
 
 -- ---- totals
 pub total-same : (n : ℕ) (f g : ℕ → ℤ) → ((i : ℕ) → i < n → f i ≡ g i) → total n f ≡ total n g

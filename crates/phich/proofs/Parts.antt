@@ -1,10 +1,10 @@
 -- One HI's part at a place: by its group's places, as a turned wave, and that it is at most 1 either way. Assumes nothing.
-use Prim.Native.Nat.{ℕ, _+_, _-_, _*_, _/_, _%_, _≤_, _<_}
+use Prim.Native.Nat.{ℕ, zero, suc, _+_, _-_, _*_, _/_, _%_, _≤_, _<_}
 use mathlib.Core.Path.{_≡_, refl, sym, ap, ap₂, _∙_, subst}
 use mathlib.Core.Bool.{Bool, true, false, cond, _&&_}
-use mathlib.Core.List.{[]}
+use mathlib.Core.List.{List, [], _∷_}
 use native.Mathlib.Omega.{arith}
-use borrow.Author.Tests.{lt-leb, le-leb, le-ltb, lt-ltb}
+use borrow.Author.Tests.{eq-eqb, ne-eqb, lt-leb, le-leb, le-ltb, lt-ltb}
 use lib.ListN.{getD}
 use lib.Dec.{T, eqb, leb, ltb, leb→le, ltb→lt}
 use lib.Ieee.Fits.{and-l, and-r}
@@ -17,6 +17,7 @@ use Rattle.base.proofs.Pairs.{turned-nil, turned-small}
 use Rattle.phich.specs.declared.SignPair.{SignPair}
 use Rattle.plan.specs.declared.Hi.{Hi}
 use Rattle.phich.specs.Spreading.{Length, «±0», normal, extended, sequences, signAt, plainChip, chipAt}
+use Rattle.phich.specs.Loops.{Sequence}
 use Rattle.phich.specs.Units.{firstPlace, has, chipNumber, partAt}
 use Rattle.phich.proofs.Lengths.{chip-mod, place-mod}
 
@@ -84,8 +85,29 @@ unfolding signAt
 entry l q t =
     leb→le _ 1 (every-at unit «±0» tt (getD (sequences l) q []) (every-at (every unit) [] tt (sequences l) (rows l) q) t)
 
-pub entry-of : (l q t : ℕ) {w : SignPair} → w ≡ signAt l q t → natAbs (w .re) + natAbs (w .im) ≤ 1
-entry-of l q t e = rw e (entry l q t)
+-- ---- the entries of a sequence as the code takes them
+pub normal-row : (l q : ℕ) → l ≡ 4 → Sequence l q (getD normal q [])
+unfolding signAt sequences
+normal-row l q e = record { entries = λ t k. rw (eq-eqb l 4 e) refl }
+
+abbrev twice : List SignPair → List SignPair
+twice row = getD row 0 «±0» ∷ getD row 1 «±0» ∷ getD row 0 «±0» ∷ getD row 1 «±0» ∷ []
+
+pub extended-row : (l q : ℕ) → Length l → (l ≡ 4 → ⊥) → Sequence l q (twice (getD extended q []))
+unfolding signAt sequences
+extended-row l q ok n = record { entries = at }
+  where
+    at : (t : ℕ) → t < l → getD (twice (getD extended q [])) t «±0» ≡ signAt l q t
+    at zero k = rw (ne-eqb l 4 n) refl
+    at (suc zero) k = rw (ne-eqb l 4 n) refl
+    at (suc (suc t)) k = absurd (omega (arith, n))
+
+module _ {l q n : ℕ} {row : List SignPair} (s : Sequence l q row) (k : n < l) where
+  pub row-entry : natAbs (getD row n «±0» .re) + natAbs (getD row n «±0» .im) ≤ 1
+  row-entry = rw (s .entries n k) (entry l q n)
+
+  pub row-chip : {p : Pair} → p ≡ plainChip (getD row n «±0») → p ≡ plainChip (signAt l q n)
+  row-chip e = e ∙ ap plainChip (s .entries n k)
 
 pub chip-small : (l q t : ℕ) → Small 1 (plainChip (signAt l q t))
 chip-small l q t =

@@ -14,7 +14,7 @@ use mir.Syntax.{w16}
 use mir.Val.{SFits, toZ, ofZ}
 use mir.Facts.{toZ-ofZ}
 use Rattle.base.specs.declared.Pair.{Pair}
-use Rattle.base.specs.Signs.{below}
+use Rattle.base.specs.Signs.{turn, below}
 use Rattle.base.specs.Pairs.{nil, turned}
 use Rattle.base.proofs.Fits.{abs-add, fits-abs, below-yes, below-not}
 use Rattle.base.proofs.Tables.{table-at}
@@ -24,7 +24,7 @@ use Rattle.phich.specs.Units.{mappingUnit, firstPlace, partAt}
 use Rattle.phich.specs.Recovery.{dot, total, along, bitIn}
 use Rattle.phich.specs.Loops.{levelsAt, quadOf}
 use Rattle.phich.proofs.Lengths.{by-length}
-use Rattle.phich.proofs.Correlation.{total-same}
+use Rattle.phich.proofs.Correlation.{turned-dot, total-same}
 use Rattle.phich.proofs.Parts.{part-below, part-above, part-in}
 use Rattle.phich.proofs.Along.{along-same}
 use Rattle.phich.proofs.Own.{group-fits}
@@ -108,15 +108,15 @@ module _ {l : ℕ} {c : ℕ → ℕ} {h : Hi} {s : List ℕ} where
     next-is = simp (toZ-ofZ (fits-abs w16 d (omega arith)), toZ-ofZ (fits-abs w16 (x +ℤ d) (omega (arith, abs-add x d, t .small))))
 
     pub next :
-        {q g b : ℕ} {chip z p : Pair} → q ≡ h .sequence → chip ≡ plainChip (signAt l q n) → b ≡ c n → z ≡ turned b chip → g ≡ h .group → p ≡ levelsAt s (g * l + n) → d ≡ dot z p
-        → Totalled l c h s (toZ w16 (ofZ w16 (x +ℤ toZ w16 (ofZ w16 d)))) (n + 1)
+        {q g b : ℕ} {chip p : Pair} {z : ℤ} → q ≡ h .sequence → chip ≡ plainChip (signAt l q n) → g ≡ h .group → p ≡ levelsAt s (g * l + n)
+        → z ≡ dot chip p → b ≡ c n → d ≡ turn b z → Totalled l c h s (toZ w16 (ofZ w16 (x +ℤ toZ w16 (ofZ w16 d)))) (n + 1)
     unfolding total
-    next eq ec eb ez eg ep ed =
-        let e = ez ∙ ap₂ turned eb (ec ∙ ap (λ (k : ℕ). plainChip (signAt l k n)) eq) in
-        let f = ep ∙ ap (λ (k : ℕ). levelsAt s (k * l + n)) eg in
+    next eq ec eg ep ez eb ed =
+        let e = ez ∙ ap₂ dot (ec ∙ ap (λ (k : ℕ). plainChip (signAt l k n)) eq) (ep ∙ ap (λ (k : ℕ). levelsAt s (k * l + n)) eg) in
+        let f = ed ∙ ap₂ turn eb e ∙ sym (turned-dot (c n) (plainChip (signAt l (h .sequence) n)) (levelsAt s (h .group * l + n))) in
         record {
           done = omega arith;
-          value = next-is ∙ ap₂ (λ (u v : ℤ). u +ℤ v) (t .value) (ed ∙ ap₂ dot e f) ∙ ap (λ (k : ℕ). total k (term l c h s)) (sym (add-one n));
+          value = next-is ∙ ap₂ (λ (u v : ℤ). u +ℤ v) (t .value) f ∙ ap (λ (k : ℕ). total k (term l c h s)) (sym (add-one n));
           small = rw next-is (omega (arith, abs-add x d, t .small));
         }
 

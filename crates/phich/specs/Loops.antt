@@ -13,7 +13,8 @@ use Rattle.base.specs.Tables.{table}
 use Rattle.plan.specs.declared.Hi.{Hi}
 use Rattle.plan.specs.Rows.{hisFrom}
 use Rattle.phich.specs.His.{hiNumber}
-use Rattle.phich.specs.Spreading.{Length}
+use Rattle.phich.specs.declared.SignPair.{SignPair}
+use Rattle.phich.specs.Spreading.{Length, «±0», signAt}
 use Rattle.phich.specs.Units.{mappingUnit, addedAt, sumAt}
 use Rattle.phich.specs.Recovery.{bitIn}
 
@@ -25,6 +26,10 @@ pub record HiIn (l : ℕ) (h : Hi) : Type 0 where
 
 pub record HisIn (l : ℕ) (plan : List ℕ) (at count : ℕ) : Type 0 where
   pub each : (n : ℕ) → n < count → HiIn l (hiNumber (hisFrom (drop at plan) count) n)
+
+-- the entries of the sequence q
+pub record Sequence (l q : ℕ) (row : List SignPair) : Type 0 where
+  pub entries : (t : ℕ) → t < l → getD row t «±0» ≡ signAt l q t
 
 -- the number of the chip at place i of a unit, whichever of its groups has the place
 abbrev pub chipOf : ℕ → ℕ → ℕ

@@ -10,15 +10,15 @@ ghost use mathlib.Core.Path.{_≡_};
 ghost use Prim.Native.Nat.{ℕ, _+_, _*_, _/_, _%_, _≤_, _<_};
 ghost use lib.ListN.{length, drop};
 ghost use lib.IntN.{natAbs};
-ghost use Rattle.base.specs.Signs.{by as bySign};
+ghost use Rattle.base.specs.Signs.{turn, by as bySign};
 ghost use Rattle.base.specs.Pairs.{Small};
 ghost use Rattle.base.specs.Bits.{bitAt};
 ghost use Rattle.base.specs.Tables.{table};
 ghost use Rattle.plan.specs.Rows.{hisFrom};
-ghost use Rattle.phich.specs.Spreading.{Length, signAt, plainChip, wordBit};
+ghost use Rattle.phich.specs.Spreading.{Length, plainChip, wordBit};
 ghost use Rattle.phich.specs.Units.{mappingUnit};
 ghost use Rattle.phich.specs.Recovery.{dot as dotOf, bitIn};
-ghost use Rattle.phich.specs.Loops.{HiIn, HisIn, chipOf, only, ownPart, levelsAt, quadOf, bitsFrom, Adds, QuadSums, Levels, scrambledSums};
+ghost use Rattle.phich.specs.Loops.{HiIn, HisIn, Sequence, chipOf, only, ownPart, levelsAt, quadOf, bitsFrom, Adds, QuadSums, Levels, scrambledSums};
 
 // An entry of a spreading sequence: re + j im, one of them 0 and the other 1 or -1.
 pub struct SignPair {
@@ -49,19 +49,26 @@ const NORMAL: [[SignPair; 4]; 8] = [
 
 const EXTENDED: [[SignPair; 2]; 4] = [[P, P], [P, M], [U, U], [U, D]];
 
-fn sign_at(l: usize, q: usize, t: usize) -> SignPair
-    requires { ⌜ Length l × (q < 2 * l) × (t < l) ⌝ }
-    ensures { λ r. ⌜ r ≡ signAt l q t ⌝ }
+// The sequence q of length l, and again where it has two entries: a row is taken once for all its chips, as a constant is stored
+// wherever it is named.
+fn sequence(l: usize, q: usize) -> [SignPair; 4]
+    requires { ⌜ Length l × (q < 2 * l) ⌝ }
+    ensures { λ r. ⌜ Sequence l q r ⌝ }
 {
-    if l == 4 { NORMAL[q][t] } else { EXTENDED[q][t] }
+    if l == 4 {
+        return NORMAL[q];
+    }
+    let row = EXTENDED[q];
+    let a = row[0];
+    let b = row[1];
+    [a, b, a, b]
 }
 
 // w (1 + j): the bit 0 by BPSK, spread.
-fn plain_chip(l: usize, q: usize, t: usize) -> Pair
-    requires { ⌜ Length l × (q < 2 * l) × (t < l) ⌝ }
-    ensures { λ r. ⌜ r ≡ plainChip (signAt l q t) ⌝ }
+fn plain_chip(w: SignPair) -> Pair
+    requires { ⌜ natAbs (w .re) + natAbs (w .im) ≤ 1 ⌝ }
+    ensures { λ r. ⌜ r ≡ plainChip w ⌝ }
 {
-    let w = sign_at(l, q, t);
     Pair {
         re: w.re - w.im,
         im: w.re + w.im,
@@ -115,9 +122,10 @@ fn add_hi(sums: &mut [u8; 200], l: usize, h: Hi, b: u8)
     requires { ⌜ (length (now sums) ≡ 200) × HiIn l h ⌝ }
     ensures { λ _. ⌜ Adds (ownPart l h b) (now (sums .entry)) (now (sums .exit)) ⌝ }
 {
+    let row = sequence(l, base::wide(h.sequence));
     let mut n: usize = 0;
     while n < l {
-        let chip = plain_chip(l, base::wide(h.sequence), n);
+        let chip = plain_chip(row[n]);
         add_at(sums, base::wide(h.group) * l + n, base::turned(b, chip));
         n += 1;
     }
@@ -174,19 +182,26 @@ fn dot(s: Pair, p: Pair) -> i16
     by(a, p.re) + by(b, p.im)
 }
 
-// The bit of the HI h from the first quads' sums: its own places along its own chips. The chips are scrambled and not the sums
-// unscrambled, as a level of -128 in a grid has no negative. Callers pass an HI of an accepted plan.
+// A product turned by its scrambling bit. It is of sixteen bits, as a level of -128 in a grid has no negative of eight.
+fn turned_by(b: u8, z: i16) -> i16
+    requires { ⌜ natAbs z ≤ 256 ⌝ }
+    ensures { λ r. ⌜ (r ≡ turn b z) × (natAbs r ≤ 256) ⌝ }
+{
+    if b == 0 { z } else { -z }
+}
+
+// The bit of the HI h from the first quads' sums: its own places along its own chips. Callers pass an HI of an accepted plan.
 pub fn bit_of(l: usize, w: u32, h: Hi, first: &[u8; 200]) -> u8
     requires { ⌜ HiIn l h ⌝ }
     ensures { λ r. ⌜ r ≡ bitIn l (wordBit w) h (quadOf (now (first .entry)) (mappingUnit l h)) ⌝ }
 {
+    let row = sequence(l, base::wide(h.sequence));
     let mut t: i16 = 0;
     let mut n: usize = 0;
     while n < l {
-        let chip = plain_chip(l, base::wide(h.sequence), n);
-        let s = base::turned(scrambling(w, n), chip);
+        let chip = plain_chip(row[n]);
         let p = levels_at(first, base::wide(h.group) * l + n);
-        let d = dot(s, p);
+        let d = turned_by(scrambling(w, n), dot(chip, p));
         t += d;
         n += 1;
     }

@@ -1,34 +1,41 @@
 -- The loops' invariants and their turns: the elements so far are compared with their values. An element, or a stretch of them, is
 -- apart from those before it, so that no byte is counted twice. Assumes nothing.
-use Prim.Native.Nat.{ℕ, _+_, _-_, _*_, _/_, _%_, _^_, _≤_, _<_}
+use Prim.Native.Nat.{ℕ, zero, suc, _+_, _-_, _*_, _/_, _%_, _^_, _≤_, _<_}
 use mathlib.Core.Path.{_≡_, refl, sym, ap, _∙_, subst}
 use mathlib.Core.Bool.{Bool, true, false, _||_}
 use mathlib.Core.List.{List}
 use native.Mathlib.Omega.{arith}
+use lib.Bits.{bitOr, bitXor}
 use lib.Dec.{eqb}
 use lib.IntN.{ℤ, pos}
 use lib.ListN.{length}
 use mir.Syntax.{w8}
 use mir.Val.{toZ, ofZ}
-use borrow.Author.Tests.{eqb-true}
-use Rattle.base.specs.declared.Pair.{Pair}
+use borrow.Author.Tests.{eqb-true, eq-eqb}
+use Rattle.base.proofs.Tests.{clash, or-left, or-right}
 use Rattle.base.specs.declared.Element.{Element}
+use Rattle.base.specs.Signs.{turn}
 use Rattle.base.specs.Bytes.{elementOf}
 use Rattle.gold.specs.declared.Registers.{Registers}
 use Rattle.gold.specs.Steps.{after, wordOf}
 use Rattle.gold.proofs.Laws.{after-none}
+use Rattle.codeword.specs.Streams.{outputs}
 use Rattle.crs.specs.Crs.{wordValue}
 use Rattle.sync.specs.declared.Sss.{Sss}
 use Rattle.sync.specs.Pss.{pssPhase}
 use Rattle.sync.specs.Inner.{levelIn}
 use Rattle.grid.specs.Elements.{elementIn}
 use Rattle.compare.specs.declared.Seen.{Seen}
-use Rattle.compare.specs.declared.Seen.the-variants.{Weight}
-use Rattle.compare.specs.Comparing.{Compared, seenOf, bothOf, Few}
-use Rattle.compare.proofs.Comparing.{none, same, over, few-length, look-compared}
+use Rattle.compare.specs.declared.Seen.the-variants.{Weight, Differs}
+use Rattle.compare.specs.Comparing.{nonzero, weightOf, weightIn, Compared, seenOf, bothOf, Few}
+use Rattle.compare.proofs.Comparing.{weight-same, weight-or, weight-none, weight-one, none, holds-of, differs, holds-both, holds-old, holds-new, same, over, few-length, look-compared}
+use Rattle.element_pairs.specs.Numbers.{elementFrom, OneRead}
+use Rattle.element_pairs.proofs.Puts.{or-none, none-or, none-same, same-none}
+use Rattle.signals.specs.Signals.{crsFrom}
 use Rattle.signals.specs.Rows.{everySixth, wordSent, pairSent, inRow, phaseSent, levelSent}
 use Rattle.signals.proofs.Stretches.{sixth-of, sixth-none, sixth-more, sixth-one, row-of, row-none, row-one}
 use Rattle.signals.proofs.Values.{word-value, pair-value, pair-next, phase-value, level-value}
+use Rattle.signals_compare.specs.Differing.{Differing}
 
 -- ---- comparisons as the code comes to them
 -- nothing is compared
@@ -46,70 +53,124 @@ module _ {D₁ D₂ D : ℕ → Bool} {W W₂ : ℕ → Element} {g : List ℕ} 
   both a c k v d q = subst (λ (s : Seen). Compared D W g s) (sym q) (over a c k v d)
 
 -- their numbers of bytes are small
-pub few-both : {D₁ D₂ : ℕ → Bool} {W₁ W₂ : ℕ → Element} {g : List ℕ} {seen more : Seen} → length g ≤ 201600 → Compared D₁ W₁ g seen → Compared D₂ W₂ g more → Few seen × Few more
-few-both l c k = (few-length l c, few-length l k)
-
 pub few-looked :
     {D : ℕ → Bool} {W : ℕ → Element} (g : List ℕ) (e : ℕ) (el : Element) {seen one : Seen} → length g ≤ 201600 → Compared D W g seen
     → 3 * e + 2 < length g → one ≡ seenOf (elementIn g e) el → Few seen × Few one
-few-looked g e el l c i q = few-both l c (looked g e el i q)
+few-looked g e el l c i q = (few-length l c, few-length l (looked g e el i q))
+
+-- ---- bits that differ
+nothing : {D : ℕ → Bool} (W : ℕ → Element) (g : List ℕ) → ((e : ℕ) → D e ≡ false) → Differing D W g 0
+nothing W g h = record { none = λ z. record { elements = λ e t. clash t (h e) }; same = λ t. refl }
+
+numbered : {g : List ℕ} (e : ℕ) {x v : ℕ} → OneRead (3 * e) g x → v < 16777216 → Differing (eqb e) (λ (k : ℕ). elementFrom v) g (bitXor x v)
+numbered {g} e {v = v} p l =
+    record {
+      none = λ z. record { elements = λ k t. ap (elementIn g) (sym (eqb-true e k t)) ∙ none-same e v p z };
+      same = λ h. same-none e v p l (h .elements e (eq-eqb e e refl));
+    }
+
+more :
+    {D₁ D₂ D : ℕ → Bool} {W W₂ : ℕ → Element} {g : List ℕ} {a b : ℕ} → Differing D₁ W g a → Differing D₂ W₂ g b → ((e : ℕ) → D₂ e ≡ true → W₂ e ≡ W e)
+    → ((e : ℕ) → D e ≡ D₂ e || D₁ e) → Differing D W g (bitOr a b)
+more {D₁ = D₁} {D₂} {a = a} {b} p q v d =
+    record {
+      none = λ z. let n = or-none a b z in holds-both D₁ D₂ v d (p .none (n .0)) (q .none (n .1));
+      same = λ h. none-or a b (p .same (holds-old D₁ D₂ v d h)) (q .same (holds-new D₁ D₂ v d h));
+    }
 
 -- ---- the values of one word
-pub record WordSeen (word n first : ℕ) (g : List ℕ) (i : ℕ) (seen : Seen) : Type 0 where
-  pub few : i ≤ n
-  pub found : Compared (everySixth first i) (wordSent word n first) g seen
-
-pub word-first : (word n first : ℕ) (g : List ℕ) → WordSeen word n first g 0 (Weight 0)
-word-first word n first g = record { few = omega arith; found = empty (wordSent word n first) g (sixth-none first) }
-
-pub word-turn :
-    (word n first : ℕ) (g : List ℕ) (i : ℕ) {d : Pair} {el : Element} {seen one next : Seen} → i < n → 3 * (first + 6 * i) + 2 < length g
-    → WordSeen word n first g i seen → d ≡ wordValue (word / 2 ^ (2 * (n - 1 - i)) % 4) → el ≡ elementOf 2 d
-    → one ≡ seenOf (elementIn g (first + 6 * i)) el → next ≡ bothOf seen one → WordSeen word n first g (i + 1) next
-word-turn word n first g i {el = el} l inside h ed ee eo en =
-    record {
-      few = omega arith;
-      found = both apart (h .found) (looked g (first + 6 * i) el inside eo) (word-value word n first i ed ee) (sixth-one first i) en;
-    }
+pub number-is : (two : ℕ) → elementFrom (65794 + two / 2 % 2 * 65024 + two % 2 * 16646144) ≡ elementOf 2 (wordValue (two % 4))
+unfolding wordValue elementFrom elementOf
+number-is two =
+    let a : two % 4 / 2 ≡ two / 2 % 2 = omega arith in
+    let b : two % 4 % 2 ≡ two % 2 = omega arith in
+    rw (a, b) (bits (two / 2 % 2) (two % 2) (omega arith) (omega arith))
   where
-    apart : (e : ℕ) → everySixth first i e ≡ true → eqb (first + 6 * i) e ≡ true → ⊥
-    apart e a b = let d = sixth-of first i e a in let t = eqb-true (first + 6 * i) e b in omega arith
+    bits : (a b : ℕ) → a < 2 → b < 2 → elementFrom (65794 + a * 65024 + b * 16646144) ≡ elementOf 2 (record { re = turn a (pos 1); im = turn b (pos 1) })
+    bits zero zero l k = refl
+    bits zero (suc zero) l k = refl
+    bits (suc zero) zero l k = refl
+    bits (suc zero) (suc zero) l k = refl
+    bits zero (suc (suc b)) l k = absurd (omega arith)
+    bits (suc zero) (suc (suc b)) l k = absurd (omega arith)
+    bits (suc (suc a)) b l k = absurd (omega arith)
 
-pub word-last : (word n first : ℕ) {g : List ℕ} (i : ℕ) {seen : Seen} → WordSeen word n first g i seen → n ≤ i → Compared (everySixth first n) (wordSent word n first) g seen
-word-last word n first i h l =
-    let j : i ≡ n = omega (arith, h .few) in
-    same (λ e. ap (λ (m : ℕ). everySixth first m e) j) (λ e t. refl) (h .found)
+pub record WordSeen (word n first : ℕ) (g : List ℕ) (i bits : ℕ) : Type 0 where
+  pub few : i ≤ n
+  pub found : Differing (everySixth first i) (wordSent word n first) g bits
+
+pub word-first : (word n first : ℕ) (g : List ℕ) → WordSeen word n first g 0 0
+word-first word n first g = record { few = omega arith; found = nothing (wordSent word n first) g (sixth-none first) }
+
+module _ {word n first : ℕ} {g : List ℕ} {i bits : ℕ} (h : WordSeen word n first g i bits) where
+  pub word-turn :
+      {x v : ℕ} → i < n → OneRead (3 * (first + 6 * i)) g x
+      → (elementFrom v ≡ elementOf 2 (wordValue (word / 2 ^ (2 * (n - 1 - i)) % 4))) × (v < 16777216) → WordSeen word n first g (i + 1) (bitOr bits (bitXor x v))
+  word-turn l p k =
+      record {
+        few = omega arith;
+        found = more (h .found) (numbered (first + 6 * i) p (k .1)) (word-value word n first i refl (k .0)) (sixth-one first i);
+      }
+
+  pub word-last : n ≤ i → Differing (everySixth first n) (wordSent word n first) g bits
+  word-last l = let j : i ≡ n = omega (arith, h .few) in subst (λ (m : ℕ). Differing (everySixth first m) (wordSent word n first) g bits) j (h .found)
 
 -- ---- the values that the pair gives, a word at a time
-pub record ValuesSeen (r : Registers) (n first : ℕ) (g : List ℕ) (pair : Registers) (m : ℕ) (seen : Seen) : Type 0 where
+pub record ValuesSeen (r : Registers) (n first : ℕ) (g : List ℕ) (pair : Registers) (m bits : ℕ) : Type 0 where
   pub few : m ≤ n
   pub stands : pair ≡ after r (2 * m)
-  pub found : Compared (everySixth first m) (pairSent r first) g seen
+  pub found : Differing (everySixth first m) (pairSent r first) g bits
 
-pub values-first : (r : Registers) (n first : ℕ) (g : List ℕ) → ValuesSeen r n first g r 0 (Weight 0)
-values-first r n first g = record { few = omega arith; stands = sym (after-none r); found = empty (pairSent r first) g (sixth-none first) }
+pub values-first : (r : Registers) (n first : ℕ) (g : List ℕ) → ValuesSeen r n first g r 0 0
+values-first r n first g = record { few = omega arith; stands = sym (after-none r); found = nothing (pairSent r first) g (sixth-none first) }
 
-pub values-turn :
-    (r : Registers) (n first : ℕ) {g : List ℕ} {pair after-pair : Registers} (m count word : ℕ) {seen more next : Seen} → m + count ≤ n
-    → ValuesSeen r n first g pair m seen → word ≡ wordOf pair (2 * count)
-    → Compared (everySixth (first + 6 * m) count) (wordSent word count (first + 6 * m)) g more → next ≡ bothOf seen more
-    → after-pair ≡ after pair (2 * count) → ValuesSeen r n first g after-pair (m + count) next
-values-turn r n first m count word l h ew k en ea =
-    record {
-      few = l;
-      stands = pair-next r m count (h .stands) ea;
-      found = both apart (h .found) k (pair-value r first m count word (h .stands) ew) (sixth-more first m count) en;
-    }
-  where
-    apart : (e : ℕ) → everySixth first m e ≡ true → everySixth (first + 6 * m) count e ≡ true → ⊥
-    apart e a b = let d = sixth-of first m e a in let t = sixth-of (first + 6 * m) count e b in omega arith
+-- every value has three bytes that are not 0
+value-weight : (a b : ℕ) → weightOf (elementOf 2 (record { re = turn a (pos 1); im = turn b (pos 1) })) ≡ 3
+unfolding weightOf elementOf nonzero
+value-weight zero zero = refl
+value-weight zero (suc b) = refl
+value-weight (suc a) zero = refl
+value-weight (suc a) (suc b) = refl
 
-pub values-last :
-    (r : Registers) (n first : ℕ) {g : List ℕ} {pair : Registers} (m : ℕ) {seen : Seen} → ValuesSeen r n first g pair m seen → n ≤ m
-    → Compared (everySixth first n) (pairSent r first) g seen
-values-last r n first m h l =
-    let j : m ≡ n = omega (arith, h .few) in
-    same (λ e. ap (λ (k : ℕ). everySixth first k e) j) (λ e t. refl) (h .found)
+sixth-weight :
+    (g : List ℕ) (first n : ℕ) → 3 * (first + 6 * n) + 2 < length g + 18 → ((e : ℕ) → everySixth first n e ≡ true → weightOf (elementIn g e) ≡ 3)
+    → weightIn (everySixth first n) g (length g / 3) ≡ 3 * n
+sixth-weight g first zero l w = weight-none g (everySixth first 0) (length g / 3) (λ e k t. clash t (sixth-none first e))
+sixth-weight g first (suc n) l w =
+    let N = length g / 3 in
+    let new = first + 6 * n in
+    let s : suc n ≡ n + 1 = omega arith in
+    let d : (e : ℕ) → everySixth first (suc n) e ≡ eqb new e || everySixth first n e = λ e. rw s (sixth-one first n e) in
+    let sum = weight-same g (everySixth first (suc n)) (λ (e : ℕ). eqb new e || everySixth first n e) N (λ e k. d e)
+    ∙ weight-or g (everySixth first n) (eqb new) N (λ e k a b. let t = sixth-of first n e a in let q = eqb-true new e b in omega arith) in
+    let old = sixth-weight g first n (omega arith) (λ e t. w e (d e ∙ or-right (eqb new e) (everySixth first n e) t)) in
+    let one = weight-one g new N (omega arith) ∙ w new (d new ∙ or-left (eqb new new) (everySixth first n new) (eq-eqb new new refl)) in
+    omega (arith, sum, old, one)
+
+module _ {r : Registers} {n first : ℕ} {g : List ℕ} {pair : Registers} {m bits : ℕ} (h : ValuesSeen r n first g pair m bits) where
+  pub values-turn :
+      {next : Registers} (count word : ℕ) {b : ℕ} → m + count ≤ n → word ≡ wordOf pair (2 * count)
+      → Differing (everySixth (first + 6 * m) count) (wordSent word count (first + 6 * m)) g b → next ≡ after pair (2 * count)
+      → ValuesSeen r n first g next (m + count) (bitOr bits b)
+  values-turn count word l ew k en =
+      record {
+        few = l;
+        stands = pair-next r m count (h .stands) en;
+        found = more (h .found) k (pair-value r first m count word (h .stands) ew) (sixth-more first m count);
+      }
+
+  all : n ≤ m → Differing (everySixth first n) (pairSent r first) g bits
+  all l = let j : m ≡ n = omega (arith, h .few) in subst (λ (k : ℕ). Differing (everySixth first k) (pairSent r first) g bits) j (h .found)
+
+  pub values-same : n ≤ m → 3 * (first + 6 * n) + 2 < length g + 18 → bits ≡ 0 → Compared (everySixth first n) (pairSent r first) g (Weight (3 * n))
+  unfolding pairSent crsFrom
+  values-same l inside z =
+      let k = all l .none z in
+      let i : ℕ → ℕ = λ e. 2 * ((e - first) / 6) in
+      holds-of k (sym (sixth-weight g first n inside (λ e t. ap weightOf (k .elements e t) ∙ value-weight (outputs r (i e)) (outputs r (i e + 1)))))
+
+  pub values-differ : n ≤ m → (bits ≡ 0 → ⊥) → Compared (everySixth first n) (pairSent r first) g Differs
+  values-differ l z = differs (λ k. z (all l .same k))
 
 -- ---- a row of 62 elements with values W
 pub record RowSeen (W : ℕ → Element) (first : ℕ) (g : List ℕ) (i : ℕ) (seen : Seen) : Type 0 where

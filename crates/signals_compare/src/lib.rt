@@ -6,49 +6,61 @@ use gold::Registers;
 use plan::Cell;
 use plan::Frame;
 use sync::Sss;
-ghost use Prim.Native.Nat.{_+_, _*_, _≤_, _<_};
+ghost use mathlib.Core.Path.{_≡_};
+ghost use Prim.Native.Nat.{_+_, _*_, _%_, _≤_, _<_};
 ghost use lib.ListN.{length};
+ghost use Rattle.base.specs.Bytes.{elementOf};
+ghost use Rattle.crs.specs.Crs.{wordValue};
+ghost use Rattle.element_pairs.specs.Numbers.{elementFrom};
 ghost use Rattle.compare.specs.Comparing.{Compared};
 ghost use Rattle.signals.specs.Signals.{crsSends, crsSent, markSends, pssSent, sssSent};
 ghost use Rattle.signals.specs.Rows.{MarkIn, SignalIn, everySixth, wordSent, pairSent, inRow, phaseSent, levelSent};
+ghost use Rattle.signals_compare.specs.Differing.{Differing};
 
-// The n values of a word of 2n bits, at every sixth element. The last element lies in the grid, which has no more bytes than the
-// widest one.
-fn compare_word(word: u32, n: usize, first: usize, grid: &[u8]) -> Seen
-    requires { ⌜ (n ≤ 14) × (3 * (first + 6 * n) + 2 < length (now grid) + 18) × (length (now grid) ≤ 201600) ⌝ }
-    ensures { λ r. ⌜ Compared (everySixth first n) (wordSent word n first) (now (grid .entry)) r ⌝ }
+// The element of two bits of the sequence as a number: unit 2, and levels 1 or, 254 more, minus 1.
+fn number_of(two: u32) -> u64
+    ensures { λ r. ⌜ (elementFrom r ≡ elementOf 2 (wordValue (two % 4))) × (r < 16777216) ⌝ }
 {
-    let mut seen = Seen::Weight(0);
+    (65794 + two / 2 % 2 * 65024 + two % 2 * 16646144) as u64
+}
+
+// The bits in which every sixth element differs from the n values of a word of 2n bits. The last element lies in the grid.
+fn compare_word(word: u32, n: usize, first: usize, grid: &[u8]) -> u64
+    requires { ⌜ (n ≤ 14) × (3 * (first + 6 * n) + 2 < length (now grid) + 18) ⌝ }
+    ensures { λ r. ⌜ Differing (everySixth first n) (wordSent word n first) (now (grid .entry)) r ⌝ }
+{
+    let mut differ: u64 = 0;
     let mut i: usize = 0;
     while i < n {
         let low = 2 * (n - 1 - i);
-        let d = crs::value((word >> low) % 4);
-        seen = compare::both(
-            seen,
-            compare::look(grid, first + 6 * i, base::element_of(2, d)),
-        );
+        let x = element_pairs::three_at(grid, 3 * (first + 6 * i));
+        differ = differ | (x ^ number_of(word >> low));
         i += 1;
     }
-    seen
+    differ
 }
 
-// The first n values that the pair gives, at every sixth element. The last element lies in the grid.
+// The first n values that the pair gives, at every sixth element. The last element lies in the grid. None of their bytes is 0.
 fn compare_values(r: Registers, n: usize, first: usize, grid: &[u8]) -> Seen
-    requires { ⌜ (3 * (first + 6 * n) + 2 < length (now grid) + 18) × (length (now grid) ≤ 201600) ⌝ }
+    requires { ⌜ 3 * (first + 6 * n) + 2 < length (now grid) + 18 ⌝ }
     ensures { λ s. ⌜ Compared (everySixth first n) (pairSent r first) (now (grid .entry)) s ⌝ }
 {
-    let mut seen = Seen::Weight(0);
+    let mut differ: u64 = 0;
     let mut pair = r;
     let mut m: usize = 0;
     while m < n {
         let count = signals::at_once(n - m);
         let bits = (2 * count) as u32;
         let word = gold::word(pair, bits);
-        seen = compare::both(seen, compare_word(word, count, first + 6 * m, grid));
+        differ = differ | compare_word(word, count, first + 6 * m, grid);
         pair = gold::advance(pair, bits);
         m += count;
     }
-    seen
+    if differ == 0 {
+        let weight = 3 * n;
+        return Seen::Weight(weight);
+    }
+    Seen::Differs
 }
 
 // A port's reference signal in symbol s, from the pair that stands at the symbol's first value. Callers have the cell from an

@@ -22,10 +22,16 @@ add-t10 : tie.Need-add-t10
 add-t10 c = omega (arith, mark-few _ (c .before .before .nonzero-of .ensures), mark-few _ (c .before .nonzero-of2 .ensures), mark-few _ (c .nonzero-of3 .ensures))
 
 returns : tie.Need-returns
-returns c = all-same (c .before .before .before .before .before .before .before .before .before .before .before .before .args .a) (c .before .before .before .before .before .before .before .before .before .before .before .before .args .b) (c .before .before .before .before .before .before .before .before .before .if1 .taken) (eqb-true _ _ (c .before .before .before .before .before .before .if2 .taken)) (eqb-true _ _ (c .before .before .before .if3 .taken)) (c .before .before .nonzero-of .ensures) (c .before .nonzero-of2 .ensures) (c .nonzero-of3 .ensures)
+returns c =
+    let c2 = c .before .before in let c3 = c2 .before in let c6 = c3 .before .before .before in let c9 = c6 .before .before .before in let c12 = c9 .before .before .before in
+    all-same (c12 .args .a) (c12 .args .b) (c9 .if1 .taken) (eqb-true _ _ (c6 .if2 .taken)) (eqb-true _ _ (c3 .if3 .taken)) (c2 .nonzero-of .ensures) (c .before .nonzero-of2 .ensures)
+    (c .nonzero-of3 .ensures)
 
 returns-2 : tie.Need-returns-2
-returns-2 c = ⊎-elim (λ x. other-j (c .before .before .before .args .a) (c .before .before .before .args .b) (x .0 .taken) (eqb-true _ _ (x .3 .taken)) (eqb-false _ _ (x .6 .left))) (⊎-elim (λ x. other-i (c .before .before .before .args .a) (c .before .before .before .args .b) (x .0 .taken) (eqb-false _ _ (x .3 .left))) (λ x. other-unit (c .before .before .before .args .a) (c .before .before .before .args .b) (x .left))) (c .if1 .came)
+returns-2 c =
+    let c3 = c .before .before .before in
+    ⊎-elim (λ x. other-j (c3 .args .a) (c3 .args .b) (x .0 .taken) (eqb-true _ _ (x .3 .taken)) (eqb-false _ _ (x .6 .left)))
+    (⊎-elim (λ x. other-i (c3 .args .a) (c3 .args .b) (x .0 .taken) (eqb-false _ _ (x .3 .left))) (λ x. other-unit (c3 .args .a) (c3 .args .b) (x .left))) (c .if1 .came)
 
 pub beside-spec : {M : Type 1} → statement M
 beside-spec =

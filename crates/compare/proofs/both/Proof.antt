@@ -12,7 +12,9 @@ enum-known-b : tie.Need-enum-known-b
 enum-known-b c = search needs
 
 add-t7 : tie.Need-add-t7
-add-t7 c = omega (arith, both-few (c .before .before .before .before .a .given .1) (c .before .b .given .1) (c .before .before .before .before .before .before .pre .0) (c .before .before .before .before .before .before .pre .1))
+add-t7 c =
+    let c4 = c .before .before .before .before in let c6 = c4 .before .before in
+    omega (arith, both-few (c4 .a .given .1) (c .before .b .given .1) (c6 .pre .0) (c6 .pre .1))
 
 enum-told : tie.Need-enum-told
 enum-told c = search needs

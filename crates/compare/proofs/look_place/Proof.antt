@@ -17,19 +17,28 @@ wide-requires : tie.Need-wide-requires
 wide-requires c κs = tt
 
 mul-own : tie.Need-mul-own
-mul-own c = omega (arith, own-fits (c .before .before .before .before .pre .0) (c .before .before .before .before .args .turn) _ (c .before .before .before .before .args .t) (c .wide .ensures ∙ c .before .own-port .ensures) (c .before .before .before .before .pre .1) .0)
+mul-own c =
+    let c4 = c .before .before .before .before in
+    omega (arith, own-fits (c4 .pre .0) (c4 .args .turn) _ (c4 .args .t) (c .wide .ensures ∙ c .before .own-port .ensures) (c4 .pre .1) .0)
 
 add-own : tie.Need-add-own
-add-own c = omega (arith, own-fits (c .before .before .before .before .pre .0) (c .before .before .before .before .args .turn) _ (c .before .before .before .before .args .t) (c .wide .ensures ∙ c .before .own-port .ensures) (c .before .before .before .before .pre .1) .1)
+add-own c =
+    let c4 = c .before .before .before .before in
+    omega (arith, own-fits (c4 .pre .0) (c4 .args .turn) _ (c4 .args .t) (c .wide .ensures ∙ c .before .own-port .ensures) (c4 .pre .1) .1)
 
 element-of-requires : tie.Need-element-of-requires
 element-of-requires c κs = tt
 
 look-requires : tie.Need-look-requires
-look-requires c κs = own-fits (c .before .before .before .before .before .pre .0) (c .before .before .before .before .before .args .turn) _ (c .before .before .before .before .before .args .t) (c .before .wide .ensures ∙ c .before .before .own-port .ensures) (c .before .before .before .before .before .pre .1) .2
+look-requires c κs =
+    let c2 = c .before .before in let c5 = c2 .before .before .before in
+    own-fits (c5 .pre .0) (c5 .args .turn) _ (c5 .args .t) (c .before .wide .ensures ∙ c2 .own-port .ensures) (c5 .pre .1) .2
 
 returns : tie.Need-returns
-returns c = one-look (c .before .before .before .before .before .before .before .pre .0) (c .before .before .before .before .before .before .before .args .turn) (c .before .before .before .before .before .before .before .args .unit) (c .before .before .before .before .before .before .before .args .odd) (c .before .before .before .before .before .before .before .args .t) (c .before .before .before .before .before .before .before .args .d) (c .before .before .before .before .before .before .before .args .e) (c .before .before .before .before .before .before .before .pre .1) (c .before .before .before .before .before .unit-on .ensures) (c .if1 .taken) (c .before .before .element-of .ensures) (own-looked (c .before .before .before .before .before .before .before .pre .0) (c .before .before .before .before .before .before .before .args .turn) (c .before .before .before .before .before .before .before .args .t) (c .before .before .before .before .before .before .before .pre .1) (c .before .before .before .wide .ensures ∙ c .before .before .before .before .own-port .ensures) (c .before .look .ensures))
+returns c =
+    let c2 = c .before .before in let c3 = c2 .before in let c4 = c3 .before in let c5 = c4 .before in let c7 = c5 .before .before in
+    one-look (c7 .pre .0) (c7 .args .turn) (c7 .args .unit) (c7 .args .odd) (c7 .args .t) (c7 .args .d) (c7 .args .e) (c7 .pre .1) (c5 .unit-on .ensures) (c .if1 .taken)
+    (c2 .element-of .ensures) (own-looked (c7 .pre .0) (c7 .args .turn) (c7 .args .t) (c7 .pre .1) (c3 .wide .ensures ∙ c4 .own-port .ensures) (c .before .look .ensures))
 
 other-port-requires : tie.Need-other-port-requires
 other-port-requires c κs = tt
@@ -38,10 +47,14 @@ wide-requires-2 : tie.Need-wide-requires-2
 wide-requires-2 c κs = tt
 
 mul-other : tie.Need-mul-other
-mul-other c = omega (arith, other-fits (c .before .before .before .before .before .before .before .before .before .pre .0) (c .before .before .before .before .before .before .before .before .before .args .turn) _ (c .before .before .before .before .before .before .before .before .before .args .t) (c .wide2 .ensures ∙ c .before .other-port .ensures) (c .before .before .before .before .before .before .before .before .before .pre .1) .0)
+mul-other c =
+    let c9 = c .before .before .before .before .before .before .before .before .before in
+    omega (arith, other-fits (c9 .pre .0) (c9 .args .turn) _ (c9 .args .t) (c .wide2 .ensures ∙ c .before .other-port .ensures) (c9 .pre .1) .0)
 
 add-other : tie.Need-add-other
-add-other c = omega (arith, other-fits (c .before .before .before .before .before .before .before .before .before .pre .0) (c .before .before .before .before .before .before .before .before .before .args .turn) _ (c .before .before .before .before .before .before .before .before .before .args .t) (c .wide2 .ensures ∙ c .before .other-port .ensures) (c .before .before .before .before .before .before .before .before .before .pre .1) .1)
+add-other c =
+    let c9 = c .before .before .before .before .before .before .before .before .before in
+    omega (arith, other-fits (c9 .pre .0) (c9 .args .turn) _ (c9 .args .t) (c .wide2 .ensures ∙ c .before .other-port .ensures) (c9 .pre .1) .1)
 
 partner-requires : tie.Need-partner-requires
 partner-requires c κs = c .before .before .before .before .before .before .before .before .before .pre .2
@@ -50,13 +63,26 @@ element-of-requires-2 : tie.Need-element-of-requires-2
 element-of-requires-2 c κs = tt
 
 look-requires-2 : tie.Need-look-requires-2
-look-requires-2 c κs = other-fits (c .before .before .before .before .before .before .before .before .before .before .before .pre .0) (c .before .before .before .before .before .before .before .before .before .before .before .args .turn) _ (c .before .before .before .before .before .before .before .before .before .before .before .args .t) (c .before .before .wide2 .ensures ∙ c .before .before .before .other-port .ensures) (c .before .before .before .before .before .before .before .before .before .before .before .pre .1) .2
+look-requires-2 c κs =
+    let c2 = c .before .before in let c3 = c2 .before in let c11 = c3 .before .before .before .before .before .before .before .before in
+    other-fits (c11 .pre .0) (c11 .args .turn) _ (c11 .args .t) (c2 .wide2 .ensures ∙ c3 .other-port .ensures) (c11 .pre .1) .2
 
 both-requires : tie.Need-both-requires
-both-requires c κs = (few (c .before .before .before .before .before .before .before .before .before .before .before .before .pre .0) (own-looked (c .before .before .before .before .before .before .before .before .before .before .before .before .pre .0) (c .before .before .before .before .before .before .before .before .before .before .before .before .args .turn) (c .before .before .before .before .before .before .before .before .before .before .before .before .args .t) (c .before .before .before .before .before .before .before .before .before .before .before .before .pre .1) (c .before .before .before .before .before .before .before .before .wide .ensures ∙ c .before .before .before .before .before .before .before .before .before .own-port .ensures) (c .before .before .before .before .before .before .look .ensures)), few (c .before .before .before .before .before .before .before .before .before .before .before .before .pre .0) (other-looked (c .before .before .before .before .before .before .before .before .before .before .before .before .pre .0) (c .before .before .before .before .before .before .before .before .before .before .before .before .args .turn) (c .before .before .before .before .before .before .before .before .before .before .before .before .args .t) (c .before .before .before .before .before .before .before .before .before .before .before .before .pre .1) (c .before .before .before .wide2 .ensures ∙ c .before .before .before .before .other-port .ensures) (c .look2 .ensures)))
+both-requires c κs =
+    let c3 = c .before .before .before in let c4 = c3 .before in let c6 = c4 .before .before in let c8 = c6 .before .before in let c9 = c8 .before in
+    let c12 = c9 .before .before .before in (
+      few (c12 .pre .0) (own-looked (c12 .pre .0) (c12 .args .turn) (c12 .args .t) (c12 .pre .1) (c8 .wide .ensures ∙ c9 .own-port .ensures) (c6 .look .ensures)),
+      few (c12 .pre .0) (other-looked (c12 .pre .0) (c12 .args .turn) (c12 .args .t) (c12 .pre .1) (c3 .wide2 .ensures ∙ c4 .other-port .ensures) (c .look2 .ensures)),
+    )
 
 returns-2 : tie.Need-returns-2
-returns-2 c = two-looks (c .before .before .before .before .before .before .before .before .before .before .before .before .before .pre .0) (c .before .before .before .before .before .before .before .before .before .before .before .before .before .args .turn) (c .before .before .before .before .before .before .before .before .before .before .before .before .before .args .unit) (c .before .before .before .before .before .before .before .before .before .before .before .before .before .args .odd) (c .before .before .before .before .before .before .before .before .before .before .before .before .before .args .t) (c .before .before .before .before .before .before .before .before .before .before .before .before .before .args .d) (c .before .before .before .before .before .before .before .before .before .before .before .before .before .args .e) (c .before .before .before .before .before .before .before .before .before .before .before .before .before .pre .1) (c .before .before .before .before .before .before .before .before .before .before .before .unit-on .ensures) (c .before .before .before .before .before .before .if1 .left) (c .before .before .before .partner .ensures) (c .before .before .before .before .before .before .before .before .element-of .ensures) (c .before .before .element-of2 .ensures) (own-looked (c .before .before .before .before .before .before .before .before .before .before .before .before .before .pre .0) (c .before .before .before .before .before .before .before .before .before .before .before .before .before .args .turn) (c .before .before .before .before .before .before .before .before .before .before .before .before .before .args .t) (c .before .before .before .before .before .before .before .before .before .before .before .before .before .pre .1) (c .before .before .before .before .before .before .before .before .before .wide .ensures ∙ c .before .before .before .before .before .before .before .before .before .before .own-port .ensures) (c .before .before .before .before .before .before .before .look .ensures)) (other-looked (c .before .before .before .before .before .before .before .before .before .before .before .before .before .pre .0) (c .before .before .before .before .before .before .before .before .before .before .before .before .before .args .turn) (c .before .before .before .before .before .before .before .before .before .before .before .before .before .args .t) (c .before .before .before .before .before .before .before .before .before .before .before .before .before .pre .1) (c .before .before .before .before .wide2 .ensures ∙ c .before .before .before .before .before .other-port .ensures) (c .before .look2 .ensures)) (c .both .ensures)
+returns-2 c =
+    let c2 = c .before .before in let c3 = c2 .before in let c4 = c3 .before in let c5 = c4 .before in let c6 = c5 .before in let c7 = c6 .before in let c8 = c7 .before in
+    let c9 = c8 .before in let c10 = c9 .before in let c11 = c10 .before in let c13 = c11 .before .before in
+    two-looks (c13 .pre .0) (c13 .args .turn) (c13 .args .unit) (c13 .args .odd) (c13 .args .t) (c13 .args .d) (c13 .args .e) (c13 .pre .1) (c11 .unit-on .ensures) (c6 .if1 .left)
+    (c3 .partner .ensures) (c8 .element-of .ensures) (c2 .element-of2 .ensures)
+    (own-looked (c13 .pre .0) (c13 .args .turn) (c13 .args .t) (c13 .pre .1) (c9 .wide .ensures ∙ c10 .own-port .ensures) (c7 .look .ensures))
+    (other-looked (c13 .pre .0) (c13 .args .turn) (c13 .args .t) (c13 .pre .1) (c4 .wide2 .ensures ∙ c5 .other-port .ensures) (c .before .look2 .ensures)) (c .both .ensures)
 
 pub look-place-spec : {M : Type 1} → statement M
 look-place-spec =

@@ -8,19 +8,19 @@ use Rattle.compare.proofs.nonzeros_in.Statement.{statement}
 use Rattle.compare.proofs.nonzeros_in.Tie as tie
 
 abbrev Inv-loop : tie.InvT-loop
-Inv-loop part n₀ i₀ n i = (i ≤ length part) × (n ≤ i) × Count part i n
+Inv-loop part n₀ i₀ n i = (n ≤ i) × Count part i n
 
 abbrev μ-loop : tie.MeasureT-loop
 μ-loop part n₀ i₀ n i = length part - i
 
 loop-holds : tie.Need-loop-holds Inv-loop μ-loop
-loop-holds c = (omega arith, omega arith, count-none (c .args .part .now))
+loop-holds c = (omega arith, count-none (c .args .part .now))
 
 shared-slice-read-if1 : tie.Need-shared-slice-read-if1 Inv-loop μ-loop
 shared-slice-read-if1 c = omega arith
 
 add-n : tie.Need-add-n Inv-loop μ-loop
-add-n c = omega (arith, c .before .before .before .loop .inv .1, c .before .before .before .before .pre)
+add-n c = omega arith
 
 add-i : tie.Need-add-i Inv-loop μ-loop
 add-i c = omega arith
@@ -29,10 +29,14 @@ loop-less : tie.Need-loop-less Inv-loop μ-loop
 loop-less c = omega arith
 
 loop-again : tie.Need-loop-again Inv-loop μ-loop
-loop-again c = let l = c .before .before .before .loop in ⊎-elim (λ x. rw (x .1) (omega arith, omega (arith, l .inv .1), count-one (c .before .before .before .before .args .part .now) (l .i) (l .n) (c .before .before .loop-test .taken) (x .0 .taken) (l .inv .2))) (λ x. rw (x .1) (omega arith, omega (arith, l .inv .1), count-zero (c .before .before .before .before .args .part .now) (l .i) (l .n) (c .before .before .loop-test .taken) (x .0 .left) (l .inv .2))) (c .if1 .came)
+loop-again c =
+    let l = c .before .before .before .loop in
+    let h = c .before .before .loop-test .taken in
+    ⊎-elim (λ x. rw (x .1) (omega arith, count-one (l .inv .1) h (x .0 .taken))) (λ x. rw (x .1) (omega arith, count-zero (l .inv .1) h (x .0 .left)))
+    (c .if1 .came)
 
 returns : tie.Need-returns Inv-loop μ-loop
-returns c = count-all (c .before .before .args .part .now) (c .before .loop .i) (c .before .loop .n) (c .loop-test .left) (c .before .loop .inv .2)
+returns c = count-all (c .before .loop .inv .1) (c .loop-test .left)
 
 pub nonzeros-in-spec : {M : Type 1} → statement M
 nonzeros-in-spec =

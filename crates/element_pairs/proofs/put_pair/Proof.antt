@@ -18,8 +18,7 @@ same-length c = search needs
 
 returns : tie.Need-returns
 returns c =
-    let c2 = c .before .before in
-    let c6 = c .before .before .before .before .before .before in
+    let c2 = c .before .before in let c6 = c .before .before .before .before .before .before in
     record { size = c2 .put-six2 .kept .0 ∙ c6 .put-six .kept .0; middle = _; own = c6 .put-six .ensures; other = c2 .put-six2 .ensures }
 
 pub put-pair-spec : {M : Type 1} → statement M

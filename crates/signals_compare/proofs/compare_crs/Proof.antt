@@ -3,7 +3,7 @@ use native.Mathlib.Omega.{arith}
 use Rattle.places.proofs.Numbers.{symbols-most}
 use Rattle.counts.proofs.Ranges.{few-ports}
 use Rattle.signals.proofs.Numbers.{row-at-most, crs-inside}
-use Rattle.signals_compare.proofs.Signals.{widest, crs-compared}
+use Rattle.signals_compare.proofs.Signals.{crs-compared}
 use Rattle.signals_compare.proofs.compare_crs.Statement.{statement}
 use Rattle.signals_compare.proofs.compare_crs.Tie as tie
 
@@ -14,7 +14,10 @@ first-carrier-requires : tie.Need-first-carrier-requires
 first-carrier-requires c κs = omega (arith, few-ports (c .before .before .args .cell .ports) (c .before .before .pre .cell .ports), c .before .before .pre .port)
 
 add-first : tie.Need-add-first
-add-first c = omega (arith, row-at-most (c .before .before .before .args .cell) (c .before .before .before .args .s) (c .before .before .before .args .port) (omega arith) (omega arith) (omega (arith, symbols-most (c .before .before .before .args .cell), c .before .before .before .pre .symbol)), c .before .row-at .ensures, c .first-carrier .ensures)
+add-first c =
+    let c3 = c .before .before .before in
+    let row = row-at-most (c3 .args .cell) (c3 .args .s) (c3 .args .port) (omega arith) (omega arith) (omega (arith, symbols-most (c3 .args .cell), c3 .pre .symbol)) in
+    omega (arith, row, c .before .row-at .ensures, c .first-carrier .ensures)
 
 wide-requires : tie.Need-wide-requires
 wide-requires c κs = tt
@@ -23,10 +26,15 @@ mul-compare-values : tie.Need-mul-compare-values
 mul-compare-values c = omega arith
 
 compare-values-requires : tie.Need-compare-values-requires
-compare-values-requires c κs = (crs-inside (c .before .before .before .before .args .cell) (c .before .before .before .before .args .s) (c .before .before .before .before .args .port) (c .before .before .row-at .ensures) (c .before .first-carrier .ensures) (c .wide .ensures) (c .before .before .before .before .pre), widest (c .before .before .before .before .pre .room))
+compare-values-requires c κs =
+    let c4 = c .before .before .before .before in
+    crs-inside (c4 .args .cell) (c4 .args .s) (c4 .args .port) (c .before .before .row-at .ensures) (c .before .first-carrier .ensures) (c .wide .ensures) (c4 .pre)
 
 returns : tie.Need-returns
-returns c = crs-compared (c .before .before .before .before .before .args .cell) (c .before .before .before .before .before .args .s) (c .before .before .before .before .before .args .port) (c .before .before .before .row-at .ensures) (c .before .before .first-carrier .ensures) (c .before .wide .ensures) (c .before .before .before .before .before .args .r) (c .before .before .before .before .before .pre) (c .compare-values .ensures)
+returns c =
+    let c2 = c .before .before in let c3 = c2 .before in let c5 = c3 .before .before in
+    crs-compared (c5 .args .cell) (c5 .args .s) (c5 .args .port) (c3 .row-at .ensures) (c2 .first-carrier .ensures) (c .before .wide .ensures) (c5 .args .r) (c5 .pre)
+    (c .compare-values .ensures)
 
 pub compare-crs-spec : {M : Type 1} → statement M
 compare-crs-spec =

@@ -28,7 +28,9 @@ look-requires : tie.Need-look-requires Inv-loop μ-loop
 look-requires c κs = omega arith
 
 both-requires : tie.Need-both-requires Inv-loop μ-loop
-both-requires c κs = few-looked (c .before .before .before .before .before .before .args .grid .now) (c .before .before .before .before .before .before .args .first + c .before .before .before .before .loop .i) (c .before .element-of .result) (c .before .before .before .before .before .before .pre .1) (c .before .before .before .before .loop .inv .found) (omega arith) (c .look .ensures)
+both-requires c κs =
+    let c4 = c .before .before .before .before in let c6 = c4 .before .before in
+    few-looked (c6 .args .grid .now) (c6 .args .first + c4 .loop .i) (c .before .element-of .result) (c6 .pre .1) (c4 .loop .inv .found) (omega arith) (c .look .ensures)
 
 add-i : tie.Need-add-i Inv-loop μ-loop
 add-i c = omega arith
@@ -37,10 +39,15 @@ loop-less : tie.Need-loop-less Inv-loop μ-loop
 loop-less c = omega arith
 
 loop-again : tie.Need-loop-again Inv-loop μ-loop
-loop-again c = level-turn (c .before .before .before .before .before .before .before .args .d) (c .before .before .before .before .before .before .before .args .first) (c .before .before .before .before .before .before .before .args .grid .now) (c .before .before .before .before .before .loop .i) (c .before .before .before .before .loop-test .taken) (omega arith) (c .before .before .before .before .before .loop .inv) (c .before .before .before .sss-level .ensures) (c .before .before .element-of .ensures) (c .before .look .ensures) (c .both .ensures)
+loop-again c =
+    let c2 = c .before .before in let c3 = c2 .before in let c4 = c3 .before in let c5 = c4 .before in let c7 = c5 .before .before in
+    level-turn (c7 .args .d) (c7 .args .first) (c7 .args .grid .now) (c5 .loop .i) (c4 .loop-test .taken) (omega arith) (c5 .loop .inv) (c3 .sss-level .ensures) (c2 .element-of .ensures)
+    (c .before .look .ensures) (c .both .ensures)
 
 returns : tie.Need-returns Inv-loop μ-loop
-returns c = row-last (levelSent (c .before .before .before .args .d) (c .before .before .before .args .first)) (c .before .before .before .args .first) (c .before .loop .i) (c .before .loop .inv) (omega arith)
+returns c =
+    let c3 = c .before .before .before in
+    row-last (levelSent (c3 .args .d) (c3 .args .first)) (c3 .args .first) (c .before .loop .i) (c .before .loop .inv) (omega arith)
 
 pub compare-levels-spec : {M : Type 1} → statement M
 compare-levels-spec =

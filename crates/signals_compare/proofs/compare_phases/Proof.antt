@@ -25,7 +25,10 @@ look-requires : tie.Need-look-requires Inv-loop μ-loop
 look-requires c κs = omega arith
 
 both-requires : tie.Need-both-requires Inv-loop μ-loop
-both-requires c κs = few-looked (c .before .before .before .before .before .args .grid .now) (c .before .before .before .before .before .args .first + c .before .before .before .loop .i) (record { unit = 63; i = c .before .pss-phase .result; j = 0 }) (c .before .before .before .before .before .pre .1) (c .before .before .before .loop .inv .found) (omega arith) (c .look .ensures)
+both-requires c κs =
+    let c3 = c .before .before .before in let c5 = c3 .before .before in
+    few-looked (c5 .args .grid .now) (c5 .args .first + c3 .loop .i) (record { unit = 63; i = c .before .pss-phase .result; j = 0 }) (c5 .pre .1) (c3 .loop .inv .found) (omega arith)
+    (c .look .ensures)
 
 add-i : tie.Need-add-i Inv-loop μ-loop
 add-i c = omega arith
@@ -34,10 +37,15 @@ loop-less : tie.Need-loop-less Inv-loop μ-loop
 loop-less c = omega arith
 
 loop-again : tie.Need-loop-again Inv-loop μ-loop
-loop-again c = phase-turn (c .before .before .before .before .before .before .args .identity) (c .before .before .before .before .before .before .args .first) (c .before .before .before .before .before .before .args .grid .now) (c .before .before .before .before .loop .i) (c .before .before .before .loop-test .taken) (omega arith) (c .before .before .before .before .loop .inv) (c .before .before .pss-phase .ensures) (c .before .look .ensures) (c .both .ensures)
+loop-again c =
+    let c2 = c .before .before in let c3 = c2 .before in let c4 = c3 .before in let c6 = c4 .before .before in
+    phase-turn (c6 .args .identity) (c6 .args .first) (c6 .args .grid .now) (c4 .loop .i) (c3 .loop-test .taken) (omega arith) (c4 .loop .inv) (c2 .pss-phase .ensures) (c .before .look .ensures)
+    (c .both .ensures)
 
 returns : tie.Need-returns Inv-loop μ-loop
-returns c = row-last (phaseSent (c .before .before .before .args .identity) (c .before .before .before .args .first)) (c .before .before .before .args .first) (c .before .loop .i) (c .before .loop .inv) (omega arith)
+returns c =
+    let c3 = c .before .before .before in
+    row-last (phaseSent (c3 .args .identity) (c3 .args .first)) (c3 .args .first) (c .before .loop .i) (c .before .loop .inv) (omega arith)
 
 pub compare-phases-spec : {M : Type 1} → statement M
 compare-phases-spec =

@@ -9,7 +9,9 @@ mark-at-requires : tie.Need-mark-at-requires
 mark-at-requires c κs = (c .before .pre .cell, omega arith)
 
 compare-phases-requires : tie.Need-compare-phases-requires
-compare-phases-requires c κs = (mark-inside (c .before .before .args .cell) (c .before .before .pre .cell) 1 _ (omega arith, omega arith) (c .mark-at .ensures) (c .before .before .pre), widest (c .before .before .pre .room))
+compare-phases-requires c κs =
+    let c2 = c .before .before in
+    (mark-inside (c2 .args .cell) (c2 .pre .cell) 1 _ (omega arith, omega arith) (c .mark-at .ensures) (c2 .pre), widest (c2 .pre .room))
 
 returns : tie.Need-returns
 returns c = pss-compared (c .before .before .before .args .cell) (c .before .before .before .pre .cell) 1 _ (omega arith, omega arith) (c .before .mark-at .ensures) (c .compare-phases .ensures)

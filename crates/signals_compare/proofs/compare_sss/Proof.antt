@@ -12,10 +12,14 @@ mark-at-requires : tie.Need-mark-at-requires
 mark-at-requires c κs = (c .before .before .pre .cell, omega arith)
 
 compare-levels-requires : tie.Need-compare-levels-requires
-compare-levels-requires c κs = (mark-inside (c .before .before .before .args .cell) (c .before .before .before .pre .cell) 2 _ (omega arith, omega arith) (c .mark-at .ensures) (c .before .before .before .pre), widest (c .before .before .before .pre .room))
+compare-levels-requires c κs =
+    let c3 = c .before .before .before in
+    (mark-inside (c3 .args .cell) (c3 .pre .cell) 2 _ (omega arith, omega arith) (c .mark-at .ensures) (c3 .pre), widest (c3 .pre .room))
 
 returns : tie.Need-returns
-returns c = sss-compared (c .before .before .before .before .args .cell) (c .before .before .before .before .pre .cell) 2 _ (omega arith, omega arith) (c .before .mark-at .ensures) (c .before .before .before .before .args .frame) _ (c .before .before .sss-for .ensures) (c .compare-levels .ensures)
+returns c =
+    let c2 = c .before .before in let c4 = c2 .before .before in
+    sss-compared (c4 .args .cell) (c4 .pre .cell) 2 _ (omega arith, omega arith) (c .before .mark-at .ensures) (c4 .args .frame) _ (c2 .sss-for .ensures) (c .compare-levels .ensures)
 
 pub compare-sss-spec : {M : Type 1} → statement M
 compare-sss-spec =

@@ -2,15 +2,15 @@
 -- Assumes nothing.
 use Prim.Native.Nat.{_-_}
 use native.Mathlib.Omega.{arith}
-use Rattle.signals_compare.proofs.Turns.{ValuesSeen, values-first, values-turn, values-last, few-both}
+use Rattle.signals_compare.proofs.Turns.{ValuesSeen, values-first, values-turn, values-same, values-differ}
 use Rattle.signals_compare.proofs.compare_values.Statement.{statement}
 use Rattle.signals_compare.proofs.compare_values.Tie as tie
 
 abbrev Inv-loop : tie.InvT-loop
-Inv-loop n first grid seen₀ pair₀ m₀ seen pair m = ValuesSeen pair₀ n first grid pair m seen
+Inv-loop n first grid differ₀ pair₀ m₀ differ pair m = ValuesSeen pair₀ n first grid pair m differ
 
 abbrev μ-loop : tie.MeasureT-loop
-μ-loop n first grid seen₀ pair₀ m₀ seen pair m = n - m
+μ-loop n first grid differ₀ pair₀ m₀ differ pair m = n - m
 
 loop-holds : tie.Need-loop-holds Inv-loop μ-loop
 loop-holds c = values-first (c .before .args .r) (c .before .args .n) (c .before .args .first) (c .before .args .grid .now)
@@ -37,25 +37,31 @@ add-compare-word : tie.Need-add-compare-word Inv-loop μ-loop
 add-compare-word c = omega arith
 
 compare-word-requires : tie.Need-compare-word-requires Inv-loop μ-loop
-compare-word-requires c κs = (c .before .at-once .ensures .1, omega (arith, c .before .at-once .ensures), c .before .before .before .before .before .pre .1)
-
-both-requires : tie.Need-both-requires Inv-loop μ-loop
-both-requires c κs = few-both (c .before .before .before .before .before .before .pre .1) (c .before .before .before .before .loop .inv .found) (c .compare-word .ensures)
+compare-word-requires c κs = (c .before .at-once .ensures .1, omega (arith, c .before .at-once .ensures))
 
 advance-requires : tie.Need-advance-requires Inv-loop μ-loop
-advance-requires c κs = (omega (arith, c .before .before .before .at-once .ensures), omega (arith, c .before .before .before .at-once .ensures))
+advance-requires c κs = (omega (arith, c .before .before .at-once .ensures), omega (arith, c .before .before .at-once .ensures))
 
 add-m : tie.Need-add-m Inv-loop μ-loop
-add-m c = omega (arith, c .before .before .before .before .at-once .ensures)
+add-m c = omega (arith, c .before .before .before .at-once .ensures)
 
 loop-less : tie.Need-loop-less Inv-loop μ-loop
-loop-less c = omega (arith, c .before .before .before .before .at-once .ensures)
+loop-less c = omega (arith, c .before .before .before .at-once .ensures)
 
 loop-again : tie.Need-loop-again Inv-loop μ-loop
-loop-again c = values-turn (c .before .before .before .before .before .before .before .before .args .r) (c .before .before .before .before .before .before .before .before .args .n) (c .before .before .before .before .before .before .before .before .args .first) (c .before .before .before .before .before .before .loop .m) (c .before .before .before .before .at-once .result) (c .before .before .before .word .result) (omega (arith, c .before .before .before .before .at-once .ensures)) (c .before .before .before .before .before .before .loop .inv) (c .before .before .before .word .ensures) (c .before .before .compare-word .ensures) (c .before .both .ensures) (c .advance .ensures)
+loop-again c =
+    let c2 = c .before .before in let c3 = c2 .before in let c5 = c3 .before .before in
+    values-turn (c5 .loop .inv) (c3 .at-once .result) (c2 .word .result) (omega (arith, c3 .at-once .ensures)) (c2 .word .ensures)
+    (c .before .compare-word .ensures) (c .advance .ensures)
+
+mul-weight : tie.Need-mul-weight Inv-loop μ-loop
+mul-weight c = omega arith
 
 returns : tie.Need-returns Inv-loop μ-loop
-returns c = values-last (c .before .before .before .args .r) (c .before .before .before .args .n) (c .before .before .before .args .first) (c .before .loop .m) (c .before .loop .inv) (omega arith)
+returns c = values-same (c .before .before .loop .inv) (omega arith) (c .before .before .before .before .pre) (c .if1 .taken)
+
+returns-2 : tie.Need-returns-2 Inv-loop μ-loop
+returns-2 c = values-differ (c .before .before .loop .inv) (omega arith) (c .if1 .left)
 
 pub compare-values-spec : {M : Type 1} → statement M
 compare-values-spec =
@@ -72,9 +78,10 @@ compare-values-spec =
     mul-compare-word
     add-compare-word
     compare-word-requires
-    both-requires
     advance-requires
     add-m
     loop-less
     loop-again
-    returns)
+    mul-weight
+    returns
+    returns-2)

@@ -1,15 +1,15 @@
 -- `signals_compare::compare_word` meets its contract. The loop: the first i values are compared. Assumes nothing.
-use Prim.Native.Nat.{_+_, _-_, _*_}
+use Prim.Native.Nat.{_-_}
 use native.Mathlib.Omega.{arith}
-use Rattle.signals_compare.proofs.Turns.{WordSeen, word-first, word-turn, word-last, few-looked}
+use Rattle.signals_compare.proofs.Turns.{WordSeen, word-first, word-turn, word-last}
 use Rattle.signals_compare.proofs.compare_word.Statement.{statement}
 use Rattle.signals_compare.proofs.compare_word.Tie as tie
 
 abbrev Inv-loop : tie.InvT-loop
-Inv-loop word n first grid seen₀ i₀ seen i = WordSeen word n first grid i seen
+Inv-loop word n first grid differ₀ i₀ differ i = WordSeen word n first grid i differ
 
 abbrev μ-loop : tie.MeasureT-loop
-μ-loop word n first grid seen₀ i₀ seen i = n - i
+μ-loop word n first grid differ₀ i₀ differ i = n - i
 
 loop-holds : tie.Need-loop-holds Inv-loop μ-loop
 loop-holds c = word-first (c .before .args .word) (c .before .args .n) (c .before .args .first) (c .before .args .grid .now)
@@ -23,29 +23,26 @@ sub-low-2 c = omega arith
 mul-low : tie.Need-mul-low Inv-loop μ-loop
 mul-low c = omega arith
 
-cast-value : tie.Need-cast-value Inv-loop μ-loop
-cast-value c = omega arith
+mul-three-at : tie.Need-mul-three-at Inv-loop μ-loop
+mul-three-at c = omega arith
 
-shr-value : tie.Need-shr-value Inv-loop μ-loop
-shr-value c = omega arith
+add-three-at : tie.Need-add-three-at Inv-loop μ-loop
+add-three-at c = omega arith
 
-value-requires : tie.Need-value-requires Inv-loop μ-loop
-value-requires c κs = tt
+mul-three-at-2 : tie.Need-mul-three-at-2 Inv-loop μ-loop
+mul-three-at-2 c = omega arith
 
-mul-look : tie.Need-mul-look Inv-loop μ-loop
-mul-look c = omega arith
+three-at-requires : tie.Need-three-at-requires Inv-loop μ-loop
+three-at-requires c κs = omega arith
 
-add-look : tie.Need-add-look Inv-loop μ-loop
-add-look c = omega arith
+cast-number-of : tie.Need-cast-number-of Inv-loop μ-loop
+cast-number-of c = omega arith
 
-element-of-requires : tie.Need-element-of-requires Inv-loop μ-loop
-element-of-requires c κs = tt
+shr-number-of : tie.Need-shr-number-of Inv-loop μ-loop
+shr-number-of c = omega arith
 
-look-requires : tie.Need-look-requires Inv-loop μ-loop
-look-requires c κs = omega arith
-
-both-requires : tie.Need-both-requires Inv-loop μ-loop
-both-requires c κs = few-looked (c .before .before .before .before .before .before .args .grid .now) (c .before .before .before .before .before .before .args .first + 6 * c .before .before .before .before .loop .i) (c .before .element-of .result) (c .before .before .before .before .before .before .pre .2) (c .before .before .before .before .loop .inv .found) (omega arith) (c .look .ensures)
+number-of-requires : tie.Need-number-of-requires Inv-loop μ-loop
+number-of-requires c κs = tt
 
 add-i : tie.Need-add-i Inv-loop μ-loop
 add-i c = omega arith
@@ -54,10 +51,12 @@ loop-less : tie.Need-loop-less Inv-loop μ-loop
 loop-less c = omega arith
 
 loop-again : tie.Need-loop-again Inv-loop μ-loop
-loop-again c = word-turn (c .before .before .before .before .before .before .before .args .word) (c .before .before .before .before .before .before .before .args .n) (c .before .before .before .before .before .before .before .args .first) (c .before .before .before .before .before .before .before .args .grid .now) (c .before .before .before .before .before .loop .i) (c .before .before .before .before .loop-test .taken) (omega arith) (c .before .before .before .before .before .loop .inv) (c .before .before .before .value .ensures) (c .before .before .element-of .ensures) (c .before .look .ensures) (c .both .ensures)
+loop-again c =
+    let c2 = c .before .before in let c3 = c2 .before in
+    word-turn (c3 .loop .inv) (c2 .loop-test .taken) (c .before .three-at .ensures) (c .number-of .ensures)
 
 returns : tie.Need-returns Inv-loop μ-loop
-returns c = word-last (c .before .before .before .args .word) (c .before .before .before .args .n) (c .before .before .before .args .first) (c .before .loop .i) (c .before .loop .inv) (omega arith)
+returns c = word-last (c .before .loop .inv) (omega arith)
 
 pub compare-word-spec : {M : Type 1} → statement M
 compare-word-spec =
@@ -69,14 +68,13 @@ compare-word-spec =
     sub-low
     sub-low-2
     mul-low
-    cast-value
-    shr-value
-    value-requires
-    mul-look
-    add-look
-    element-of-requires
-    look-requires
-    both-requires
+    mul-three-at
+    add-three-at
+    mul-three-at-2
+    three-at-requires
+    cast-number-of
+    shr-number-of
+    number-of-requires
     add-i
     loop-less
     loop-again
