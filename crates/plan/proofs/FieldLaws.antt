@@ -1,4 +1,4 @@
--- The tests of the commands' fields, as the code makes them. Assumes nothing.
+-- The counts of the PHICH, as the code makes them. Assumes nothing.
 use Prim.Native.Nat.{ℕ, _+_, _*_, _≤_, _<_}
 use mathlib.Core.Path.{_≡_, refl}
 use mathlib.Core.Bool.{Bool, _&&_, and-true}
@@ -14,11 +14,6 @@ use Rattle.plan.specs.declared.User.{User}
 
 pub bytes-mul : (a b : ℕ) → a < 256 → b < 256 → a * b ≤ 65025
 bytes-mul a b ha hb = mul-le-mul {n₂ = 255} {m₂ = 255} (omega arith) (omega arith)
-
-pub cell-fields : (c : Cell) {b p s : Bool} → b ≡ oneOf (c .blocks) widths → p ≡ oneOf (c .ports) portCounts → s ≡ oneOf (c .sixths) sixthCounts →
-    leb (c .identity) 503 && b && leb (c .prefix) 1 && p && s ≡ cellOk c
-unfolding cellOk
-cell-fields c eb ep es = rw (eb, ep, es) refl
 
 -- ---- PHICH counts
 pub units-fit : (c : Cell) → c .sixths < 256 → c .blocks < 256 → unitsOf c ≤ 1355
@@ -41,12 +36,3 @@ sequences-extended c e = rw (eq-eqb (c .prefix) 1 e) refl
 pub sequences-normal : (c : Cell) → (c .prefix ≡ 1 → ⊥) → 8 ≡ sequencesOf c
 unfolding sequencesOf
 sequences-normal c e = rw (ne-eqb (c .prefix) 1 e) refl
-
-pub hi-fields : (c : Cell) (h : Hi) {g q : ℕ} → g ≡ groupsOf c → q ≡ sequencesOf c → ltb (h .group) g && ltb (h .sequence) q ≡ hiOk c h
-unfolding hiOk
-hi-fields c h eg eq = rw (eg, eq) refl
-
-pub user-fields : (c : Cell) (u : User) {o : Bool} → u .rnti ≤ 65535 → o ≡ oneOf (u .order) orders →
-    leb 1 (u .rnti) && o && leb 1 (u .count) && leb (u .first + u .count) (c .blocks) ≡ userOk c u
-unfolding userOk
-user-fields c u m eo = rw (eo, le-leb (u .rnti) 65535 m, and-true (leb 1 (u .rnti))) refl
