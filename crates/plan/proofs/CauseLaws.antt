@@ -1,6 +1,6 @@
 -- The first cause of a command: by the tests that the code makes, and what a command without a cause has passed. Assumes nothing.
-use Prim.Native.Nat.{ℕ, _+_, _/_, _≤_, _<_}
-use mathlib.Core.Path.{_≡_, refl, sym, ap, _∙_}
+use Prim.Native.Nat.{ℕ, _+_, _≤_, _<_}
+use mathlib.Core.Path.{_≡_, refl, _∙_}
 use mathlib.Core.Bool.{Bool, true, false, not, _&&_, and-true}
 use mathlib.Core.Logic.{inl, inr}
 use mathlib.Core.List.{List, [], _∷_}
@@ -28,7 +28,9 @@ use Rattle.plan.specs.declared.Command.the-variants.{Cell as cell, Frame
 use Rattle.plan.specs.declared.Refusal.{Refusal}
 use Rattle.plan.specs.declared.Refusal.the-variants.{Unreadable, Order, CellField, FrameField, HiField, UserField, Used}
 use Rattle.plan.specs.declared.Cause.{Cause}
-use Rattle.plan.specs.declared.Cause.the-variants.{Unknown, CutOff, NoEnd, OutOfOrder, AfterEnd, Identity, Blocks, Prefix, Ports, Sixths, FrameNumber, Subframe, Cfi, Group, Sequence, PairUsed, Rnti, Modulation, Count, LastBlock, RntiUsed, BlockUsed}
+use Rattle.plan.specs.declared.Cause.the-variants.{Unknown, CutOff, NoEnd, OutOfOrder, AfterEnd}
+use Rattle.plan.specs.declared.Cause.the-variants.{Identity, Blocks, Prefix, Ports, Sixths, FrameNumber, Subframe, Cfi}
+use Rattle.plan.specs.declared.Cause.the-variants.{Group, Sequence, PairUsed, Rnti, Modulation, Count, LastBlock, RntiUsed, BlockUsed}
 use Rattle.plan.specs.declared.Reason.{Reason}
 use Rattle.plan.specs.declared.Reason.the-variants.{Nothing, Is}
 use Rattle.plan.proofs.Command.{the-type}
@@ -150,7 +152,10 @@ module _ (c : Cell) (u : User) where
   unfolding userCause
   user-tests most rntis blocks en eq e₁ ep e₂ e₃ e₄ eo e₅ e₆ us s =
       rw (e₆, e₅, eo, e₄, e₃, e₂, e₁, ep, eq, en, le-leb (u .rnti) 65535 most, and-true (leb 1 (u .rnti)))
-      (when (leb 1 (u .rnti)) Rnti (λ t₁. when (oneOf (u .order) orders) Modulation (λ t₂. when (leb 1 (u .count)) Count (λ t₃. when (leb (u .first + u .count) (c .blocks)) LastBlock (λ t₄.
+      (when (leb 1 (u .rnti)) Rnti (λ t₁.
+      when (oneOf (u .order) orders) Modulation (λ t₂.
+      when (leb 1 (u .count)) Count (λ t₃.
+      when (leb (u .first + u .count) (c .blocks)) LastBlock (λ t₄.
       let i = user-made (both t₁ (le-leb (u .rnti) 65535 most)) t₂ t₃ t₄ in
       rw (s .of-rntis .at u i, s .of-blocks .at u i) refl)))))
 

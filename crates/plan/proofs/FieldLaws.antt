@@ -1,21 +1,15 @@
 -- The counts of the PHICH, as the code makes them. Assumes nothing.
-use Prim.Native.Nat.{ℕ, _+_, _*_, _≤_, _<_}
+use Prim.Native.Nat.{ℕ, _*_, _≤_, _<_}
 use mathlib.Core.Path.{_≡_, refl}
-use mathlib.Core.Bool.{Bool, _&&_, and-true}
 use native.Mathlib.Nat.{mul-le-mul}
 use native.Mathlib.Omega.{arith}
-use lib.Dec.{leb, ltb}
-use borrow.Author.Tests.{eq-eqb, ne-eqb, le-leb}
-use Rattle.plan.specs.Lists.{oneOf}
-use Rattle.plan.specs.Fields.{widths, portCounts, sixthCounts, orders, cellOk, unitsOf, groupsOf, sequencesOf, hiOk, userOk}
+use borrow.Author.Tests.{eq-eqb, ne-eqb}
+use Rattle.plan.specs.Fields.{unitsOf, groupsOf, sequencesOf}
 use Rattle.plan.specs.declared.Cell.{Cell}
-use Rattle.plan.specs.declared.Hi.{Hi}
-use Rattle.plan.specs.declared.User.{User}
 
 pub bytes-mul : (a b : ℕ) → a < 256 → b < 256 → a * b ≤ 65025
 bytes-mul a b ha hb = mul-le-mul {n₂ = 255} {m₂ = 255} (omega arith) (omega arith)
 
--- ---- PHICH counts
 pub units-fit : (c : Cell) → c .sixths < 256 → c .blocks < 256 → unitsOf c ≤ 1355
 unfolding unitsOf
 units-fit c h k = omega (arith, bytes-mul (c .sixths) (c .blocks) h k)

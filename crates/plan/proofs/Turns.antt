@@ -99,15 +99,15 @@ stage-due : (t : Bool) → due (cond t 2 3) ≡ true
 stage-due true = refl
 stage-due false = refl
 
-stage-first : (t : Bool) → eqb (cond t 2 3) 0 ≡ false
+pub stage-first : (t : Bool) → eqb (cond t 2 3) 0 ≡ false
 stage-first true = refl
 stage-first false = refl
 
-stage-second : (t : Bool) → eqb (cond t 2 3) 1 ≡ false
+pub stage-second : (t : Bool) → eqb (cond t 2 3) 1 ≡ false
 stage-second true = refl
 stage-second false = refl
 
-stage-last : (t : Bool) → eqb (cond t 2 3) 4 ≡ false
+pub stage-last : (t : Bool) → eqb (cond t 2 3) 4 ≡ false
 stage-last true = refl
 stage-last false = refl
 
@@ -151,10 +151,6 @@ module _ (w : List ℕ) (c : Cell) (f : Frame) (start n mid m at : ℕ) where
 
   abbrev UserC : User → Reason
   UserC u = userCause c (usersFrom (drop mid w) m) u
-
-  pub early : eqb (St .stage) 4 ≡ false
-  unfolding bodyState
-  early = stage-last (eqb m 0)
 
   -- ---- an HI
   module _ (h : Hi) (e : commandOf here ≡ hi h) where
@@ -285,19 +281,6 @@ module _ (w : List ℕ) (c : Cell) (f : Frame) (start n mid m at : ℕ) where
     end-turn =
         turned w St (n + m + 3) at end e (omega (arith, told here end e .2)) end-cause _ refl _ (at + 1) refl (omega (arith, told here end e .1))
 
-  -- ---- another command than an HI, a USER or END
-  pub late-cell : (y : Cell) → fits (St .stage) (cell y) ≡ false
-  unfolding bodyState
-  late-cell y = stage-first (eqb m 0)
-
-  pub late-frame : (y : Frame) → fits (St .stage) (frame y) ≡ false
-  unfolding bodyState
-  late-frame y = stage-second (eqb m 0)
-
-  late-hi : (y : Hi) → (m ≡ 0 → ⊥) → fits (St .stage) (hi y) ≡ false
-  unfolding bodyState
-  late-hi y z = stage-hi (eqb m 0) ∙ ne-eqb m 0 z
-
 -- ---- after END: a command, or none
 module _ (w : List ℕ) (c : Cell) (f : Frame) (his users : Row) (k to : ℕ) where
   abbrev Ended : State
@@ -321,9 +304,6 @@ module _ {w : List ℕ} {p : Plan} {at : ℕ} (d : EndDue w p at) where
   Due = bodyState w (p .cell) (p .frame) (p .his .at) (p .his .count) (p .users .at) (p .users .count)
 
   module _ (e : commandOf (drop at w) ≡ end) where
-    pub end-fits : at + 1 ≤ length w
-    end-fits = omega (arith, told (drop at w) end e .2, length-drop at w)
-
     turn : planRest w p at ≡ restFrom w (stateAfter Due end) (n + 1) (at + 1)
     turn = end-turn w (p .cell) (p .frame) (p .his .at) (p .his .count) (p .users .at) (p .users .count) at e
 
@@ -335,15 +315,13 @@ module _ {w : List ℕ} {p : Plan} {at : ℕ} (d : EndDue w p at) where
 
   pub end-late : {x : Command} → commandOf (drop at w) ≡ x → OneOf (0 ∷ 1 ∷ 2 ∷ 3 ∷ 5 ∷ []) (tagOf the-type x) →
       {k : Cause} → k ≡ lateCause (drop at w) → {g : Finding} → g ≡ foundAt n at k → Refused g ≡ planRest w p at
-  unfolding oneOf
-  end-late {x} e h ek eg =
-      ap Refused eg ∙ ap (refusedAt n at) ek
-      ∙ sym (late Due (early w (p .cell) (p .frame) (p .his .at) (p .his .count) (p .users .at) (p .users .count) at) w n at x e (by x e h))
+  unfolding oneOf bodyState
+  end-late {x} e h ek eg = ap Refused eg ∙ ap (refusedAt n at) ek ∙ sym (late Due (stage-last (eqb (p .users .count) 0)) w n at x e (by x e h))
     where
       by : (x : Command) → commandOf (drop at w) ≡ x → OneOf (0 ∷ 1 ∷ 2 ∷ 3 ∷ 5 ∷ []) (tagOf the-type x) → fits (Due .stage) x ≡ false
-      by (cell y) e h = late-cell w (p .cell) (p .frame) (p .his .at) (p .his .count) (p .users .at) (p .users .count) at y
-      by (frame y) e h = late-frame w (p .cell) (p .frame) (p .his .at) (p .his .count) (p .users .at) (p .users .count) at y
-      by (hi y) e h = late-hi w (p .cell) (p .frame) (p .his .at) (p .his .count) (p .users .at) (p .users .count) at y (λ z. d .no-hi z y e)
+      by (cell y) e h = stage-first (eqb (p .users .count) 0)
+      by (frame y) e h = stage-second (eqb (p .users .count) 0)
+      by (hi y) e h = stage-hi (eqb (p .users .count) 0) ∙ ne-eqb (p .users .count) 0 (λ z. d .no-hi z y e)
       by (user y) e h = absurd (d .no-user y e)
       by end e h = absurd (not-in (0 ∷ 1 ∷ 2 ∷ 3 ∷ 5 ∷ []) 4 h refl)
       by broken e h = refl

@@ -1,15 +1,14 @@
 -- THE LAW OF THE PLAN CHECK, for the crates above: what it answers with a plan for, is valid. Assumes nothing.
 use Prim.Native.Nat.{ℕ, zero, suc, _+_, _≤_, _<_}
 use mathlib.Core.Path.{_≡_, refl, sym, ap, _∙_, subst}
-use mathlib.Core.Bool.{Bool, true, false}
-use mathlib.Core.Logic.{inl, inr}
+use mathlib.Core.Bool.{Bool, true, false, cond}
 use mathlib.Core.List.{List, [], _∷_}
 use native.Mathlib.Omega.{arith}
 use lib.Dec.{ltb, eqb}
 use lib.ListN.{length, drop, length-drop}
 use borrow.Author.Tests.{ltb-true, ltb-false}
 use Rattle.plan.specs.Commands.{byte, hiOf, userOf, commandOf}
-use Rattle.plan.specs.Check.{stateAfter, checkOf}
+use Rattle.plan.specs.Check.{State, begin, stateAfter, checkOf}
 use Rattle.plan.specs.Finding.{demand, cellCause, frameCause, hiCause, userCause, findingOf}
 use Rattle.plan.specs.Rows.{nextOf, hisFrom, usersFrom, hisOf, usersOf}
 use Rattle.plan.specs.Loops.{celled, bodyState, restFrom, bodyRest}
@@ -34,13 +33,18 @@ use Rattle.plan.proofs.RowLaws.{row-length}
 use Rattle.plan.proofs.Kept.{Kept, kept-first, kept-hi, kept-user}
 use Rattle.plan.proofs.CauseLaws.{passed, cell-in, frame-in}
 use Rattle.plan.proofs.Verdict.{accepted-both}
-use Rattle.plan.proofs.Turns.{fits, late, early, late-cell, late-frame, Standing, standing-first, on-no-lists, end-room, end-turn, not-last, last}
+use Rattle.plan.proofs.Turns.{fits, late, stage-first, stage-second, stage-last, Standing, standing-first, on-no-lists, end-room, end-turn, not-last, last}
 use Rattle.plan.proofs.Turns.{hi-refused, standing-hi, on-more-his, hi-next, hi-turn, user-refused, standing-user, on-more-users, user-next, user-turn}
-use Rattle.plan.proofs.Opening.{late-first, cell-refused, cell-turn, late-second, frame-room, frame-refused, frame-turn}
+use Rattle.plan.proofs.Opening.{cell-refused, cell-turn, frame-room, frame-refused, frame-turn}
 
 -- ---- answers
 not-both : {a : Explained} {g : Finding} {p : Plan} → a ≡ Refused g → a ≡ Accepted p → ⊥
 not-both e q = let z : _≡_ {A = ℕ} 0 1 = cc in omega arith
+
+-- a command that is not due
+not-due : (st : State) → eqb (st .stage) 4 ≡ false → (w : List ℕ) (n at : ℕ) (x : Command) → commandOf (drop at w) ≡ x → fits (st .stage) x ≡ false →
+    {p : Plan} → restFrom w st n at ≡ Accepted p → Valid w p
+not-due st q w n at x e t r = absurd (not-both (late st q w n at x e t) r)
 
 same-plan : (a b : Plan) → Accepted a ≡ Accepted b → a ≡ b
 same-plan a b e = cc
@@ -83,7 +87,8 @@ module _ (w : List ℕ) (p : Plan) (c : Cell) (f : Frame) (ci : CellIn c) (fi : 
         kept = on-more-users w c f start n mid m at u e (g .standing) (nextOf w at) refl (Kept c (His n)) (kept-user (g .kept) u q);
       }
 
-  at-end : (n mid m at : ℕ) (t : Bool) → ltb (at + 1) (length w) ≡ t → Good n mid m at → commandOf (drop at w) ≡ end → restFrom w (stateAfter (bodyState w c f start n mid m) end) (n + m + 3 + 1) (at + 1) ≡ Accepted p → Valid w p
+  at-end : (n mid m at : ℕ) (t : Bool) → ltb (at + 1) (length w) ≡ t → Good n mid m at → commandOf (drop at w) ≡ end →
+      restFrom w (stateAfter (bodyState w c f start n mid m) end) (n + m + 3 + 1) (at + 1) ≡ Accepted p → Valid w p
   unfolding hisOf usersOf
   at-end n mid m at true l g e r =
       absurd (not-both (not-last w c f (record { at = start; count = n }) (record { at = mid; count = m }) _ (at + 1) (ltb-true _ _ l)) r)
@@ -107,25 +112,27 @@ module _ (w : List ℕ) (p : Plan) (c : Cell) (f : Frame) (ci : CellIn c) (fi : 
         ends = sym (s .users-end) ∙ one-byte (drop at w) one (told (drop at w) end e .0);
       })
 
-  at-hi : (k n mid m at : ℕ) → Rest k → length w ≤ at + suc k → Good n mid m at → (h : Hi) → commandOf (drop at w) ≡ hi h → (q : Reason) → q ≡ demand (eqb m 0) OutOfOrder (hiCause c (His n) h) → Runs n mid m at → Valid w p
+  at-hi : (k n mid m at : ℕ) → Rest k → length w ≤ at + suc k → Good n mid m at → (h : Hi) → commandOf (drop at w) ≡ hi h →
+      (q : Reason) → q ≡ demand (eqb m 0) OutOfOrder (hiCause c (His n) h) → Runs n mid m at → Valid w p
   at-hi k n mid m at ih l g h e (Is y) q r = absurd (not-both (hi-refused w c f start n mid m at h e y q) r)
   at-hi k n mid m at ih l g h e Nothing q r =
       ih (n + 1) (mid + 3) m (nextOf w at) (omega (arith, hi-next w c f start n mid m at h e)) (more-hi n mid m at g h e q)
       (sym (hi-turn w c f start n mid m at h e (g .standing) q (nextOf w at) refl) ∙ r)
 
-  at-user : (k n mid m at : ℕ) → Rest k → length w ≤ at + suc k → Good n mid m at → (u : User) → commandOf (drop at w) ≡ user u → (q : Reason) → q ≡ userCause c (Users mid m) u → Runs n mid m at → Valid w p
+  at-user : (k n mid m at : ℕ) → Rest k → length w ≤ at + suc k → Good n mid m at → (u : User) → commandOf (drop at w) ≡ user u →
+      (q : Reason) → q ≡ userCause c (Users mid m) u → Runs n mid m at → Valid w p
   at-user k n mid m at ih l g u e (Is y) q r = absurd (not-both (user-refused w c f start n mid m at u e y q) r)
   at-user k n mid m at ih l g u e Nothing q r =
       ih n mid (m + 1) (nextOf w at) (omega (arith, user-next w c f start n mid m at u e, told (drop at w) (user u) e .1)) (more-user n mid m at g u e q)
       (sym (user-turn w c f start n mid m at u e (g .standing) (nextOf w at) refl q) ∙ r)
 
-  -- a command that is not due
-  never : (n mid m at : ℕ) (x : Command) → commandOf (drop at w) ≡ x → fits (bodyState w c f start n mid m .stage) x ≡ false → Runs n mid m at → Valid w p
-  never n mid m at x e t r = absurd (not-both (late _ (early w c f start n mid m at) w _ at x e t) r)
+  never : (n mid m at : ℕ) (x : Command) → commandOf (drop at w) ≡ x → fits (cond (eqb m 0) 2 3) x ≡ false → Runs n mid m at → Valid w p
+  unfolding bodyState
+  never n mid m at x e t r = not-due (bodyState w c f start n mid m) (stage-last (eqb m 0)) w (n + m + 3) at x e t r
 
   turn : (k n mid m at : ℕ) → Rest k → length w ≤ at + suc k → Good n mid m at → (x : Command) → commandOf (drop at w) ≡ x → Runs n mid m at → Valid w p
-  turn k n mid m at ih l g (cell y) e r = never n mid m at (cell y) e (late-cell w c f start n mid m at y) r
-  turn k n mid m at ih l g (frame y) e r = never n mid m at (frame y) e (late-frame w c f start n mid m at y) r
+  turn k n mid m at ih l g (cell y) e r = never n mid m at (cell y) e (stage-first (eqb m 0)) r
+  turn k n mid m at ih l g (frame y) e r = never n mid m at (frame y) e (stage-second (eqb m 0)) r
   turn k n mid m at ih l g (hi h) e r = at-hi k n mid m at ih l g h e (demand (eqb m 0) OutOfOrder (hiCause c (His n) h)) refl r
   turn k n mid m at ih l g (user u) e r = at-user k n mid m at ih l g u e (userCause c (Users mid m) u) refl r
   turn k n mid m at ih l g end e r = at-end n mid m at (ltb (at + 1) (length w)) refl g e (sym (end-turn w c f start n mid m at e) ∙ r)
@@ -151,24 +158,26 @@ module _ (w : List ℕ) (p : Plan) where
   by-frame c at f ci e (Is k) o r = absurd (not-both (sym (frame-refused w c at f e o refl refl)) r)
 
   second : (c : Cell) (at : ℕ) → CellIn c → (x : Command) → commandOf (drop at w) ≡ x → restFrom w (celled c at) 2 at ≡ Accepted p → Valid w p
-  second c at ci (cell y) e r = absurd (not-both (sym (late-second w c at e (inl refl) refl refl)) r)
+  unfolding celled
+  second c at ci (cell y) e r = not-due (celled c at) refl w 2 at (cell y) e refl r
   second c at ci (frame f) e r = by-frame c at f ci e (frameCause f) refl r
-  second c at ci (hi y) e r = absurd (not-both (sym (late-second w c at e (inr (inl refl)) refl refl)) r)
-  second c at ci (user y) e r = absurd (not-both (sym (late-second w c at e (inr (inr (inl refl))) refl refl)) r)
-  second c at ci end e r = absurd (not-both (sym (late-second w c at e (inr (inr (inr (inl refl)))) refl refl)) r)
-  second c at ci broken e r = absurd (not-both (sym (late-second w c at e (inr (inr (inr (inr refl)))) refl refl)) r)
+  second c at ci (hi y) e r = not-due (celled c at) refl w 2 at (hi y) e refl r
+  second c at ci (user y) e r = not-due (celled c at) refl w 2 at (user y) e refl r
+  second c at ci end e r = not-due (celled c at) refl w 2 at end e refl r
+  second c at ci broken e r = not-due (celled c at) refl w 2 at broken e refl r
 
   by-cell : (c : Cell) → commandOf w ≡ cell c → (t : Reason) → t ≡ cellCause c → findingOf w ≡ Accepted p → Valid w p
   by-cell c e Nothing o r = second c 7 (cell-in c o) (commandOf (drop 7 w)) refl (cell-turn w c e o refl ∙ r)
   by-cell c e (Is k) o r = absurd (not-both (sym (cell-refused w c e o refl refl)) r)
 
   first : (x : Command) → commandOf w ≡ x → findingOf w ≡ Accepted p → Valid w p
+  unfolding findingOf begin
   first (cell c) e r = by-cell c e (cellCause c) refl r
-  first (frame y) e r = absurd (not-both (sym (late-first w e (inl refl) refl refl)) r)
-  first (hi y) e r = absurd (not-both (sym (late-first w e (inr (inl refl)) refl refl)) r)
-  first (user y) e r = absurd (not-both (sym (late-first w e (inr (inr (inl refl))) refl refl)) r)
-  first end e r = absurd (not-both (sym (late-first w e (inr (inr (inr (inl refl)))) refl refl)) r)
-  first broken e r = absurd (not-both (sym (late-first w e (inr (inr (inr (inr refl)))) refl refl)) r)
+  first (frame y) e r = not-due begin refl w 1 0 (frame y) e refl r
+  first (hi y) e r = not-due begin refl w 1 0 (hi y) e refl r
+  first (user y) e r = not-due begin refl w 1 0 (user y) e refl r
+  first end e r = not-due begin refl w 1 0 end e refl r
+  first broken e r = not-due begin refl w 1 0 broken e refl r
 
   -- THE LAW: an accepted plan is valid
   pub valid : checkOf w ≡ accepted p → Valid w p

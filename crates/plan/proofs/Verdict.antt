@@ -1,16 +1,16 @@
 -- The plan check's answer is that of the explanation, and the offset is that of the command with the number. Assumes nothing.
-use Prim.Native.Nat.{ℕ, suc, _+_, _-_}
-use mathlib.Core.Path.{_≡_, refl, sym, ap, _∙_, subst}
-use mathlib.Core.Bool.{Bool, true, false, not, cond, _&&_, _||_}
+use Prim.Native.Nat.{ℕ, _+_, _-_}
+use mathlib.Core.Path.{_≡_, refl, sym, ap, _∙_}
+use mathlib.Core.Bool.{Bool, true, false, not, cond, _&&_}
 use mathlib.Core.List.{List, [], _∷_}
 use native.Mathlib.Omega.{arith}
-use lib.Dec.{eqb, ltb}
+use lib.Dec.{eqb}
 use lib.ListN.{drop}
 use lib.Seq.{drop-drop}
-use borrow.Author.Tests.{eq-eqb, eqb-true}
-use Rattle.plan.specs.Lists.{oneOf, noneOf}
+use borrow.Author.Tests.{eqb-true}
+use Rattle.plan.specs.Lists.{oneOf}
 use Rattle.plan.specs.Commands.{byte, sizeOf, commands}
-use Rattle.plan.specs.Fields.{cellOk, frameOk, hiOk, userOk, clash}
+use Rattle.plan.specs.Fields.{cellOk, frameOk, hiOk, userOk}
 use Rattle.plan.specs.Check.{State, begin, need, hiFault, userFault, due, fault, stateAfter, planOf, unless, run, checkOf}
 use Rattle.plan.specs.Rows.{past}
 use Rattle.plan.specs.declared.Cell.{Cell}
@@ -27,12 +27,12 @@ use Rattle.plan.specs.declared.Fault.the-variants.{Nothing as faultless,
 use Rattle.plan.specs.declared.Checked.{Checked}
 use Rattle.plan.specs.declared.Checked.the-variants.{Plan as accepted, Refused as refused}
 use Rattle.plan.proofs.RowLaws.{past-more, past-none}
-use Rattle.plan.specs.Finding.{causeRefusal, demand, cellCause, frameCause, hiCause, userCause, commandBytes, brokenCause, inOrder, fieldCause, causeAt, causeOf, refusedAt, stopAt, findingFrom, findingOf, answerOf, Named}
+use Rattle.plan.specs.Finding.{causeRefusal, demand, cellCause, frameCause, hiCause, userCause, commandBytes, brokenCause}
+use Rattle.plan.specs.Finding.{inOrder, fieldCause, causeAt, causeOf, refusedAt, stopAt, findingFrom, findingOf, answerOf, Named}
 use Rattle.plan.specs.declared.Cause.{Cause}
 use Rattle.plan.specs.declared.Cause.the-variants.{NoEnd, OutOfOrder, AfterEnd}
 use Rattle.plan.specs.declared.Reason.{Reason}
 use Rattle.plan.specs.declared.Reason.the-variants.{Nothing, Is}
-use Rattle.plan.specs.declared.Finding.{Finding}
 use Rattle.plan.specs.declared.Explained.{Explained}
 use Rattle.plan.specs.declared.Explained.the-variants.{Accepted, Refused}
 use Rattle.plan.proofs.CauseLaws.{none-clash}

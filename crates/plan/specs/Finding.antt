@@ -23,7 +23,9 @@ use Rattle.plan.specs.declared.Refusal.the-variants.{Unreadable, Order, 
 use Rattle.plan.specs.declared.Checked.{Checked}
 use Rattle.plan.specs.declared.Checked.the-variants.{Plan as accepted, Refused as refused}
 use Rattle.plan.specs.declared.Cause.{Cause}
-use Rattle.plan.specs.declared.Cause.the-variants.{Unknown, CutOff, NoEnd, OutOfOrder, AfterEnd, Identity, Blocks, Prefix, Ports, Sixths, FrameNumber, Subframe, Cfi, Group, Sequence, PairUsed, Rnti, Modulation, Count, LastBlock, RntiUsed, BlockUsed}
+use Rattle.plan.specs.declared.Cause.the-variants.{Unknown, CutOff, NoEnd, OutOfOrder, AfterEnd}
+use Rattle.plan.specs.declared.Cause.the-variants.{Identity, Blocks, Prefix, Ports, Sixths, FrameNumber, Subframe, Cfi}
+use Rattle.plan.specs.declared.Cause.the-variants.{Group, Sequence, PairUsed, Rnti, Modulation, Count, LastBlock, RntiUsed, BlockUsed}
 use Rattle.plan.specs.declared.Reason.{Reason}
 use Rattle.plan.specs.declared.Reason.the-variants.{Nothing, Is}
 use Rattle.plan.specs.declared.Finding.{Finding}

@@ -50,8 +50,9 @@ returns c =
     let at-frame-cause = at-enum-told .before .before in
     let at-f = at-frame-cause .before .before in
     let at-command-at = at-f .before .before in
-    let at-args = at-command-at .before .before in
-    c .body .ensures ∙ frame-turn (at-args .args .plan .now) (at-args .args .c) (at-args .args .at) _ (sym (at-command-at .command-at .ensures) ∙ at-f .f .given .1) (at-frame-cause .frame-cause .ensures) (at-enum-told .enum-told .given .1)
+    let a = at-command-at .before .before .args in
+    let e = sym (at-command-at .command-at .ensures) ∙ at-f .f .given .1 in
+    c .body .ensures ∙ frame-turn (a .plan .now) (a .c) (a .at) _ e (at-frame-cause .frame-cause .ensures) (at-enum-told .enum-told .given .1)
 
 returns-2 : tie.Need-returns-2
 returns-2 c =
@@ -59,16 +60,16 @@ returns-2 c =
     let at-frame-cause = at-cause .before .before in
     let at-f = at-frame-cause .before .before in
     let at-command-at = at-f .before .before in
-    let at-args = at-command-at .before .before in
-    frame-refused (at-args .args .plan .now) (at-args .args .c) (at-args .args .at) _ (sym (at-command-at .command-at .ensures) ∙ at-f .f .given .1) (at-frame-cause .frame-cause .ensures) (at-cause .cause .given .1) (c .found .ensures)
+    let a = at-command-at .before .before .args in
+    let e = sym (at-command-at .command-at .ensures) ∙ at-f .f .given .1 in
+    frame-refused (a .plan .now) (a .c) (a .at) _ e (at-frame-cause .frame-cause .ensures) (at-cause .cause .given .1) (c .found .ensures)
 
 returns-3 : tie.Need-returns-3
 returns-3 c =
-    let at-late-cause = c .before in
-    let at-match = at-late-cause .before in
+    let at-match = c .before .before in
     let at-command-at = at-match .before in
-    let at-args = at-command-at .before .before in
-    late-second (at-args .args .plan .now) (at-args .args .c) (at-args .args .at) (sym (at-command-at .command-at .ensures)) (at-match .match .keys2) (at-late-cause .late-cause .ensures) (c .found2 .ensures)
+    let a = at-command-at .before .before .args in
+    late-second (a .plan .now) (a .c) (a .at) (sym (at-command-at .command-at .ensures)) (at-match .match .keys2) (c .before .late-cause .ensures) (c .found2 .ensures)
 
 pub after-cell-spec : {M : Type 1} → statement M
 after-cell-spec =

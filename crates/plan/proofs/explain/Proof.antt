@@ -39,8 +39,9 @@ returns c =
     let at-cell-cause = at-enum-told .before .before in
     let at-c = at-cell-cause .before .before in
     let at-command-at = at-c .before .before in
-    let at-args = at-command-at .before .before in
-    c .after-cell .ensures ∙ cell-turn (at-args .args .plan .now) _ (sym (at-command-at .command-at .ensures) ∙ at-c .c .given .1) (at-cell-cause .cell-cause .ensures) (at-enum-told .enum-told .given .1)
+    let w = at-command-at .before .before .args .plan .now in
+    let e = sym (at-command-at .command-at .ensures) ∙ at-c .c .given .1 in
+    c .after-cell .ensures ∙ cell-turn w _ e (at-cell-cause .cell-cause .ensures) (at-enum-told .enum-told .given .1)
 
 returns-2 : tie.Need-returns-2
 returns-2 c =
@@ -48,16 +49,16 @@ returns-2 c =
     let at-cell-cause = at-cause .before .before in
     let at-c = at-cell-cause .before .before in
     let at-command-at = at-c .before .before in
-    let at-args = at-command-at .before .before in
-    cell-refused (at-args .args .plan .now) _ (sym (at-command-at .command-at .ensures) ∙ at-c .c .given .1) (at-cell-cause .cell-cause .ensures) (at-cause .cause .given .1) (c .found .ensures)
+    let w = at-command-at .before .before .args .plan .now in
+    let e = sym (at-command-at .command-at .ensures) ∙ at-c .c .given .1 in
+    cell-refused w _ e (at-cell-cause .cell-cause .ensures) (at-cause .cause .given .1) (c .found .ensures)
 
 returns-3 : tie.Need-returns-3
 returns-3 c =
-    let at-late-cause = c .before in
-    let at-match = at-late-cause .before in
+    let at-match = c .before .before in
     let at-command-at = at-match .before in
-    let at-args = at-command-at .before .before in
-    late-first (at-args .args .plan .now) (sym (at-command-at .command-at .ensures)) (at-match .match .keys2) (at-late-cause .late-cause .ensures) (c .found2 .ensures)
+    let w = at-command-at .before .before .args .plan .now in
+    late-first w (sym (at-command-at .command-at .ensures)) (at-match .match .keys2) (c .before .late-cause .ensures) (c .found2 .ensures)
 
 pub explain-spec : {M : Type 1} → statement M
 explain-spec =

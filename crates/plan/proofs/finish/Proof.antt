@@ -1,16 +1,15 @@
 -- `plan::finish` meets its contract: END, and nothing after it. Assumes nothing.
 use mathlib.Core.Path.{sym, _∙_}
-use native.Mathlib.Omega.{arith}
-use Rattle.plan.proofs.Turns.{end-fits, end-more, end-last, end-late}
+use Rattle.plan.proofs.Turns.{end-more, end-last, end-late}
 use borrow.Author.Needs.{needs}
 use Rattle.plan.proofs.finish.Statement.{statement}
 use Rattle.plan.proofs.finish.Tie as tie
 
 add-number : tie.Need-add-number
-add-number c = omega (arith, c .before .before .pre .mid-at, c .before .before .pre .behind, c .before .before .pre .room)
+add-number c = search needs
 
 add-number-2 : tie.Need-add-number-2
-add-number-2 c = omega (arith, c .before .before .pre .mid-at, c .before .before .pre .behind, c .before .before .pre .room)
+add-number-2 c = search needs
 
 command-at-requires : tie.Need-command-at-requires
 command-at-requires c κs = search needs
@@ -19,17 +18,13 @@ enum-told : tie.Need-enum-told
 enum-told c = search needs
 
 add-if1 : tie.Need-add-if1
-add-if1 c =
-    let at-command-at = c .before .before in
-    let at-pre = at-command-at .before .before .before in
-    omega (arith, end-fits (at-pre .pre) (sym (at-command-at .command-at .ensures) ∙ c .enum-told .given .1))
+add-if1 c = search needs
 
 add-found : tie.Need-add-found
-add-found c =
-    omega (arith, c .before .before .before .before .before .before .pre .mid-at, c .before .before .before .before .before .before .pre .behind, c .before .before .before .before .before .before .pre .room)
+add-found c = search needs
 
 add-found-2 : tie.Need-add-found-2
-add-found-2 c = omega arith
+add-found-2 c = search needs
 
 found-requires : tie.Need-found-requires
 found-requires c κs = search needs
@@ -57,11 +52,9 @@ returns-2 c =
 
 returns-3 : tie.Need-returns-3
 returns-3 c =
-    let at-late-cause = c .before in
-    let at-match = at-late-cause .before in
+    let at-match = c .before .before in
     let at-command-at = at-match .before in
-    let at-pre = at-command-at .before .before .before in
-    end-late (at-pre .pre) (sym (at-command-at .command-at .ensures)) (at-match .match .keys2) (at-late-cause .late-cause .ensures) (c .found2 .ensures)
+    end-late (at-command-at .before .before .before .pre) (sym (at-command-at .command-at .ensures)) (at-match .match .keys2) (c .before .late-cause .ensures) (c .found2 .ensures)
 
 pub finish-spec : {M : Type 1} → statement M
 finish-spec =

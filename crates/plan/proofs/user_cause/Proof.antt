@@ -52,8 +52,8 @@ demand-requires-6 c κs = search needs
 
 returns : tie.Need-returns
 returns c =
-    let at-struct-known5 = c .before in
-    let at-demand5 = at-struct-known5 .before in
+    let at-rnti = c .before in
+    let at-demand5 = at-rnti .before in
     let at-one-of = at-demand5 .before in
     let at-demand4 = at-one-of .before .before in
     let at-demand3 = at-demand4 .before .before in
@@ -62,9 +62,10 @@ returns c =
     let at-demand = at-has-rnti .before .before in
     let at-meets = at-demand .before in
     let at-blocks-of = at-meets .before .before in
-    let at-args = at-blocks-of .before in
-    user-tests (at-args .args .cell) (at-args .args .u) (omega (arith, at-struct-known5 .struct-known5 .given)) (at-args .args .rntis .now) (at-args .args .blocks .now) (at-blocks-of .blocks-of .ensures) (at-meets .meets .ensures) (at-demand .demand .ensures)
-    (at-has-rnti .has-rnti .ensures) (at-demand2 .demand2 .ensures) (at-demand3 .demand3 .ensures) (at-demand4 .demand4 .ensures) (at-one-of .one-of .ensures) (at-demand5 .demand5 .ensures) (c .demand6 .ensures)
+    let a = at-blocks-of .before .args in
+    user-tests (a .cell) (a .u) (omega (arith, at-rnti .struct-known5 .given)) (a .rntis .now) (a .blocks .now)
+    (at-blocks-of .blocks-of .ensures) (at-meets .meets .ensures) (at-demand .demand .ensures) (at-has-rnti .has-rnti .ensures) (at-demand2 .demand2 .ensures)
+    (at-demand3 .demand3 .ensures) (at-demand4 .demand4 .ensures) (at-one-of .one-of .ensures) (at-demand5 .demand5 .ensures) (c .demand6 .ensures)
 
 pub user-cause-spec : {M : Type 1} → statement M
 user-cause-spec =
