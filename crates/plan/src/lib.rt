@@ -71,10 +71,28 @@ pub enum Refusal {
     NoPayload,
 }
 
-// The definitions' word for a command's refusal, or none; the code has the cause, Reason.
+// A command's refusal, or none: what the definitions say; the code finds the cause, Reason.
 pub enum Fault {
     Nothing,
     Is(Refusal),
+}
+
+// Commands of one kind in a row: the first one's position in the plan, and how many.
+pub struct Row {
+    pub at: usize,
+    pub count: usize,
+}
+
+pub struct Plan {
+    pub cell: Cell,
+    pub frame: Frame,
+    pub his: Row,
+    pub users: Row,
+}
+
+pub enum Checked {
+    Plan(Plan),
+    Refused(Refusal),
 }
 
 // The first reason for which a command is refused, in the order of document 01's fields.
@@ -110,6 +128,7 @@ pub enum Cause {
     BlockUsed,
 }
 
+// A command's first cause, or none.
 enum Reason {
     Nothing,
     Is(Cause),
@@ -124,33 +143,16 @@ pub struct Finding {
     pub cause: Cause,
 }
 
-// Commands of one kind in a row: the first one's position in the plan, and how many.
-pub struct Row {
-    pub at: usize,
-    pub count: usize,
-}
-
-pub struct Plan {
-    pub cell: Cell,
-    pub frame: Frame,
-    pub his: Row,
-    pub users: Row,
-}
-
 // How many commands of one kind stand in a row, or the first fault of one.
 enum Counted {
     Count(usize),
     Refused(Finding),
 }
 
+// The plan, or why it is refused.
 pub enum Explained {
     Accepted(Plan),
     Refused(Finding),
-}
-
-pub enum Checked {
-    Plan(Plan),
-    Refused(Refusal),
 }
 
 // The values of a cell's blocks, ports and sixths, and of a user's order.
