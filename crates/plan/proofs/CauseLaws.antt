@@ -1,7 +1,7 @@
 -- The first cause of a command: by the tests that the code makes, and what a command without a cause has passed. Assumes nothing.
 use Prim.Native.Nat.{ℕ, _+_, _≤_, _<_}
-use mathlib.Core.Path.{_≡_, refl, _∙_}
-use mathlib.Core.Bool.{Bool, true, false, not, _&&_, and-true}
+use mathlib.Core.Path.{_≡_, refl, sym, _∙_}
+use mathlib.Core.Bool.{Bool, true, false, not, _&&_}
 use mathlib.Core.Logic.{inl, inr}
 use mathlib.Core.List.{List, [], _∷_}
 use native.Mathlib.Nat.{not-suc-le-zero}
@@ -10,7 +10,7 @@ use types.Run.{OneOf}
 use denote.Enum.Declared.{tagOf}
 use lib.Dec.{leb, ltb}
 use lib.ListN.{length, drop, getD, length-drop, drop-of-length-le}
-use borrow.Author.Tests.{lt-ltb, le-ltb, ltb-true, le-leb, leb-true}
+use borrow.Author.Tests.{lt-ltb, le-ltb, ltb-true, le-leb, lt-leb, leb-true}
 use Rattle.base.proofs.Tests.{both}
 use Rattle.bitset.specs.Sets.{member, meet}
 use Rattle.plan.specs.Lists.{oneOf, noneOf, Every}
@@ -42,11 +42,6 @@ use Rattle.plan.proofs.Listed.{and-left, and-right, none-or}
 pub passed : (t : Bool) (k : Cause) (r : Reason) → Nothing ≡ demand t k r → (t ≡ true) × (Nothing ≡ r)
 passed true k r e = (refl, e)
 passed false k r e = (cc, cc)
-
--- what comes after a test counts only where the test holds
-when : (t : Bool) (k : Cause) {r s : Reason} → (t ≡ true → r ≡ s) → demand t k r ≡ demand t k s
-when true k h = h refl
-when false k h = refl
 
 -- ---- CELL
 pub cell-tests : (c : Cell) {b p s : Bool} {r₁ r₂ r₃ r₄ r₅ : Reason} → s ≡ oneOf (c .sixths) sixthCounts → r₁ ≡ demand s Sixths Nothing →
@@ -144,20 +139,38 @@ module _ (c : Cell) (u : User) where
       let t₆ = passed (noneOf (sharesBlock u) us) BlockUsed _ (t₅ .1) in
       (user-made (t₁ .0) (t₂ .0) (t₃ .0) (t₄ .0), none-clash u us ∙ both (t₅ .0) (t₆ .0))
 
-  pub user-tests : u .rnti ≤ 65535 → (rntis blocks : List ℕ) {own : List ℕ} {o p q : Bool} {r₁ r₂ r₃ r₄ r₅ r₆ : Reason} →
-      own ≡ blocksOf u → q ≡ meet blocks own → r₁ ≡ demand (not q) BlockUsed Nothing → p ≡ oneOf (u .rnti) rntis → r₂ ≡ demand (not p) RntiUsed r₁ →
-      r₃ ≡ demand (leb (u .first + u .count) (c .blocks)) LastBlock r₂ → r₄ ≡ demand (leb 1 (u .count)) Count r₃ →
-      o ≡ oneOf (u .order) orders → r₅ ≡ demand o Modulation r₄ → r₆ ≡ demand (leb 1 (u .rnti)) Rnti r₅ →
-      (us : List User) → UsersUsed c rntis blocks us → r₆ ≡ userCause c us u
+  pub user-rnti : u .rnti < 1 → (us : List User) → Is Rnti ≡ userCause c us u
   unfolding userCause
-  user-tests most rntis blocks en eq e₁ ep e₂ e₃ e₄ eo e₅ e₆ us s =
-      rw (e₆, e₅, eo, e₄, e₃, e₂, e₁, ep, eq, en, le-leb (u .rnti) 65535 most, and-true (leb 1 (u .rnti)))
-      (when (leb 1 (u .rnti)) Rnti (λ t₁.
-      when (oneOf (u .order) orders) Modulation (λ t₂.
-      when (leb 1 (u .count)) Count (λ t₃.
-      when (leb (u .first + u .count) (c .blocks)) LastBlock (λ t₄.
-      let i = user-made (both t₁ (le-leb (u .rnti) 65535 most)) t₂ t₃ t₄ in
-      rw (s .of-rntis .at u i, s .of-blocks .at u i) refl)))))
+  user-rnti h us = rw (lt-leb _ _ h) refl
+
+  module _ (h : 1 ≤ u .rnti) (m : u .rnti ≤ 65535) {o : Bool} (eo : o ≡ oneOf (u .order) orders) where
+    pub user-order : o ≡ false → (us : List User) → Is Modulation ≡ userCause c us u
+    unfolding userCause
+    user-order f us = rw (le-leb _ _ h, le-leb _ _ m, ← eo, f) refl
+
+    module _ (t : o ≡ true) where
+      pub user-count : u .count < 1 → (us : List User) → Is Count ≡ userCause c us u
+      unfolding userCause
+      user-count k us = rw (le-leb _ _ h, le-leb _ _ m, ← eo, t, lt-leb _ _ k) refl
+
+      module _ (k : 1 ≤ u .count) where
+        pub user-last : c .blocks < u .first + u .count → (us : List User) → Is LastBlock ≡ userCause c us u
+        unfolding userCause
+        user-last l us = rw (le-leb _ _ h, le-leb _ _ m, ← eo, t, le-leb _ _ k, lt-leb _ _ l) refl
+
+        module _ (l : u .first + u .count ≤ c .blocks) (rntis blocks : List ℕ) {p : Bool} (ep : p ≡ oneOf (u .rnti) rntis) (us : List User) (s : UsersUsed c rntis blocks us) where
+          user-new : demand (not p) RntiUsed (demand (not (meet blocks (blocksOf u))) BlockUsed Nothing) ≡ userCause c us u
+          unfolding userCause
+          user-new =
+              let i = user-made (both (le-leb _ _ h) (le-leb _ _ m)) (sym eo ∙ t) (le-leb _ _ k) (le-leb _ _ l) in
+              rw (ep, le-leb _ _ h, le-leb _ _ m, ← eo, t, le-leb _ _ k, le-leb _ _ l, s .of-rntis .at u i, s .of-blocks .at u i) refl
+
+          pub user-rnti-used : p ≡ true → Is RntiUsed ≡ userCause c us u
+          user-rnti-used f = rw f at user-new
+
+          pub user-tests : p ≡ false → {own : List ℕ} → own ≡ blocksOf u → {q : Bool} → q ≡ meet blocks own →
+              {r : Reason} → r ≡ demand (not q) BlockUsed Nothing → r ≡ userCause c us u
+          user-tests f en eq er = rw (er, eq, en) (rw f at user-new)
 
 -- ---- a command that is not due
 late-there : (l : List ℕ) → 0 < length l → (x : Command) → commandOf l ≡ x → lateFor l x ≡ lateCause l

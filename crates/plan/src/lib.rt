@@ -496,18 +496,24 @@ fn blocks_of(u: User) -> [u64; 2]
 fn user_cause(cell: Cell, rntis: &[u16; 104], blocks: &[u64; 2], u: User) -> Reason
     ensures { λ r. ⌜ ((us : List User) → UsersUsed cell (now (rntis .entry)) (now (blocks .entry)) us → r ≡ userCause cell us u) ⌝ }
 {
+    if u.rnti < 1 {
+        return Reason::Is(Cause::Rnti);
+    }
+    if !one_of(u.order, &ORDERS) {
+        return Reason::Is(Cause::Modulation);
+    }
+    if u.count < 1 {
+        return Reason::Is(Cause::Count);
+    }
+    if (cell.blocks as usize) < (u.first as usize) + (u.count as usize) {
+        return Reason::Is(Cause::LastBlock);
+    }
+    if has_rnti(rntis, u.rnti) {
+        return Reason::Is(Cause::RntiUsed);
+    }
     let own = blocks_of(u);
-    let shared = demand(
-        !bitset::meets(blocks, &own),
-        Cause::BlockUsed,
-        Reason::Nothing,
-    );
-    let used = demand(!has_rnti(rntis, u.rnti), Cause::RntiUsed, shared);
-    let end = (u.first as usize) + (u.count as usize);
-    let last = demand(end <= (cell.blocks as usize), Cause::LastBlock, used);
-    let count = demand(1 <= u.count, Cause::Count, last);
-    let order = demand(one_of(u.order, &ORDERS), Cause::Modulation, count);
-    demand(1 <= u.rnti, Cause::Rnti, order)
+    let shared = bitset::meets(blocks, &own);
+    demand(!shared, Cause::BlockUsed, Reason::Nothing)
 }
 
 // The cause of a command that is not due, at a position before END: it is missing, cannot be read or is out of order.
