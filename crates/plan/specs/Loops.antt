@@ -1,4 +1,4 @@
--- For the loops only: the states that the code goes through, where the bytes have what they hold; what was used before, by tables.
+-- For the inner contracts and loops only: the states that the code goes through, and the explanation from there on; what was used before, by tables.
 use Prim.Native.Nat.{ℕ, _+_, _*_, _≤_}
 use mathlib.Core.Path.{_≡_}
 use mathlib.Core.Bool.{Bool, cond, not, _&&_}
