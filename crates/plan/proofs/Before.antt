@@ -1,6 +1,6 @@
--- Used before: the tables of pairs, RNTIs and blocks, from the first HI or USER to the next; the fault that they give. Assumes nothing.
+-- Used before: the tables of pairs, RNTIs and blocks, from the first HI or USER to the next. Assumes nothing.
 use Prim.Native.Nat.{ℕ, zero, suc, _+_, _/_, _≤_, _<_}
-use mathlib.Core.Path.{_≡_, refl, sym, ap, ap₂, _∙_}
+use mathlib.Core.Path.{_≡_, refl, sym, ap, _∙_}
 use mathlib.Core.Bool.{Bool, true, false, not, _&&_, _||_, or-assoc}
 use mathlib.Core.List.{List, [], _∷_, _++_}
 use native.Mathlib.Nat.{not-suc-le-zero, le-of-suc-le-suc}
@@ -9,21 +9,17 @@ use lib.Dec.{eqb}
 use lib.ListN.{length, getD, set, replicate}
 use borrow.Author.Tests.{eq-eqb, ne-eqb, eqb-true}
 use Rattle.base.proofs.Tests.{both, same-test}
-use Rattle.bitset.specs.Sets.{member, added, meet, joined, overlap}
-use Rattle.bitset.proofs.Bits.{or-four}
+use Rattle.bitset.specs.Sets.{member, added, meet, joined}
 use Rattle.bitset.proofs.Sets.{in-none, in-added, run-fits, meet-joined, meet-runs}
 use Rattle.plan.specs.Lists.{oneOf, noneOf}
-use Rattle.plan.specs.Fields.{cellOk, hiOk, samePair, userOk, clash}
-use Rattle.plan.specs.Check.{need, hiFault, userFault}
+use Rattle.plan.specs.Fields.{samePair}
+use Rattle.plan.specs.Finding.{sameRnti, sharesBlock}
 use Rattle.plan.specs.Loops.{UsedBefore, pairOf, PairsUsed, blocksOf, UsersUsed}
 use Rattle.plan.specs.Valid.{CellIn, HiIn, UserIn}
 use Rattle.plan.specs.declared.Cell.{Cell}
 use Rattle.plan.specs.declared.Hi.{Hi}
 use Rattle.plan.specs.declared.User.{User}
-use Rattle.plan.specs.declared.Refusal.the-variants.{HiField, UserField, Used}
-use Rattle.plan.specs.declared.Fault.the-variants.{Nothing, Is}
 use Rattle.plan.proofs.Listed.{and-left, and-right, none-snoc}
-use Rattle.plan.proofs.Kept.{cell-in, hi-in, user-in}
 use Rattle.plan.proofs.Counts.{blocks-most, groups-most, sequences-most}
 
 -- ---- THE ONE LAW: nothing is used before the first; one more, x, uses what it asks for
@@ -96,42 +92,24 @@ set-free (x ∷ xs) (suc i) r n h l e = rw (set-free xs i r n h (le-of-suc-le-su
 -- ---- users
 pub users-none : (c : Cell) → UsersUsed c (replicate 104 0) (replicate 2 0) []
 users-none c =
-    used-none (λ (u : User). oneOf (u .rnti) (replicate 104 0) || meet (replicate 2 0) (blocksOf u))
-    (λ u i. rw (no-rnti 104 (u .rnti) (i .rnti)) refl)
+    record {
+      of-rntis = used-none (λ (u : User). oneOf (u .rnti) (replicate 104 0)) (λ u i. no-rnti 104 (u .rnti) (i .rnti));
+      of-blocks = used-none (λ (u : User). meet (replicate 2 0) (blocksOf u)) (λ u i. refl);
+    }
 
 module _ (c : Cell) (ci : CellIn c) (u : User) (i : UserIn c u) (rntis blocks : List ℕ) {us : List User} where
   pub users-more : UsersUsed c rntis blocks us → (m : ℕ) → m < length rntis → getD rntis m 0 ≡ 0 →
       UsersUsed c (set rntis m (u .rnti)) (joined blocks (blocksOf u)) (us ++ (u ∷ []))
-  unfolding clash
+  unfolding sameRnti sharesBlock
   users-more s m l free =
-      used-more s u (λ (v : User). oneOf (v .rnti) (set rntis m (u .rnti)) || meet (joined blocks (blocksOf u)) (blocksOf v))
-      (λ v j.
-      ap₂ (λ (a b : Bool). a || b) (set-free rntis m (u .rnti) (v .rnti) (j .rnti) l free)
-      (meet-joined blocks (blocksOf u) (blocksOf v) (run-fits (v .first) (v .count))
-      ∙ ap (λ (t : Bool). meet blocks (blocksOf v) || t)
-      (meet-runs (v .first) (v .count) (u .first) (u .count) (j .some) (omega (arith, j .last, blocks-most c ci)) (i .some)))
-      ∙ or-four (oneOf (v .rnti) rntis) (eqb (v .rnti) (u .rnti)) (meet blocks (blocksOf v)) (overlap (v .first) (v .count) (u .first) (u .count)))
-
--- ---- as the code tests them, with the tables of what was used before
-module _ (c : Cell) (pairs : List ℕ) (h : Hi) {o : Bool} (eo : o ≡ hiOk c h) where
-  pub hi-bad : o ≡ false → (hs : List Hi) → PairsUsed c pairs hs → Is HiField ≡ hiFault c hs h
-  unfolding hiFault
-  hi-bad f hs s = rw (← eo, f) refl
-
-  pub hi-word : cellOk c ≡ true → o ≡ true → {k : ℕ} → k ≡ pairOf h → k / 64 < 7
-  hi-word ok t ek = rw ek (pair-word c (cell-in c ok) h (hi-in c h (sym eo ∙ t)))
-
-  pub hi-tested : o ≡ true → {k : ℕ} → k ≡ pairOf h → {p : Bool} → p ≡ member pairs k →
-      (hs : List Hi) → PairsUsed c pairs hs → need (not p) HiField Nothing ≡ hiFault c hs h
-  unfolding hiFault
-  hi-tested t ek ep hs s = rw (← eo, t, s .at h (hi-in c h (sym eo ∙ t)), ep, ek) refl
-
-module _ (c : Cell) (rntis blocks : List ℕ) (u : User) {o : Bool} (eo : o ≡ userOk c u) where
-  pub user-bad : o ≡ false → (us : List User) → UsersUsed c rntis blocks us → Is UserField ≡ userFault c us u
-  unfolding userFault
-  user-bad f us s = rw (← eo, f) refl
-
-  pub user-tested : o ≡ true → {p : Bool} → p ≡ oneOf (u .rnti) rntis → {own : List ℕ} → own ≡ blocksOf u → {q : Bool} → q ≡ meet blocks own →
-      (us : List User) → UsersUsed c rntis blocks us → need (not (p || q)) Used Nothing ≡ userFault c us u
-  unfolding userFault
-  user-tested to ep en eq us s = rw (← eo, to, s .at u (user-in c u (sym eo ∙ to)), ep, eq, en) refl
+      record {
+        of-rntis =
+            used-more (s .of-rntis) u (λ (v : User). oneOf (v .rnti) (set rntis m (u .rnti)))
+            (λ v j. set-free rntis m (u .rnti) (v .rnti) (j .rnti) l free);
+        of-blocks =
+            used-more (s .of-blocks) u (λ (v : User). meet (joined blocks (blocksOf u)) (blocksOf v))
+            (λ v j.
+            meet-joined blocks (blocksOf u) (blocksOf v) (run-fits (v .first) (v .count))
+            ∙ ap (λ (t : Bool). meet blocks (blocksOf v) || t)
+            (meet-runs (v .first) (v .count) (u .first) (u .count) (j .some) (omega (arith, j .last, blocks-most c ci)) (i .some)));
+      }

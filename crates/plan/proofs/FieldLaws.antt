@@ -1,26 +1,15 @@
--- The tests of the commands' fields, as the code makes them. Assumes nothing.
-use Prim.Native.Nat.{ℕ, _+_, _*_, _≤_, _<_}
+-- The counts of the PHICH, as the code makes them. Assumes nothing.
+use Prim.Native.Nat.{ℕ, _*_, _≤_, _<_}
 use mathlib.Core.Path.{_≡_, refl}
-use mathlib.Core.Bool.{Bool, _&&_, and-true}
 use native.Mathlib.Nat.{mul-le-mul}
 use native.Mathlib.Omega.{arith}
-use lib.Dec.{leb, ltb}
-use borrow.Author.Tests.{eq-eqb, ne-eqb, le-leb}
-use Rattle.plan.specs.Lists.{oneOf}
-use Rattle.plan.specs.Fields.{widths, portCounts, sixthCounts, orders, cellOk, unitsOf, groupsOf, sequencesOf, hiOk, userOk}
+use borrow.Author.Tests.{eq-eqb, ne-eqb}
+use Rattle.plan.specs.Fields.{unitsOf, groupsOf, sequencesOf}
 use Rattle.plan.specs.declared.Cell.{Cell}
-use Rattle.plan.specs.declared.Hi.{Hi}
-use Rattle.plan.specs.declared.User.{User}
 
 pub bytes-mul : (a b : ℕ) → a < 256 → b < 256 → a * b ≤ 65025
 bytes-mul a b ha hb = mul-le-mul {n₂ = 255} {m₂ = 255} (omega arith) (omega arith)
 
-pub cell-fields : (c : Cell) {b p s : Bool} → b ≡ oneOf (c .blocks) widths → p ≡ oneOf (c .ports) portCounts → s ≡ oneOf (c .sixths) sixthCounts →
-    leb (c .identity) 503 && b && leb (c .prefix) 1 && p && s ≡ cellOk c
-unfolding cellOk
-cell-fields c eb ep es = rw (eb, ep, es) refl
-
--- ---- PHICH counts
 pub units-fit : (c : Cell) → c .sixths < 256 → c .blocks < 256 → unitsOf c ≤ 1355
 unfolding unitsOf
 units-fit c h k = omega (arith, bytes-mul (c .sixths) (c .blocks) h k)
@@ -41,12 +30,3 @@ sequences-extended c e = rw (eq-eqb (c .prefix) 1 e) refl
 pub sequences-normal : (c : Cell) → (c .prefix ≡ 1 → ⊥) → 8 ≡ sequencesOf c
 unfolding sequencesOf
 sequences-normal c e = rw (ne-eqb (c .prefix) 1 e) refl
-
-pub hi-fields : (c : Cell) (h : Hi) {g q : ℕ} → g ≡ groupsOf c → q ≡ sequencesOf c → ltb (h .group) g && ltb (h .sequence) q ≡ hiOk c h
-unfolding hiOk
-hi-fields c h eg eq = rw (eg, eq) refl
-
-pub user-fields : (c : Cell) (u : User) {o : Bool} → u .rnti ≤ 65535 → o ≡ oneOf (u .order) orders →
-    leb 1 (u .rnti) && o && leb 1 (u .count) && leb (u .first + u .count) (c .blocks) ≡ userOk c u
-unfolding userOk
-user-fields c u m eo = rw (eo, le-leb (u .rnti) 65535 m, and-true (leb 1 (u .rnti))) refl

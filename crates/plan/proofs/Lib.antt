@@ -1,4 +1,4 @@
--- Laws that the proofs cite. For the crates above: Valid, Counts, RowLaws, Entries, Reading, Answers. About lists alone: OneOf, Listed, Few.
+-- Laws that the proofs cite. For the crates above: Verdict, Valid, Counts, RowLaws, Entries, Reading, Answers. About lists alone: OneOf, Listed, Few.
 pub mod OneOf
 pub mod Listed
 pub mod Few
@@ -6,7 +6,9 @@ pub mod Entries
 pub mod Reading
 pub mod RowLaws
 mod FieldLaws
+mod CauseLaws
 mod Kept
+pub mod Verdict
 mod Turns
 mod Opening
 pub mod Valid

@@ -1,90 +1,95 @@
 -- The first two commands, CELL and FRAME. Assumes nothing.
 use Prim.Native.Nat.{ℕ, _+_, _≤_}
-use mathlib.Core.Path.{_≡_, refl, _∙_}
-use mathlib.Core.Bool.{Bool, true, false}
+use mathlib.Core.Path.{_≡_, refl, sym, ap, _∙_}
+use mathlib.Core.Bool.{false}
 use mathlib.Core.List.{List, [], _∷_}
 use native.Mathlib.Omega.{arith}
 use lib.ListN.{length, drop, length-drop}
-use lib.Seq.{drop-drop}
 use types.Run.{OneOf}
 use denote.Enum.Declared.{tagOf}
 use Rattle.plan.specs.Lists.{oneOf}
-use Rattle.plan.specs.Fields.{cellOk, frameOk}
-use Rattle.plan.specs.Commands.{commandOf, commands}
-use Rattle.plan.specs.Check.{State, begin, need, fault, stateAfter, unless, run, checkOf}
+use Rattle.plan.specs.Commands.{commandOf}
+use Rattle.plan.specs.Check.{begin, stateAfter}
+use Rattle.plan.specs.Finding.{cellCause, frameCause, inOrder, fieldCause, causeAt, causeOf, foundAt, refusedAt, findingOf}
 use Rattle.plan.specs.Rows.{row}
-use Rattle.plan.specs.Loops.{celled, bodyState}
+use Rattle.plan.specs.Loops.{lateCause, celled, bodyState, restFrom, bodyRest}
 use Rattle.plan.specs.declared.Cell.{Cell}
 use Rattle.plan.specs.declared.Frame.{Frame}
 use Rattle.plan.specs.declared.Command.{Command}
 use Rattle.plan.specs.declared.Command.the-variants.{Cell as cell, Frame as frame, Hi as hi, User as user, End as end, Broken as broken}
-use Rattle.plan.specs.declared.Refusal.the-variants.{Unreadable, Order, CellField, FrameField}
-use Rattle.plan.specs.declared.Fault.the-variants.{Nothing}
-use Rattle.plan.specs.declared.Checked.the-variants.{Refused as refused}
+use Rattle.plan.specs.declared.Cause.{Cause}
+use Rattle.plan.specs.declared.Reason.{Reason}
+use Rattle.plan.specs.declared.Reason.the-variants.{Nothing, Is}
+use Rattle.plan.specs.declared.Finding.{Finding}
+use Rattle.plan.specs.declared.Explained.{Explained}
+use Rattle.plan.specs.declared.Explained.the-variants.{Refused}
 use Rattle.plan.proofs.Command.{the-type}
 use Rattle.plan.proofs.OneOf.{not-in}
 use Rattle.plan.proofs.Entries.{told}
-use Rattle.plan.proofs.Turns.{run-at, refused-at, run-broken}
+use Rattle.plan.proofs.Turns.{stopped, turned, fits, late}
 
 -- ---- before CELL
 module _ (w : List ℕ) where
-  pub first-broken : commandOf w ≡ broken → checkOf w ≡ refused Unreadable
-  unfolding checkOf begin
-  first-broken e = run-broken begin w refl e
+  pub late-first : {x : Command} → commandOf w ≡ x → OneOf (1 ∷ 2 ∷ 3 ∷ 4 ∷ 5 ∷ []) (tagOf the-type x) →
+      {k : Cause} → k ≡ lateCause w → {g : Finding} → g ≡ foundAt 1 0 k → Refused g ≡ findingOf w
+  unfolding findingOf begin oneOf
+  late-first {x} e h ek eg = ap Refused eg ∙ ap (refusedAt 1 0) ek ∙ sym (late begin refl w 1 0 x e (by x h))
+    where
+      by : (x : Command) → OneOf (1 ∷ 2 ∷ 3 ∷ 4 ∷ 5 ∷ []) (tagOf the-type x) → fits 0 x ≡ false
+      by (cell y) h = absurd (not-in (1 ∷ 2 ∷ 3 ∷ 4 ∷ 5 ∷ []) 0 h refl)
+      by (frame y) h = refl
+      by (hi y) h = refl
+      by (user y) h = refl
+      by end h = refl
+      by broken h = refl
 
-  pub late-first : (x : Command) → commandOf w ≡ x → OneOf (1 ∷ 2 ∷ 3 ∷ 4 ∷ []) (tagOf the-type x) → checkOf w ≡ refused Order
-  unfolding checkOf begin fault oneOf
-  late-first (cell y) e h = absurd (not-in (1 ∷ 2 ∷ 3 ∷ 4 ∷ []) 0 h refl)
-  late-first (frame y) e h = refused-at begin w (frame y) Order e (omega (arith, told w (frame y) e .2)) refl
-  late-first (hi y) e h = refused-at begin w (hi y) Order e (omega (arith, told w (hi y) e .2)) refl
-  late-first (user y) e h = refused-at begin w (user y) Order e (omega (arith, told w (user y) e .1, told w (user y) e .2)) refl
-  late-first end e h = refused-at begin w end Order e (omega (arith, told w end e .2)) refl
-  late-first broken e h = absurd (not-in (1 ∷ 2 ∷ 3 ∷ 4 ∷ []) 5 h refl)
+  module _ (c : Cell) (e : commandOf w ≡ cell c) {r : Reason} (er : r ≡ cellCause c) where
+    cell-cause : causeOf begin w (cell c) ≡ r
+    unfolding begin causeAt inOrder fieldCause
+    cell-cause = sym er
 
-  module _ (c : Cell) (e : commandOf w ≡ cell c) where
-    run-cell : checkOf w ≡ unless (need (cellOk c) CellField Nothing) (run (celled c 7) (commands (drop 7 w)))
-    unfolding checkOf begin fault stateAfter celled
-    run-cell = run-at begin w (cell c) e (omega (arith, told w (cell c) e .2)) ∙ rw (told w (cell c) e .1) refl
+    pub cell-refused : {k : Cause} → r ≡ Is k → {g : Finding} → g ≡ foundAt 1 0 k → Refused g ≡ findingOf w
+    unfolding findingOf
+    cell-refused q eg = ap Refused eg ∙ sym (stopped w begin 1 0 (cell c) e (omega (arith, told w (cell c) e .2)) _ (cell-cause ∙ q))
 
-    module _ (o : Bool) (eo : o ≡ cellOk c) where
-      pub cell-refused : o ≡ false → checkOf w ≡ refused CellField
-      cell-refused q = run-cell ∙ rw (← eo, q) refl
-
-      pub cell-turn : o ≡ true → checkOf w ≡ run (celled c 7) (commands (drop 7 w))
-      cell-turn q = run-cell ∙ rw (← eo, q) refl
+    pub cell-turn : r ≡ Nothing → restFrom w (celled c 7) 2 7 ≡ findingOf w
+    unfolding findingOf begin stateAfter celled
+    cell-turn q = sym (turned w begin 1 0 (cell c) e (omega (arith, told w (cell c) e .2)) (cell-cause ∙ q) _ refl 2 7 refl (omega (arith, told w (cell c) e .1)))
 
 -- ---- before FRAME, which is due at position at
 module _ (w : List ℕ) (c : Cell) (at : ℕ) where
   abbrev here : List ℕ
   here = drop at w
 
-  abbrev St : State
-  St = celled c at
+  abbrev Rest : Explained
+  Rest = restFrom w (celled c at) 2 at
 
-  pub second-broken : commandOf here ≡ broken → run St (commands here) ≡ refused Unreadable
-  unfolding celled
-  second-broken e = run-broken St here refl e
-
-  pub late-second : (x : Command) → commandOf here ≡ x → OneOf (0 ∷ 2 ∷ 3 ∷ 4 ∷ []) (tagOf the-type x) → run St (commands here) ≡ refused Order
-  unfolding fault celled oneOf
-  late-second (cell y) e h = refused-at St here (cell y) Order e (omega (arith, told here (cell y) e .2)) refl
-  late-second (frame y) e h = absurd (not-in (0 ∷ 2 ∷ 3 ∷ 4 ∷ []) 1 h refl)
-  late-second (hi y) e h = refused-at St here (hi y) Order e (omega (arith, told here (hi y) e .2)) refl
-  late-second (user y) e h = refused-at St here (user y) Order e (omega (arith, told here (user y) e .1, told here (user y) e .2)) refl
-  late-second end e h = refused-at St here end Order e (omega (arith, told here end e .2)) refl
-  late-second broken e h = absurd (not-in (0 ∷ 2 ∷ 3 ∷ 4 ∷ []) 5 h refl)
+  pub late-second : {x : Command} → commandOf here ≡ x → OneOf (0 ∷ 2 ∷ 3 ∷ 4 ∷ 5 ∷ []) (tagOf the-type x) →
+      {k : Cause} → k ≡ lateCause here → {g : Finding} → g ≡ foundAt 2 at k → Refused g ≡ Rest
+  unfolding celled oneOf
+  late-second {x} e h ek eg = ap Refused eg ∙ ap (refusedAt 2 at) ek ∙ sym (late (celled c at) refl w 2 at x e (by x h))
+    where
+      by : (x : Command) → OneOf (0 ∷ 2 ∷ 3 ∷ 4 ∷ 5 ∷ []) (tagOf the-type x) → fits 1 x ≡ false
+      by (cell y) h = refl
+      by (frame y) h = absurd (not-in (0 ∷ 2 ∷ 3 ∷ 4 ∷ 5 ∷ []) 1 h refl)
+      by (hi y) h = refl
+      by (user y) h = refl
+      by end h = refl
+      by broken h = refl
 
   module _ (f : Frame) (e : commandOf here ≡ frame f) where
     pub frame-room : at + 5 ≤ length w
     frame-room = omega (arith, told here (frame f) e .2, length-drop at w)
 
-    run-frame : run St (commands here) ≡ unless (need (frameOk f) FrameField Nothing) (run (bodyState w c f (at + 5) 0 (at + 5) 0) (commands (drop (at + 5) w)))
-    unfolding fault stateAfter celled bodyState row
-    run-frame = run-at St here (frame f) e (omega (arith, told here (frame f) e .2)) ∙ rw (told here (frame f) e .1, drop-drop) refl
+    module _ {r : Reason} (er : r ≡ frameCause f) where
+      frame-cause : causeOf (celled c at) here (frame f) ≡ r
+      unfolding celled causeAt inOrder fieldCause
+      frame-cause = sym er
 
-    module _ (o : Bool) (eo : o ≡ frameOk f) where
-      pub frame-refused : o ≡ false → run St (commands here) ≡ refused FrameField
-      frame-refused q = run-frame ∙ rw (← eo, q) refl
+      pub frame-refused : {k : Cause} → r ≡ Is k → {g : Finding} → g ≡ foundAt 2 at k → Refused g ≡ Rest
+      frame-refused q eg = ap Refused eg ∙ sym (stopped w (celled c at) 2 at (frame f) e (omega (arith, told here (frame f) e .2)) _ (frame-cause ∙ q))
 
-      pub frame-turn : o ≡ true → run St (commands here) ≡ run (bodyState w c f (at + 5) 0 (at + 5) 0) (commands (drop (at + 5) w))
-      frame-turn q = run-frame ∙ rw (← eo, q) refl
+      pub frame-turn : r ≡ Nothing → bodyRest w c f (at + 5) 0 (at + 5) 0 (at + 5) ≡ Rest
+      unfolding stateAfter celled bodyState row
+      frame-turn q =
+          sym (turned w (celled c at) 2 at (frame f) e (omega (arith, told here (frame f) e .2)) (frame-cause ∙ q) _ refl 3 (at + 5) refl (omega (arith, told here (frame f) e .1)))

@@ -1,12 +1,9 @@
--- Commands of one kind in a row: how many, the first, one more at the end, and a test of each from the front. Assumes nothing.
-use Prim.Native.Nat.{ℕ, zero, suc, _+_, _-_, _≤_, _<_}
-use mathlib.Core.Path.{_≡_, refl, sym, ap, _∙_}
-use mathlib.Core.Bool.{Bool, true, false}
+-- Commands of one kind in a row: how many, the first, and one more at the end. Assumes nothing.
+use Prim.Native.Nat.{ℕ, zero, suc, _+_}
+use mathlib.Core.Path.{_≡_, refl, sym, ap}
 use mathlib.Core.List.{List, [], _∷_, _++_}
-use native.Mathlib.Nat.{not-suc-le-zero}
-use native.Mathlib.Numerals.{add-one, sub-one}
+use native.Mathlib.Numerals.{add-one}
 use lib.ListN.{length, drop}
-use Rattle.plan.specs.Lists.{noneOf}
 use Rattle.plan.specs.Commands.{sizeOf}
 use Rattle.plan.specs.Rows.{row, past, nextOf}
 use Rattle.plan.proofs.Reading.{drop-next}
@@ -38,36 +35,6 @@ module _ {A : Type 0} (read : List ℕ → A) where
   pub row-next : (w : List ℕ) (at n : ℕ) → row read (drop at w) (suc n) ≡ read (drop at w) ∷ row read (drop (nextOf w at) w) n
   unfolding row
   row-next w at n = ap (λ (l : List ℕ). read (drop at w) ∷ row read l n) (sym (drop-next w at))
-
-  -- x is the command at a position, r its test: whether none of the n commands from there on passes
-  module _ (test : A → Bool) (w : List ℕ) (at : ℕ) where
-    abbrev None : ℕ → Bool
-    None n = noneOf test (row read (drop at w) n)
-
-    module _ (x : A) (ex : x ≡ read (drop at w)) (r : Bool) (er : r ≡ test x) where
-      it : r ≡ test (read (drop at w))
-      it = er ∙ ap test ex
-
-      found : (n : ℕ) → r ≡ true → None (suc n) ≡ false
-      unfolding noneOf
-      found n t = rw (row-next w at n, ← it, t) refl
-
-      passed : (n : ℕ) → r ≡ false → None (suc n) ≡ noneOf test (row read (drop (nextOf w at) w) n)
-      unfolding noneOf
-      passed n t = rw (row-next w at n, ← it, t) refl
-
-      pub scan-found : (n : ℕ) → 0 < n → r ≡ true → false ≡ None n
-      scan-found zero l t = absurd (not-suc-le-zero l)
-      scan-found (suc n) l t = sym (found n t)
-
-      pub scan-passed : (n : ℕ) → 0 < n → r ≡ false → (to : ℕ) → to ≡ nextOf w at → noneOf test (row read (drop to w) (n - 1)) ≡ None n
-      scan-passed zero l t to e = absurd (not-suc-le-zero l)
-      scan-passed (suc n) l t to e = rw (sub-one, e) (sym (passed n t))
-
-    pub scan-left : (n : ℕ) → n ≤ 0 → true ≡ None n
-    unfolding row noneOf
-    scan-left zero l = refl
-    scan-left (suc n) l = absurd (not-suc-le-zero l)
 
 pub past-suc : (n : ℕ) (l : List ℕ) → past l (suc n) ≡ drop (sizeOf (past l n)) (past l n)
 unfolding past

@@ -1,4 +1,4 @@
--- One turn of the check: what the run over the commands at a position is, by the command there and its fault. Assumes nothing.
+-- One turn of the check: what the explanation from a position on is, by the command there and its cause. Assumes nothing.
 use Prim.Native.Nat.{ℕ, _+_, _-_, _*_, _≤_, _<_}
 use mathlib.Core.Path.{_≡_, refl, sym, ap, ap₂, _∙_, subst}
 use mathlib.Core.Bool.{Bool, true, false, cond}
@@ -9,12 +9,13 @@ use denote.Enum.Declared.{tagOf}
 use lib.Dec.{eqb}
 use lib.ListN.{length, drop, length-drop, drop-of-length-le}
 use lib.Seq.{drop-drop}
-use borrow.Author.Tests.{eq-eqb, ne-eqb}
+use borrow.Author.Tests.{eq-eqb, ne-eqb, eqb-true}
 use Rattle.plan.specs.Lists.{oneOf}
-use Rattle.plan.specs.Commands.{hiOf, userOf, sizeOf, commandOf, commandsAfter, commands}
-use Rattle.plan.specs.Check.{State, need, due, hiFault, userFault, fault, stateAfter, planOf, unless, run}
+use Rattle.plan.specs.Commands.{byte, hiOf, userOf, sizeOf, commandOf, commandsAfter, commands}
+use Rattle.plan.specs.Check.{State, due, stateAfter, planOf}
+use Rattle.plan.specs.Finding.{demand, hiCause, userCause, commandBytes, brokenCause, inOrder, fieldCause, causeAt, causeOf, foundAt, refusedAt, stopAt, findingFrom}
 use Rattle.plan.specs.Rows.{row, past, nextOf, hisFrom, usersFrom}
-use Rattle.plan.specs.Loops.{bodyState, stateOf, EndDue}
+use Rattle.plan.specs.Loops.{bodyState, restFrom, bodyRest, planRest, lateFor, lateCause, EndDue}
 use Rattle.plan.specs.declared.Cell.{Cell}
 use Rattle.plan.specs.declared.Frame.{Frame}
 use Rattle.plan.specs.declared.Hi.{Hi}
@@ -23,33 +24,71 @@ use Rattle.plan.specs.declared.Row.{Row}
 use Rattle.plan.specs.declared.Plan.{Plan}
 use Rattle.plan.specs.declared.Command.{Command}
 use Rattle.plan.specs.declared.Command.the-variants.{Cell as cell, Frame as frame, Hi as hi, User as user, End as end, Broken as broken}
-use Rattle.plan.specs.declared.Refusal.{Refusal}
-use Rattle.plan.specs.declared.Refusal.the-variants.{Unreadable, Order}
-use Rattle.plan.specs.declared.Fault.{Fault}
-use Rattle.plan.specs.declared.Fault.the-variants.{Nothing, Is}
-use Rattle.plan.specs.declared.Checked.{Checked}
-use Rattle.plan.specs.declared.Checked.the-variants.{Plan as accepted, Refused as refused}
+use Rattle.plan.specs.declared.Cause.{Cause}
+use Rattle.plan.specs.declared.Cause.the-variants.{Unknown, CutOff, NoEnd, OutOfOrder, AfterEnd}
+use Rattle.plan.specs.declared.Reason.{Reason}
+use Rattle.plan.specs.declared.Reason.the-variants.{Nothing, Is}
+use Rattle.plan.specs.declared.Finding.{Finding}
+use Rattle.plan.specs.declared.Explained.{Explained}
+use Rattle.plan.specs.declared.Explained.the-variants.{Accepted, Refused}
 use Rattle.plan.proofs.Command.{the-type}
 use Rattle.plan.proofs.OneOf.{not-in}
 use Rattle.plan.proofs.Entries.{told, next}
 use Rattle.plan.proofs.Reading.{next-in, drop-next}
 use Rattle.plan.proofs.RowLaws.{row-length, row-none, row-more, past-more, past-none}
-use Rattle.plan.proofs.Kept.{no-user}
+use Rattle.plan.proofs.CauseLaws.{passed}
 
--- ---- any state
-module _ (st : State) (l : List ℕ) where
-  -- the run at a command that is there
-  pub run-at : (x : Command) → commandOf l ≡ x → 0 < length l → run st (commands l) ≡ unless (fault st x) (run (stateAfter st x) (commands (drop (sizeOf l) l)))
-  unfolding run
-  run-at x e h = rw (next l h, e) refl
+-- ---- any state: the explanation from command number n on, at position at
+module _ (w : List ℕ) (st : State) (n at : ℕ) (x : Command) (e : commandOf (drop at w) ≡ x) (h : 0 < length (drop at w)) where
+  abbrev there : List ℕ
+  there = drop at w
 
-  pub refused-at : (x : Command) (r : Refusal) → commandOf l ≡ x → 0 < length l → fault st x ≡ Is r → run st (commands l) ≡ refused r
-  refused-at x r e h q = run-at x e h ∙ rw q refl
+  opened : restFrom w st n at ≡ stopAt (causeOf st there x) n at (findingFrom w (stateAfter st x) (n + 1) (at + sizeOf there) (commands (drop (sizeOf there) there)))
+  unfolding findingFrom
+  opened = rw (next there h, e) refl
 
-pub run-broken : (st : State) (l : List ℕ) → eqb (st .stage) 4 ≡ false → commandOf l ≡ broken → run st (commands l) ≡ refused Unreadable
-unfolding run commandsAfter fault
-run-broken st [] q e = rw q refl
-run-broken st (b ∷ l) q e = refused-at st (b ∷ l) broken Unreadable e (omega arith) (rw q refl)
+  pub stopped : (k : Cause) → causeOf st there x ≡ Is k → restFrom w st n at ≡ refusedAt n at k
+  stopped k q = opened ∙ rw q refl
+
+  pub turned : causeOf st there x ≡ Nothing → (s : State) → stateAfter st x ≡ s → (m to : ℕ) → n + 1 ≡ m → at + sizeOf there ≡ to → restFrom w st n at ≡ restFrom w s m to
+  turned q s es m to em et = opened ∙ rw (q, es, em, drop-drop (sizeOf there) at w, et) refl
+
+-- a command that is not due, or that is missing, before END
+abbrev pub fits : ℕ → Command → Bool
+fits stage (cell c) = eqb stage 0
+fits stage (frame f) = eqb stage 1
+fits stage (hi h) = eqb stage 2
+fits stage (user u) = due stage
+fits stage end = due stage
+fits stage broken = false
+
+module _ (st : State) (q : eqb (st .stage) 4 ≡ false) where
+  late-is : (l : List ℕ) (x : Command) → fits (st .stage) x ≡ false → causeOf st l x ≡ Is (lateFor l x)
+  unfolding causeAt inOrder fieldCause brokenCause
+  late-is l (cell y) f = rw (q, f) refl
+  late-is l (frame y) f = rw (q, f) refl
+  late-is l (hi y) f = rw (q, f) refl
+  late-is l (user y) f = rw (q, f) refl
+  late-is l end f = rw (q, f) refl
+  late-is l broken f = rw q (by (oneOf (byte l 0) commandBytes))
+    where
+      by : (t : Bool) → demand t Unknown (Is CutOff) ≡ Is (cond t CutOff Unknown)
+      by true = refl
+      by false = refl
+
+  module _ (w : List ℕ) (n at : ℕ) where
+    missing : drop at w ≡ [] → restFrom w st n at ≡ refusedAt n at NoEnd
+    unfolding findingFrom commandsAfter
+    missing e = rw (e, q) refl
+
+    by-bytes : (l : List ℕ) → drop at w ≡ l → (x : Command) → commandOf l ≡ x → fits (st .stage) x ≡ false → restFrom w st n at ≡ refusedAt n at (lateCause l)
+    unfolding lateCause
+    by-bytes [] e x ex f = missing e
+    by-bytes (b ∷ l) e x ex f =
+        stopped w st n at x (rw e ex) (rw e (omega arith)) (lateFor (b ∷ l) (commandOf (b ∷ l))) (late-is (drop at w) x f ∙ rw (e, ← ex) refl)
+
+    pub late : (x : Command) → commandOf (drop at w) ≡ x → fits (st .stage) x ≡ false → restFrom w st n at ≡ refusedAt n at (lateCause (drop at w))
+    late x e f = by-bytes (drop at w) refl x e f
 
 -- ---- the stage among the HIs and the USERs
 stage-hi : (t : Bool) → eqb (cond t 2 3) 2 ≡ t
@@ -60,15 +99,15 @@ stage-due : (t : Bool) → due (cond t 2 3) ≡ true
 stage-due true = refl
 stage-due false = refl
 
-stage-first : (t : Bool) → eqb (cond t 2 3) 0 ≡ false
+pub stage-first : (t : Bool) → eqb (cond t 2 3) 0 ≡ false
 stage-first true = refl
 stage-first false = refl
 
-stage-second : (t : Bool) → eqb (cond t 2 3) 1 ≡ false
+pub stage-second : (t : Bool) → eqb (cond t 2 3) 1 ≡ false
 stage-second true = refl
 stage-second false = refl
 
-stage-last : (t : Bool) → eqb (cond t 2 3) 4 ≡ false
+pub stage-last : (t : Bool) → eqb (cond t 2 3) 4 ≡ false
 stage-last true = refl
 stage-last false = refl
 
@@ -104,20 +143,26 @@ module _ (w : List ℕ) (c : Cell) (f : Frame) (start n mid m at : ℕ) where
   abbrev St : State
   St = bodyState w c f start n mid m
 
-  abbrev HiF : Hi → Fault
-  HiF h = need (eqb m 0) Order (hiFault c (hisFrom (drop start w) n) h)
+  abbrev Rest : Explained
+  Rest = bodyRest w c f start n mid m at
 
-  abbrev UserF : User → Fault
-  UserF u = userFault c (usersFrom (drop mid w) m) u
+  abbrev HiC : Hi → Reason
+  HiC h = demand (eqb m 0) OutOfOrder (hiCause c (hisFrom (drop start w) n) h)
+
+  abbrev UserC : User → Reason
+  UserC u = userCause c (usersFrom (drop mid w) m) u
 
   -- ---- an HI
   module _ (h : Hi) (e : commandOf here ≡ hi h) where
-    run-hi : run St (commands here) ≡ unless (HiF h) (run (stateAfter St (hi h)) (commands (drop (sizeOf here) here)))
-    unfolding bodyState fault
-    run-hi = run-at St here (hi h) e (omega (arith, told here (hi h) e .2)) ∙ rw stage-hi refl
+    hi-some : 0 < length here
+    hi-some = omega (arith, told here (hi h) e .2)
 
-    pub hi-refused : (r : Refusal) → Is r ≡ HiF h → run St (commands here) ≡ refused r
-    hi-refused r q = run-hi ∙ rw (← q) refl
+    hi-cause : causeOf St here (hi h) ≡ HiC h
+    unfolding bodyState causeAt inOrder fieldCause
+    hi-cause = rw (stage-last, stage-hi) refl
+
+    pub hi-refused : (k : Cause) → Is k ≡ HiC h → Rest ≡ refusedAt (n + m + 3) at k
+    hi-refused k q = stopped w St (n + m + 3) at (hi h) e hi-some k (hi-cause ∙ sym q)
 
     pub hi-next : nextOf w at ≡ at + 3
     hi-next = sym (next-in w at 3 (sym (told here (hi h) e .1)) (omega (arith, told here (hi h) e .2, length-drop at w)))
@@ -126,9 +171,9 @@ module _ (w : List ℕ) (c : Cell) (f : Frame) (start n mid m at : ℕ) where
       pub hi-room : at + 3 ≤ length w
       hi-room = omega (arith, told here (hi h) e .2, length-drop at w)
 
-      module _ (q : Nothing ≡ HiF h) (to : ℕ) (et : to ≡ nextOf w at) where
+      module _ (q : Nothing ≡ HiC h) (to : ℕ) (et : to ≡ nextOf w at) where
         none : m ≡ 0
-        none = no-user c (hisFrom (drop start w) n) h m q
+        none = eqb-true m 0 (passed (eqb m 0) OutOfOrder _ q .0)
 
         at-mid : here ≡ drop mid w
         at-mid = g .users-end ∙ past-none m (drop mid w) none
@@ -167,17 +212,22 @@ module _ (w : List ℕ) (c : Cell) (f : Frame) (start n mid m at : ℕ) where
             ap (λ (x : ℕ). made x c f start (hisFrom (drop start w) n ++ (h ∷ [])) (usersFrom (drop mid w) m)) k
             ∙ ap₂ (made (cond (eqb m 0) 2 3) c f start) more-his (row-none userOf (drop mid w) (drop (mid + 3) w) m none)
 
-        pub hi-turn : run St (commands here) ≡ run (bodyState w c f start (n + 1) (mid + 3) m) (commands (drop to w))
-        hi-turn = run-hi ∙ rw (← q, after-hi, here-next, to-mid) refl
+        pub hi-turn : Rest ≡ bodyRest w c f start (n + 1) (mid + 3) m to
+        hi-turn =
+            turned w St (n + m + 3) at (hi h) e hi-some (hi-cause ∙ sym q) _ after-hi (n + 1 + m + 3) to (omega arith)
+            (omega (arith, et, hi-next, told here (hi h) e .1))
 
   -- ---- a USER
   module _ (u : User) (e : commandOf here ≡ user u) where
-    run-user : run St (commands here) ≡ unless (UserF u) (run (stateAfter St (user u)) (commands (drop (sizeOf here) here)))
-    unfolding bodyState fault
-    run-user = run-at St here (user u) e (omega (arith, told here (user u) e .1, told here (user u) e .2)) ∙ rw stage-due refl
+    user-some : 0 < length here
+    user-some = omega (arith, told here (user u) e .1, told here (user u) e .2)
 
-    pub user-refused : (r : Refusal) → Is r ≡ UserF u → run St (commands here) ≡ refused r
-    user-refused r q = run-user ∙ rw (← q) refl
+    user-cause : causeOf St here (user u) ≡ UserC u
+    unfolding bodyState causeAt inOrder fieldCause
+    user-cause = rw (stage-last, stage-due) refl
+
+    pub user-refused : (k : Cause) → Is k ≡ UserC u → Rest ≡ refusedAt (n + m + 3) at k
+    user-refused k q = stopped w St (n + m + 3) at (user u) e user-some k (user-cause ∙ sym q)
 
     pub user-next : nextOf w at ≡ at + sizeOf here
     user-next = sym (next-in w at (sizeOf here) refl (omega (arith, told here (user u) e .1, told here (user u) e .2, length-drop at w)))
@@ -214,85 +264,64 @@ module _ (w : List ℕ) (c : Cell) (f : Frame) (start n mid m at : ℕ) where
             let k : _≡_ {A = ℕ} 3 (cond (eqb (m + 1) 0) 2 3) = rw (ne-eqb (m + 1) 0 (λ z. omega arith)) refl in
             ap₂ (λ (x : ℕ) (us : List User). made x c f start (hisFrom (drop start w) n) us) k more-users
 
-        pub user-turn : Nothing ≡ UserF u → run St (commands here) ≡ run (bodyState w c f start n mid (m + 1)) (commands (drop to w))
-        user-turn q = run-user ∙ rw (← q, after-user, ← to-next) refl
+        pub user-turn : Nothing ≡ UserC u → Rest ≡ bodyRest w c f start n mid (m + 1) to
+        user-turn q =
+            turned w St (n + m + 3) at (user u) e user-some (user-cause ∙ sym q) _ after-user (n + (m + 1) + 3) to (omega arith) (sym (et ∙ user-next))
 
   -- ---- END
   module _ (e : commandOf here ≡ end) where
     pub end-room : at < length w
     end-room = omega (arith, told here end e .2, length-drop at w)
 
-    pub end-turn : run St (commands here) ≡ run (stateAfter St end) (commands (drop (at + 1) w))
-    unfolding bodyState fault
-    end-turn = run-at St here end e (omega (arith, told here end e .2)) ∙ rw (stage-due, told here end e .1, drop-drop) refl
+    end-cause : causeOf St here end ≡ Nothing
+    unfolding bodyState causeAt inOrder fieldCause
+    end-cause = rw (stage-last, stage-due) refl
 
-  -- ---- a second CELL or FRAME; a broken command
-  pub late-cell : (y : Cell) → commandOf here ≡ cell y → run St (commands here) ≡ refused Order
-  unfolding bodyState fault
-  late-cell y e = refused-at St here (cell y) Order e (omega (arith, told here (cell y) e .2)) (rw stage-first refl)
+    pub end-turn : Rest ≡ restFrom w (stateAfter St end) (n + m + 3 + 1) (at + 1)
+    end-turn =
+        turned w St (n + m + 3) at end e (omega (arith, told here end e .2)) end-cause _ refl _ (at + 1) refl (omega (arith, told here end e .1))
 
-  pub late-frame : (y : Frame) → commandOf here ≡ frame y → run St (commands here) ≡ refused Order
-  unfolding bodyState fault
-  late-frame y e = refused-at St here (frame y) Order e (omega (arith, told here (frame y) e .2)) (rw stage-second refl)
+-- ---- after END: a command, or none
+module _ (w : List ℕ) (c : Cell) (f : Frame) (his users : Row) (k to : ℕ) where
+  abbrev Ended : State
+  Ended = stateAfter (bodyState w c f (his .at) (his .count) (users .at) (users .count)) end
 
-  pub body-broken : commandOf here ≡ broken → run St (commands here) ≡ refused Unreadable
-  unfolding bodyState
-  body-broken e = run-broken St here (stage-last (eqb m 0)) e
+  pub not-last : to < length w → restFrom w Ended k to ≡ refusedAt k to AfterEnd
+  unfolding causeAt stateAfter
+  not-last h = stopped w Ended k to (commandOf (drop to w)) refl (omega (arith, length-drop to w)) AfterEnd refl
 
--- ---- after END every command is out of order
-ended-fault : (st : State) (x : Command) → fault (stateAfter st end) x ≡ Is Order
-unfolding fault stateAfter
-ended-fault st (cell y) = refl
-ended-fault st (frame y) = refl
-ended-fault st (hi y) = refl
-ended-fault st (user y) = refl
-ended-fault st end = refl
-ended-fault st broken = refl
-
-module _ (w : List ℕ) (c : Cell) (f : Frame) (his users : Row) (to : ℕ) where
-  abbrev Body : State
-  Body = bodyState w c f (his .at) (his .count) (users .at) (users .count)
-
-  pub not-last : to < length w → refused Order ≡ run (stateAfter Body end) (commands (drop to w))
-  not-last h =
-      sym (refused-at (stateAfter Body end) (drop to w) (commandOf (drop to w)) Order refl (omega (arith, length-drop to w)) (ended-fault Body (commandOf (drop to w))))
-
-  pub last : users .at ≡ his .at + 3 * his .count → length w ≤ to → accepted (record { cell = c; frame = f; his = his; users = users }) ≡ run (stateAfter Body end) (commands (drop to w))
-  unfolding run commandsAfter planOf bodyState stateAfter
+  pub last : users .at ≡ his .at + 3 * his .count → length w ≤ to → restFrom w Ended k to ≡ Accepted (record { cell = c; frame = f; his = his; users = users })
+  unfolding findingFrom commandsAfter planOf bodyState stateAfter
   last e h =
       rw (drop-of-length-le w h, row-length hiOf (drop (his .at) w) (his .count), row-length userOf (drop (users .at) w) (users .count), ← e) refl
 
 -- ---- where END is due
 module _ {w : List ℕ} {p : Plan} {at : ℕ} (d : EndDue w p at) where
-  abbrev Rest : Checked
-  Rest = run (stateOf w p) (commands (drop at w))
+  abbrev n : ℕ
+  n = p .his .count + p .users .count + 3
+
+  abbrev Due : State
+  Due = bodyState w (p .cell) (p .frame) (p .his .at) (p .his .count) (p .users .at) (p .users .count)
 
   module _ (e : commandOf (drop at w) ≡ end) where
-    pub end-fits : at + 1 ≤ length w
-    end-fits = omega (arith, told (drop at w) end e .2, length-drop at w)
-
-    turn : Rest ≡ run (stateAfter (stateOf w p) end) (commands (drop (at + 1) w))
+    turn : planRest w p at ≡ restFrom w (stateAfter Due end) (n + 1) (at + 1)
     turn = end-turn w (p .cell) (p .frame) (p .his .at) (p .his .count) (p .users .at) (p .users .count) at e
 
-    pub end-more : at + 1 < length w → refused Order ≡ Rest
-    end-more l = not-last w (p .cell) (p .frame) (p .his) (p .users) (at + 1) l ∙ sym turn
+    pub end-more : at + 1 < length w → {g : Finding} → g ≡ foundAt (n + 1) (at + 1) AfterEnd → Refused g ≡ planRest w p at
+    end-more l eg = ap Refused eg ∙ sym (turn ∙ not-last w (p .cell) (p .frame) (p .his) (p .users) (n + 1) (at + 1) l)
 
-    pub end-last : length w ≤ at + 1 → accepted p ≡ Rest
-    end-last l = last w (p .cell) (p .frame) (p .his) (p .users) (at + 1) (d .mid-at) l ∙ sym turn
+    pub end-last : length w ≤ at + 1 → Accepted p ≡ planRest w p at
+    end-last l = sym (turn ∙ last w (p .cell) (p .frame) (p .his) (p .users) (n + 1) (at + 1) (d .mid-at) l)
 
-  pub end-broken : commandOf (drop at w) ≡ broken → refused Unreadable ≡ Rest
-  end-broken e = sym (body-broken w (p .cell) (p .frame) (p .his .at) (p .his .count) (p .users .at) (p .users .count) at e)
-
-  pub end-late : {x : Command} → commandOf (drop at w) ≡ x → OneOf (0 ∷ 1 ∷ 2 ∷ 3 ∷ []) (tagOf the-type x) → refused Order ≡ Rest
-  unfolding oneOf
-  end-late {x} e h = sym (by x e h)
+  pub end-late : {x : Command} → commandOf (drop at w) ≡ x → OneOf (0 ∷ 1 ∷ 2 ∷ 3 ∷ 5 ∷ []) (tagOf the-type x) →
+      {k : Cause} → k ≡ lateCause (drop at w) → {g : Finding} → g ≡ foundAt n at k → Refused g ≡ planRest w p at
+  unfolding oneOf bodyState
+  end-late {x} e h ek eg = ap Refused eg ∙ ap (refusedAt n at) ek ∙ sym (late Due (stage-last (eqb (p .users .count) 0)) w n at x e (by x e h))
     where
-      by : (x : Command) → commandOf (drop at w) ≡ x → OneOf (0 ∷ 1 ∷ 2 ∷ 3 ∷ []) (tagOf the-type x) → Rest ≡ refused Order
-      by (cell y) e h = late-cell w (p .cell) (p .frame) (p .his .at) (p .his .count) (p .users .at) (p .users .count) at y e
-      by (frame y) e h = late-frame w (p .cell) (p .frame) (p .his .at) (p .his .count) (p .users .at) (p .users .count) at y e
-      by (hi y) e h =
-          hi-refused w (p .cell) (p .frame) (p .his .at) (p .his .count) (p .users .at) (p .users .count) at y e Order
-          (rw (ne-eqb (p .users .count) 0 (λ z. d .no-hi z y e)) refl)
+      by : (x : Command) → commandOf (drop at w) ≡ x → OneOf (0 ∷ 1 ∷ 2 ∷ 3 ∷ 5 ∷ []) (tagOf the-type x) → fits (Due .stage) x ≡ false
+      by (cell y) e h = stage-first (eqb (p .users .count) 0)
+      by (frame y) e h = stage-second (eqb (p .users .count) 0)
+      by (hi y) e h = stage-hi (eqb (p .users .count) 0) ∙ ne-eqb (p .users .count) 0 (λ z. d .no-hi z y e)
       by (user y) e h = absurd (d .no-user y e)
-      by end e h = absurd (not-in (0 ∷ 1 ∷ 2 ∷ 3 ∷ []) 4 h refl)
-      by broken e h = absurd (not-in (0 ∷ 1 ∷ 2 ∷ 3 ∷ []) 5 h refl)
+      by end e h = absurd (not-in (0 ∷ 1 ∷ 2 ∷ 3 ∷ 5 ∷ []) 4 h refl)
+      by broken e h = refl

@@ -1,18 +1,17 @@
 -- THE LAW OF THE PLAN CHECK, for the crates above: what it answers with a plan for, is valid. Assumes nothing.
 use Prim.Native.Nat.{ℕ, zero, suc, _+_, _≤_, _<_}
 use mathlib.Core.Path.{_≡_, refl, sym, ap, _∙_, subst}
-use mathlib.Core.Bool.{Bool, true, false}
-use mathlib.Core.Logic.{inl, inr}
+use mathlib.Core.Bool.{Bool, true, false, cond}
 use mathlib.Core.List.{List, [], _∷_}
 use native.Mathlib.Omega.{arith}
 use lib.Dec.{ltb, eqb}
 use lib.ListN.{length, drop, length-drop}
 use borrow.Author.Tests.{ltb-true, ltb-false}
-use Rattle.plan.specs.Fields.{cellOk, frameOk}
-use Rattle.plan.specs.Commands.{byte, hiOf, userOf, commandOf, commands}
-use Rattle.plan.specs.Check.{need, hiFault, userFault, stateAfter, run, checkOf}
+use Rattle.plan.specs.Commands.{byte, hiOf, userOf, commandOf}
+use Rattle.plan.specs.Check.{State, begin, stateAfter, checkOf}
+use Rattle.plan.specs.Finding.{demand, cellCause, frameCause, hiCause, userCause, findingOf}
 use Rattle.plan.specs.Rows.{nextOf, hisFrom, usersFrom, hisOf, usersOf}
-use Rattle.plan.specs.Loops.{celled, bodyState}
+use Rattle.plan.specs.Loops.{celled, bodyState, restFrom, bodyRest}
 use Rattle.plan.specs.Valid.{CellIn, FrameIn, Valid}
 use Rattle.plan.specs.declared.Cell.{Cell}
 use Rattle.plan.specs.declared.Frame.{Frame}
@@ -21,24 +20,33 @@ use Rattle.plan.specs.declared.User.{User}
 use Rattle.plan.specs.declared.Plan.{Plan}
 use Rattle.plan.specs.declared.Command.{Command}
 use Rattle.plan.specs.declared.Command.the-variants.{Cell as cell, Frame as frame, Hi as hi, User as user, End as end, Broken as broken}
-use Rattle.plan.specs.declared.Refusal.{Refusal}
-use Rattle.plan.specs.declared.Refusal.the-variants.{Order}
-use Rattle.plan.specs.declared.Fault.{Fault}
-use Rattle.plan.specs.declared.Fault.the-variants.{Nothing, Is}
-use Rattle.plan.specs.declared.Checked.{Checked}
-use Rattle.plan.specs.declared.Checked.the-variants.{Plan as accepted, Refused as refused}
+use Rattle.plan.specs.declared.Cause.the-variants.{OutOfOrder}
+use Rattle.plan.specs.declared.Reason.{Reason}
+use Rattle.plan.specs.declared.Reason.the-variants.{Nothing, Is}
+use Rattle.plan.specs.declared.Finding.{Finding}
+use Rattle.plan.specs.declared.Explained.{Explained}
+use Rattle.plan.specs.declared.Explained.the-variants.{Accepted, Refused}
+use Rattle.plan.specs.declared.Checked.the-variants.{Plan as accepted}
 use Rattle.plan.proofs.Entries.{told}
 use Rattle.plan.proofs.Reading.{gone}
 use Rattle.plan.proofs.RowLaws.{row-length}
-use Rattle.plan.proofs.Kept.{cell-in, frame-in, Kept, kept-first, kept-hi, kept-user}
-use Rattle.plan.proofs.Turns.{Standing, standing-first, on-no-lists, hi-refused, standing-hi, on-more-his, hi-next, hi-turn, user-refused, standing-user, on-more-users, user-next, user-turn, end-room, end-turn, late-cell, late-frame, body-broken, not-last, last}
-use Rattle.plan.proofs.Opening.{first-broken, late-first, cell-refused, cell-turn, second-broken, late-second, frame-room, frame-refused, frame-turn}
+use Rattle.plan.proofs.Kept.{Kept, kept-first, kept-hi, kept-user}
+use Rattle.plan.proofs.CauseLaws.{passed, cell-in, frame-in}
+use Rattle.plan.proofs.Verdict.{accepted-both}
+use Rattle.plan.proofs.Turns.{fits, late, stage-first, stage-second, stage-last, Standing, standing-first, on-no-lists, end-room, end-turn, not-last, last}
+use Rattle.plan.proofs.Turns.{hi-refused, standing-hi, on-more-his, hi-next, hi-turn, user-refused, standing-user, on-more-users, user-next, user-turn}
+use Rattle.plan.proofs.Opening.{cell-refused, cell-turn, frame-room, frame-refused, frame-turn}
 
 -- ---- answers
-not-both : (a : Checked) (r : Refusal) (p : Plan) → a ≡ refused r → a ≡ accepted p → ⊥
-not-both a r p e q = let z : _≡_ {A = ℕ} 0 1 = cc in omega arith
+not-both : {a : Explained} {g : Finding} {p : Plan} → a ≡ Refused g → a ≡ Accepted p → ⊥
+not-both e q = let z : _≡_ {A = ℕ} 0 1 = cc in omega arith
 
-same-plan : (a b : Plan) → accepted a ≡ accepted b → a ≡ b
+-- a command that is not due
+not-due : (st : State) → eqb (st .stage) 4 ≡ false → (w : List ℕ) (n at : ℕ) (x : Command) → commandOf (drop at w) ≡ x → fits (st .stage) x ≡ false →
+    {p : Plan} → restFrom w st n at ≡ Accepted p → Valid w p
+not-due st q w n at x e t r = absurd (not-both (late st q w n at x e t) r)
+
+same-plan : (a b : Plan) → Accepted a ≡ Accepted b → a ≡ b
 same-plan a b e = cc
 
 one-byte : (l : List ℕ) → length l ≡ 1 → byte l 0 ≡ 0 → l ≡ 0 ∷ []
@@ -55,7 +63,7 @@ module _ (w : List ℕ) (p : Plan) (c : Cell) (f : Frame) (ci : CellIn c) (fi : 
   Users mid m = usersFrom (drop mid w) m
 
   abbrev Runs : ℕ → ℕ → ℕ → ℕ → Type 0
-  Runs n mid m at = run (bodyState w c f start n mid m) (commands (drop at w)) ≡ accepted p
+  Runs n mid m at = bodyRest w c f start n mid m at ≡ Accepted p
 
   record Good (n mid m at : ℕ) : Type 0 where
     standing : Standing w start n mid m at
@@ -65,30 +73,31 @@ module _ (w : List ℕ) (p : Plan) (c : Cell) (f : Frame) (ci : CellIn c) (fi : 
   Rest k = (n mid m at : ℕ) → length w ≤ at + k → Good n mid m at → Runs n mid m at → Valid w p
 
   -- one more HI, one more USER
-  more-hi : (n mid m at : ℕ) → Good n mid m at → (h : Hi) → commandOf (drop at w) ≡ hi h → Nothing ≡ need (eqb m 0) Order (hiFault c (His n) h) → Good (n + 1) (mid + 3) m (nextOf w at)
+  more-hi : (n mid m at : ℕ) → Good n mid m at → (h : Hi) → commandOf (drop at w) ≡ hi h → Nothing ≡ demand (eqb m 0) OutOfOrder (hiCause c (His n) h) → Good (n + 1) (mid + 3) m (nextOf w at)
   more-hi n mid m at g h e q =
       record {
         standing = standing-hi w c f start n mid m at h e (g .standing) q (nextOf w at) refl;
-        kept = on-more-his w c f start n mid m at h e (g .standing) q (nextOf w at) refl (Kept c) (kept-hi (g .kept) h m q);
+        kept = on-more-his w c f start n mid m at h e (g .standing) q (nextOf w at) refl (Kept c) (kept-hi (g .kept) h (passed (eqb m 0) OutOfOrder _ q .1));
       }
 
-  more-user : (n mid m at : ℕ) → Good n mid m at → (u : User) → commandOf (drop at w) ≡ user u → Nothing ≡ userFault c (Users mid m) u → Good n mid (m + 1) (nextOf w at)
+  more-user : (n mid m at : ℕ) → Good n mid m at → (u : User) → commandOf (drop at w) ≡ user u → Nothing ≡ userCause c (Users mid m) u → Good n mid (m + 1) (nextOf w at)
   more-user n mid m at g u e q =
       record {
         standing = standing-user w c f start n mid m at u e (g .standing) (nextOf w at) refl;
         kept = on-more-users w c f start n mid m at u e (g .standing) (nextOf w at) refl (Kept c (His n)) (kept-user (g .kept) u q);
       }
 
-  at-end : (n mid m at : ℕ) (t : Bool) → ltb (at + 1) (length w) ≡ t → Good n mid m at → commandOf (drop at w) ≡ end → run (stateAfter (bodyState w c f start n mid m) end) (commands (drop (at + 1) w)) ≡ accepted p → Valid w p
+  at-end : (n mid m at : ℕ) (t : Bool) → ltb (at + 1) (length w) ≡ t → Good n mid m at → commandOf (drop at w) ≡ end →
+      restFrom w (stateAfter (bodyState w c f start n mid m) end) (n + m + 3 + 1) (at + 1) ≡ Accepted p → Valid w p
   unfolding hisOf usersOf
   at-end n mid m at true l g e r =
-      absurd (not-both _ _ p (sym (not-last w c f (record { at = start; count = n }) (record { at = mid; count = m }) (at + 1) (ltb-true _ _ l))) r)
+      absurd (not-both (not-last w c f (record { at = start; count = n }) (record { at = mid; count = m }) _ (at + 1) (ltb-true _ _ l)) r)
   at-end n mid m at false l g e r =
       let s = g .standing in
       let room : at < length w = end-room w c f start n mid m at e in
       let one : length (drop at w) ≡ 1 = omega (arith, length-drop at w, ltb-false (at + 1) (length w) l) in
       subst (λ (x : Plan). Valid w x)
-      (same-plan _ p (last w c f (record { at = start; count = n }) (record { at = mid; count = m }) (at + 1) (s .mid-at) (ltb-false _ _ l) ∙ r))
+      (same-plan _ p (sym (last w c f (record { at = start; count = n }) (record { at = mid; count = m }) _ (at + 1) (s .mid-at) (ltb-false _ _ l)) ∙ r))
       (record {
         cell = ci;
         frame = fi;
@@ -103,30 +112,36 @@ module _ (w : List ℕ) (p : Plan) (c : Cell) (f : Frame) (ci : CellIn c) (fi : 
         ends = sym (s .users-end) ∙ one-byte (drop at w) one (told (drop at w) end e .0);
       })
 
-  at-hi : (k n mid m at : ℕ) → Rest k → length w ≤ at + suc k → Good n mid m at → (h : Hi) → commandOf (drop at w) ≡ hi h → (q : Fault) → q ≡ need (eqb m 0) Order (hiFault c (His n) h) → Runs n mid m at → Valid w p
-  at-hi k n mid m at ih l g h e (Is y) q r = absurd (not-both _ y p (hi-refused w c f start n mid m at h e y q) r)
+  at-hi : (k n mid m at : ℕ) → Rest k → length w ≤ at + suc k → Good n mid m at → (h : Hi) → commandOf (drop at w) ≡ hi h →
+      (q : Reason) → q ≡ demand (eqb m 0) OutOfOrder (hiCause c (His n) h) → Runs n mid m at → Valid w p
+  at-hi k n mid m at ih l g h e (Is y) q r = absurd (not-both (hi-refused w c f start n mid m at h e y q) r)
   at-hi k n mid m at ih l g h e Nothing q r =
       ih (n + 1) (mid + 3) m (nextOf w at) (omega (arith, hi-next w c f start n mid m at h e)) (more-hi n mid m at g h e q)
       (sym (hi-turn w c f start n mid m at h e (g .standing) q (nextOf w at) refl) ∙ r)
 
-  at-user : (k n mid m at : ℕ) → Rest k → length w ≤ at + suc k → Good n mid m at → (u : User) → commandOf (drop at w) ≡ user u → (q : Fault) → q ≡ userFault c (Users mid m) u → Runs n mid m at → Valid w p
-  at-user k n mid m at ih l g u e (Is y) q r = absurd (not-both _ y p (user-refused w c f start n mid m at u e y q) r)
+  at-user : (k n mid m at : ℕ) → Rest k → length w ≤ at + suc k → Good n mid m at → (u : User) → commandOf (drop at w) ≡ user u →
+      (q : Reason) → q ≡ userCause c (Users mid m) u → Runs n mid m at → Valid w p
+  at-user k n mid m at ih l g u e (Is y) q r = absurd (not-both (user-refused w c f start n mid m at u e y q) r)
   at-user k n mid m at ih l g u e Nothing q r =
       ih n mid (m + 1) (nextOf w at) (omega (arith, user-next w c f start n mid m at u e, told (drop at w) (user u) e .1)) (more-user n mid m at g u e q)
       (sym (user-turn w c f start n mid m at u e (g .standing) (nextOf w at) refl q) ∙ r)
 
+  never : (n mid m at : ℕ) (x : Command) → commandOf (drop at w) ≡ x → fits (cond (eqb m 0) 2 3) x ≡ false → Runs n mid m at → Valid w p
+  unfolding bodyState
+  never n mid m at x e t r = not-due (bodyState w c f start n mid m) (stage-last (eqb m 0)) w (n + m + 3) at x e t r
+
   turn : (k n mid m at : ℕ) → Rest k → length w ≤ at + suc k → Good n mid m at → (x : Command) → commandOf (drop at w) ≡ x → Runs n mid m at → Valid w p
-  turn k n mid m at ih l g (cell y) e r = absurd (not-both _ _ p (late-cell w c f start n mid m at y e) r)
-  turn k n mid m at ih l g (frame y) e r = absurd (not-both _ _ p (late-frame w c f start n mid m at y e) r)
-  turn k n mid m at ih l g (hi h) e r = at-hi k n mid m at ih l g h e (need (eqb m 0) Order (hiFault c (His n) h)) refl r
-  turn k n mid m at ih l g (user u) e r = at-user k n mid m at ih l g u e (userFault c (Users mid m) u) refl r
+  turn k n mid m at ih l g (cell y) e r = never n mid m at (cell y) e (stage-first (eqb m 0)) r
+  turn k n mid m at ih l g (frame y) e r = never n mid m at (frame y) e (stage-second (eqb m 0)) r
+  turn k n mid m at ih l g (hi h) e r = at-hi k n mid m at ih l g h e (demand (eqb m 0) OutOfOrder (hiCause c (His n) h)) refl r
+  turn k n mid m at ih l g (user u) e r = at-user k n mid m at ih l g u e (userCause c (Users mid m) u) refl r
   turn k n mid m at ih l g end e r = at-end n mid m at (ltb (at + 1) (length w)) refl g e (sym (end-turn w c f start n mid m at e) ∙ r)
-  turn k n mid m at ih l g broken e r = absurd (not-both _ _ p (body-broken w c f start n mid m at e) r)
+  turn k n mid m at ih l g broken e r = never n mid m at broken e refl r
 
   rest : (k : ℕ) → Rest k
   rest zero n mid m at l g r =
       let z : length w ≤ at = omega arith in
-      absurd (not-both _ _ p (body-broken w c f start n mid m at (sym (gone w at z))) r)
+      never n mid m at broken (sym (gone w at z)) refl r
   rest (suc k) n mid m at l g r = turn k n mid m at (rest k) l g (commandOf (drop at w)) refl r
 
   from-frame : start ≤ length w → Runs 0 start 0 start → Valid w p
@@ -137,31 +152,33 @@ module _ (w : List ℕ) (p : Plan) (c : Cell) (f : Frame) (ci : CellIn c) (fi : 
 
 -- ---- CELL and FRAME
 module _ (w : List ℕ) (p : Plan) where
-  by-frame : (c : Cell) (at : ℕ) (f : Frame) → CellIn c → commandOf (drop at w) ≡ frame f → (t : Bool) → t ≡ frameOk f → run (celled c at) (commands (drop at w)) ≡ accepted p → Valid w p
-  by-frame c at f ci e true o r =
-      from-frame w p c f ci (frame-in f (sym o)) (at + 5) (frame-room w c at f e) (sym (frame-turn w c at f e true o refl) ∙ r)
-  by-frame c at f ci e false o r = absurd (not-both _ _ p (frame-refused w c at f e false o refl) r)
+  by-frame : (c : Cell) (at : ℕ) (f : Frame) → CellIn c → commandOf (drop at w) ≡ frame f → (t : Reason) → t ≡ frameCause f → restFrom w (celled c at) 2 at ≡ Accepted p → Valid w p
+  by-frame c at f ci e Nothing o r =
+      from-frame w p c f ci (frame-in f o) (at + 5) (frame-room w c at f e) (frame-turn w c at f e o refl ∙ r)
+  by-frame c at f ci e (Is k) o r = absurd (not-both (sym (frame-refused w c at f e o refl refl)) r)
 
-  second : (c : Cell) (at : ℕ) → CellIn c → (x : Command) → commandOf (drop at w) ≡ x → run (celled c at) (commands (drop at w)) ≡ accepted p → Valid w p
-  second c at ci (cell y) e r = absurd (not-both _ _ p (late-second w c at (cell y) e (inl refl)) r)
-  second c at ci (frame f) e r = by-frame c at f ci e (frameOk f) refl r
-  second c at ci (hi y) e r = absurd (not-both _ _ p (late-second w c at (hi y) e (inr (inl refl))) r)
-  second c at ci (user y) e r = absurd (not-both _ _ p (late-second w c at (user y) e (inr (inr (inl refl)))) r)
-  second c at ci end e r = absurd (not-both _ _ p (late-second w c at end e (inr (inr (inr refl)))) r)
-  second c at ci broken e r = absurd (not-both _ _ p (second-broken w c at e) r)
+  second : (c : Cell) (at : ℕ) → CellIn c → (x : Command) → commandOf (drop at w) ≡ x → restFrom w (celled c at) 2 at ≡ Accepted p → Valid w p
+  unfolding celled
+  second c at ci (cell y) e r = not-due (celled c at) refl w 2 at (cell y) e refl r
+  second c at ci (frame f) e r = by-frame c at f ci e (frameCause f) refl r
+  second c at ci (hi y) e r = not-due (celled c at) refl w 2 at (hi y) e refl r
+  second c at ci (user y) e r = not-due (celled c at) refl w 2 at (user y) e refl r
+  second c at ci end e r = not-due (celled c at) refl w 2 at end e refl r
+  second c at ci broken e r = not-due (celled c at) refl w 2 at broken e refl r
 
-  by-cell : (c : Cell) → commandOf w ≡ cell c → (t : Bool) → t ≡ cellOk c → checkOf w ≡ accepted p → Valid w p
-  by-cell c e true o r = second c 7 (cell-in c (sym o)) (commandOf (drop 7 w)) refl (sym (cell-turn w c e true o refl) ∙ r)
-  by-cell c e false o r = absurd (not-both _ _ p (cell-refused w c e false o refl) r)
+  by-cell : (c : Cell) → commandOf w ≡ cell c → (t : Reason) → t ≡ cellCause c → findingOf w ≡ Accepted p → Valid w p
+  by-cell c e Nothing o r = second c 7 (cell-in c o) (commandOf (drop 7 w)) refl (cell-turn w c e o refl ∙ r)
+  by-cell c e (Is k) o r = absurd (not-both (sym (cell-refused w c e o refl refl)) r)
 
-  first : (x : Command) → commandOf w ≡ x → checkOf w ≡ accepted p → Valid w p
-  first (cell c) e r = by-cell c e (cellOk c) refl r
-  first (frame y) e r = absurd (not-both _ _ p (late-first w (frame y) e (inl refl)) r)
-  first (hi y) e r = absurd (not-both _ _ p (late-first w (hi y) e (inr (inl refl))) r)
-  first (user y) e r = absurd (not-both _ _ p (late-first w (user y) e (inr (inr (inl refl)))) r)
-  first end e r = absurd (not-both _ _ p (late-first w end e (inr (inr (inr refl)))) r)
-  first broken e r = absurd (not-both _ _ p (first-broken w e) r)
+  first : (x : Command) → commandOf w ≡ x → findingOf w ≡ Accepted p → Valid w p
+  unfolding findingOf begin
+  first (cell c) e r = by-cell c e (cellCause c) refl r
+  first (frame y) e r = not-due begin refl w 1 0 (frame y) e refl r
+  first (hi y) e r = not-due begin refl w 1 0 (hi y) e refl r
+  first (user y) e r = not-due begin refl w 1 0 (user y) e refl r
+  first end e r = not-due begin refl w 1 0 end e refl r
+  first broken e r = not-due begin refl w 1 0 broken e refl r
 
   -- THE LAW: an accepted plan is valid
   pub valid : checkOf w ≡ accepted p → Valid w p
-  valid r = first (commandOf w) refl r
+  valid r = first (commandOf w) refl (accepted-both w p r)

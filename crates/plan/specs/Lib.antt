@@ -2,6 +2,7 @@ pub mod Lists
 pub mod Commands
 pub mod Fields
 pub mod Check
+pub mod Finding
 pub mod Rows
 pub mod Valid
 pub mod Loops

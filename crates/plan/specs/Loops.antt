@@ -1,15 +1,16 @@
--- For the loops only: the states that the code goes through, where the bytes have what they hold; what was used before, by tables.
+-- For the inner contracts and loops only: the states that the code goes through, and the explanation from there on; what was used before, by tables.
 use Prim.Native.Nat.{ℕ, _+_, _*_, _≤_}
 use mathlib.Core.Path.{_≡_}
-use mathlib.Core.Bool.{Bool, cond, not, _&&_, _||_}
-use mathlib.Core.List.{List, []}
+use mathlib.Core.Bool.{Bool, cond, not, _&&_}
+use mathlib.Core.List.{List, [], _∷_}
 use lib.Dec.{leb, eqb}
 use lib.ListN.{length, drop}
 use Rattle.bitset.specs.Sets.{member, runOf, meet}
 use Rattle.plan.specs.Lists.{oneOf, noneOf}
 use Rattle.plan.specs.Commands.{byte, entryFor, commandOf, commands}
-use Rattle.plan.specs.Fields.{samePair, clash}
-use Rattle.plan.specs.Check.{State, begin, run}
+use Rattle.plan.specs.Fields.{samePair}
+use Rattle.plan.specs.Check.{State, begin}
+use Rattle.plan.specs.Finding.{sameRnti, sharesBlock, commandBytes, findingFrom}
 use Rattle.plan.specs.Rows.{past, hisFrom, usersFrom}
 use Rattle.plan.specs.Valid.{HiIn, UserIn}
 use Rattle.plan.specs.declared.Cell.{Cell}
@@ -17,11 +18,14 @@ use Rattle.plan.specs.declared.Frame.{Frame}
 use Rattle.plan.specs.declared.Hi.{Hi}
 use Rattle.plan.specs.declared.User.{User}
 use Rattle.plan.specs.declared.Plan.{Plan}
-use Rattle.plan.specs.declared.Command.the-variants.{Hi as hi, User as user}
+use Rattle.plan.specs.declared.Command.{Command}
+use Rattle.plan.specs.declared.Command.the-variants.{Cell as cell, Frame as frame, Hi as hi, User as user, End as end, Broken as broken}
+use Rattle.plan.specs.declared.Cause.{Cause}
+use Rattle.plan.specs.declared.Cause.the-variants.{Unknown, CutOff, NoEnd, OutOfOrder}
 use Rattle.plan.specs.declared.Counted.{Counted}
 use Rattle.plan.specs.declared.Counted.the-variants.{Count, Refused as faulty}
-use Rattle.plan.specs.declared.Checked.{Checked}
-use Rattle.plan.specs.declared.Checked.the-variants.{Refused as refused}
+use Rattle.plan.specs.declared.Explained.{Explained}
+use Rattle.plan.specs.declared.Explained.the-variants.{Refused}
 
 -- after CELL, where FRAME stands at position at
 unfoldable pub celled : Cell → ℕ → State
@@ -39,8 +43,31 @@ bodyState w c f start n mid m =
       users = usersFrom (drop mid w) m;
     }
 
-abbrev pub stateOf : List ℕ → Plan → State
-stateOf w p = bodyState w (p .cell) (p .frame) (p .his .at) (p .his .count) (p .users .at) (p .users .count)
+-- the explanation from command number n on, which stands at position at; CELL and FRAME are commands 1 and 2
+abbrev pub restFrom : List ℕ → State → ℕ → ℕ → Explained
+restFrom w st n at = findingFrom w st n at (commands (drop at w))
+
+abbrev pub bodyRest : List ℕ → Cell → Frame → ℕ → ℕ → ℕ → ℕ → ℕ → Explained
+bodyRest w c f start n mid m at = restFrom w (bodyState w c f start n mid m) (n + m + 3) at
+
+abbrev pub planRest : List ℕ → Plan → ℕ → Explained
+planRest w p at = bodyRest w (p .cell) (p .frame) (p .his .at) (p .his .count) (p .users .at) (p .users .count) at
+
+-- the cause of a command that is not due, before END: the bytes l begin with it, or have ended
+abbrev pub brokenFor : List ℕ → Cause
+brokenFor l = cond (oneOf (byte l 0) commandBytes) CutOff Unknown
+
+abbrev pub lateFor : List ℕ → Command → Cause
+lateFor l (cell c) = OutOfOrder
+lateFor l (frame f) = OutOfOrder
+lateFor l (hi h) = OutOfOrder
+lateFor l (user u) = OutOfOrder
+lateFor l end = OutOfOrder
+lateFor l broken = brokenFor l
+
+unfoldable pub lateCause : List ℕ → Cause
+lateCause [] = NoEnd
+lateCause (b ∷ l) = lateFor (b ∷ l) (commandOf (b ∷ l))
 
 -- the command with the byte code is whole at the front of the bytes l
 unfoldable pub standsAt : ℕ → List ℕ → Bool
@@ -61,8 +88,9 @@ PairsUsed c pairs hs = UsedBefore (HiIn c) samePair (λ (h : Hi). member pairs (
 abbrev pub blocksOf : User → List ℕ
 blocksOf u = runOf (u .first) (u .count)
 
-abbrev pub UsersUsed : Cell → List ℕ → List ℕ → List User → Type 0
-UsersUsed c rntis blocks us = UsedBefore (UserIn c) clash (λ (u : User). oneOf (u .rnti) rntis || meet blocks (blocksOf u)) us
+pub record UsersUsed (c : Cell) (rntis blocks : List ℕ) (us : List User) : Type 0 where
+  pub of-rntis : UsedBefore (UserIn c) sameRnti (λ (u : User). oneOf (u .rnti) rntis) us
+  pub of-blocks : UsedBefore (UserIn c) sharesBlock (λ (u : User). meet blocks (blocksOf u)) us
 
 -- n HIs from position start on, up to position mid: no HI follows
 pub record HisPast (w : List ℕ) (start n mid : ℕ) : Type 0 where
@@ -70,16 +98,16 @@ pub record HisPast (w : List ℕ) (start n mid : ℕ) : Type 0 where
   pub room : mid ≤ length w
   pub no-hi : (h : Hi) → commandOf (drop mid w) ≡ hi h → ⊥
 
-abbrev pub bodyRun : List ℕ → Cell → Frame → ℕ → Checked
-bodyRun w c f start = run (bodyState w c f start 0 start 0) (commands (drop start w))
-
 abbrev pub HisRead : List ℕ → Cell → ℕ → Counted → Type 0
 HisRead w c start (Count n) =
-    HisPast w start n (start + 3 * n) × ((f : Frame) → run (bodyState w c f start n (start + 3 * n) 0) (commands (drop (start + 3 * n) w)) ≡ bodyRun w c f start)
-HisRead w c start (faulty r) = (f : Frame) → refused r ≡ bodyRun w c f start
+    let mid = start + 3 * n in
+    HisPast w start n mid × ((f : Frame) → bodyRest w c f start n mid 0 mid ≡ bodyRest w c f start 0 start 0 start)
+HisRead w c start (faulty g) = (f : Frame) → Refused g ≡ bodyRest w c f start 0 start 0 start
 
 -- after the HIs and the USERs of p, where no USER follows, nor an HI that would be in its place
 pub record EndDue (w : List ℕ) (p : Plan) (at : ℕ) : Type 0 where
   pub mid-at : p .users .at ≡ p .his .at + 3 * p .his .count
+  pub behind : p .users .at + 6 * p .users .count ≤ at
+  pub room : at ≤ length w
   pub no-hi : p .users .count ≡ 0 → (h : Hi) → commandOf (drop at w) ≡ hi h → ⊥
   pub no-user : (u : User) → commandOf (drop at w) ≡ user u → ⊥

@@ -1,16 +1,18 @@
 // The plan check (document 01, Plan and payload; Refusals 1 to 7): reads a plan's commands from left to right and answers
-// with the plan, or with the first refusal.
+// with the plan, or with the first fault: which command, at which byte of the plan, the first of its fields that has the fault,
+// and so the refusal.
 ghost use mathlib.Core.Path.{_≡_};
 ghost use Prim.Native.Nat.{_+_, _*_, _≤_};
-ghost use mathlib.Core.Bool.{true};
 ghost use mathlib.Core.List.{List};
 ghost use lib.ListN.{length, drop};
 ghost use Rattle.plan.specs.Lists.{oneOf};
-ghost use Rattle.plan.specs.Commands.{byte, cellOf, frameOf, hiOf, userOf, entryFor, commandOf, commands};
-ghost use Rattle.plan.specs.Fields.{cellOk, frameOk, unitsOf, groupsOf, sequencesOf, hiOk, userOk};
-ghost use Rattle.plan.specs.Check.{refusalNumber, hiFault, userFault, run, checkOf};
+ghost use Rattle.plan.specs.Commands.{byte, cellOf, frameOf, hiOf, userOf, entryFor, commandOf};
+ghost use Rattle.plan.specs.Fields.{unitsOf, groupsOf, sequencesOf};
+ghost use Rattle.plan.specs.Check.{refusalNumber, checkOf};
 ghost use Rattle.plan.specs.Rows.{nextOf};
-ghost use Rattle.plan.specs.Loops.{celled, bodyState, stateOf, standsAt, pairOf, blocksOf, PairsUsed, UsersUsed, HisPast, HisRead, EndDue};
+ghost use Rattle.plan.specs.Valid.{CellIn};
+ghost use Rattle.plan.specs.Finding.{causeRefusal, demand as demandOf, cellCause, frameCause, hiCause, userCause, foundAt, findingOf};
+ghost use Rattle.plan.specs.Loops.{brokenFor, lateCause, celled, restFrom, bodyRest, planRest, standsAt, pairOf, blocksOf, PairsUsed, UsersUsed, HisPast, HisRead, EndDue};
 
 // 10 CELL: the identity C, the width in blocks N, the prefix (1 extended), the antenna ports P, and N_g in sixths.
 pub struct Cell {
@@ -69,6 +71,7 @@ pub enum Refusal {
     NoPayload,
 }
 
+// A command's refusal, or none: what the definitions say; the code finds the cause, Reason.
 pub enum Fault {
     Nothing,
     Is(Refusal),
@@ -87,25 +90,81 @@ pub struct Plan {
     pub users: Row,
 }
 
-// How many commands of one kind stand in a row, or the first fault of one.
-pub enum Counted {
-    Count(usize),
-    Refused(Refusal),
-}
-
 pub enum Checked {
     Plan(Plan),
     Refused(Refusal),
 }
 
+// The first reason for which a command is refused, in the order of document 01's fields.
+pub enum Cause {
+    // Refusal 1: a byte that is no command; the plan ends before a command's operands; the plan ends before END.
+    Unknown,
+    CutOff,
+    NoEnd,
+    // Refusal 2.
+    OutOfOrder,
+    AfterEnd,
+    // Refusal 3.
+    Identity,
+    Blocks,
+    Prefix,
+    Ports,
+    Sixths,
+    // Refusal 4.
+    FrameNumber,
+    Subframe,
+    Cfi,
+    // Refusal 5.
+    Group,
+    Sequence,
+    PairUsed,
+    // Refusal 6. LastBlock: first + count is beyond the cell's blocks.
+    Rnti,
+    Modulation,
+    Count,
+    LastBlock,
+    // Refusal 7.
+    RntiUsed,
+    BlockUsed,
+}
+
+// A command's first cause, or none.
+enum Reason {
+    Nothing,
+    Is(Cause),
+}
+
+// The command is counted from 1. The offset is the position of its command byte in the plan, from 0; that of a missing END is the plan's length.
+// Of PairUsed, RntiUsed and BlockUsed the earlier command would be one more field: his_from and users_from know the commands before.
+pub struct Finding {
+    pub refusal: Refusal,
+    pub command: usize,
+    pub offset: usize,
+    pub cause: Cause,
+}
+
+// How many commands of one kind stand in a row, or the first fault of one.
+enum Counted {
+    Count(usize),
+    Refused(Finding),
+}
+
+// The plan, or why it is refused.
+pub enum Explained {
+    Accepted(Plan),
+    Refused(Finding),
+}
+
 // The values of a cell's blocks, ports and sixths, and of a user's order.
-pub const WIDTHS: [u8; 5] = [15, 25, 50, 75, 100];
+const WIDTHS: [u8; 5] = [15, 25, 50, 75, 100];
 
-pub const PORT_COUNTS: [u8; 3] = [1, 2, 4];
+const PORT_COUNTS: [u8; 3] = [1, 2, 4];
 
-pub const SIXTH_COUNTS: [u8; 4] = [1, 3, 6, 12];
+const SIXTH_COUNTS: [u8; 4] = [1, 3, 6, 12];
 
-pub const ORDERS: [u8; 3] = [2, 4, 6];
+const ORDERS: [u8; 3] = [2, 4, 6];
+
+const COMMAND_BYTES: [u8; 5] = [0x10, 0x11, 0x20, 0x30, 0x00];
 
 // The refusal's number in document 01.
 pub fn number(r: Refusal) -> u8
@@ -125,6 +184,34 @@ pub fn number(r: Refusal) -> u8
         Refusal::PayloadLength => 11,
         Refusal::SpareBit => 12,
         Refusal::NoPayload => 13,
+    }
+}
+
+// The refusal that a cause belongs to.
+fn refusal_of(c: Cause) -> Refusal
+    ensures { λ r. ⌜ r ≡ causeRefusal c ⌝ }
+{
+    match c {
+        Cause::Unknown | Cause::CutOff | Cause::NoEnd => Refusal::Unreadable,
+        Cause::OutOfOrder | Cause::AfterEnd => Refusal::Order,
+        Cause::Identity | Cause::Blocks | Cause::Prefix | Cause::Ports | Cause::Sixths =>
+            Refusal::CellField,
+        Cause::FrameNumber | Cause::Subframe | Cause::Cfi => Refusal::FrameField,
+        Cause::Group | Cause::Sequence | Cause::PairUsed => Refusal::HiField,
+        Cause::Rnti | Cause::Modulation | Cause::Count | Cause::LastBlock => Refusal::UserField,
+        Cause::RntiUsed | Cause::BlockUsed => Refusal::Used,
+    }
+}
+
+// Command number n, at position at, is refused for the cause.
+fn found(n: usize, at: usize, cause: Cause) -> Finding
+    ensures { λ r. ⌜ r ≡ foundAt n at cause ⌝ }
+{
+    Finding {
+        refusal: refusal_of(cause),
+        command: n,
+        offset: at,
+        cause: cause,
     }
 }
 
@@ -255,7 +342,7 @@ pub fn command_at(plan: &[u8], at: usize) -> Command
 }
 
 // Whether n is one of the list.
-pub fn one_of(n: u8, list: &[u8]) -> bool
+fn one_of(n: u8, list: &[u8]) -> bool
     ensures { λ r. ⌜ r ≡ oneOf n (now (list .entry)) ⌝ }
 {
     let mut i = 0;
@@ -268,20 +355,44 @@ pub fn one_of(n: u8, list: &[u8]) -> bool
     false
 }
 
-fn cell_ok(c: Cell) -> bool
-    ensures { λ r. ⌜ r ≡ cellOk c ⌝ }
+// The cause unless the test holds, and then the rest.
+fn demand(test: bool, cause: Cause, rest: Reason) -> Reason
+    ensures { λ r. ⌜ r ≡ demandOf test cause rest ⌝ }
 {
-    (c.identity <= 503)
-        & one_of(c.blocks, &WIDTHS)
-        & (c.prefix <= 1)
-        & one_of(c.ports, &PORT_COUNTS)
-        & one_of(c.sixths, &SIXTH_COUNTS)
+    if test { rest } else { Reason::Is(cause) }
 }
 
-fn frame_ok(f: Frame) -> bool
-    ensures { λ r. ⌜ r ≡ frameOk f ⌝ }
+fn cell_cause(c: Cell) -> Reason
+    ensures { λ r. ⌜ r ≡ cellCause c ⌝ }
 {
-    (f.number <= 1023) & (f.subframe <= 9) & (1 <= f.cfi) & (f.cfi <= 3)
+    let sixths = demand(
+        one_of(c.sixths, &SIXTH_COUNTS),
+        Cause::Sixths,
+        Reason::Nothing,
+    );
+    let ports = demand(one_of(c.ports, &PORT_COUNTS), Cause::Ports, sixths);
+    let prefix = demand(c.prefix <= 1, Cause::Prefix, ports);
+    let blocks = demand(one_of(c.blocks, &WIDTHS), Cause::Blocks, prefix);
+    demand(c.identity <= 503, Cause::Identity, blocks)
+}
+
+fn frame_cause(f: Frame) -> Reason
+    ensures { λ r. ⌜ r ≡ frameCause f ⌝ }
+{
+    let cfi = demand((1 <= f.cfi) & (f.cfi <= 3), Cause::Cfi, Reason::Nothing);
+    let subframe = demand(f.subframe <= 9, Cause::Subframe, cfi);
+    demand(f.number <= 1023, Cause::FrameNumber, subframe)
+}
+
+// The command at a position cannot be read.
+fn broken_cause(plan: &[u8], at: usize) -> Cause
+    ensures { λ r. ⌜ r ≡ brokenFor (drop at (now (plan .entry))) ⌝ }
+{
+    if one_of(byte_at(plan, at, 0), &COMMAND_BYTES) {
+        Cause::CutOff
+    } else {
+        Cause::Unknown
+    }
 }
 
 // The number of PHICH units of a cell.
@@ -307,21 +418,6 @@ pub fn sequences(c: Cell) -> u8
     ensures { λ r. ⌜ r ≡ sequencesOf c ⌝ }
 {
     if c.prefix == 1 { 4 } else { 8 }
-}
-
-fn hi_ok(c: Cell, h: Hi) -> bool
-    ensures { λ r. ⌜ r ≡ hiOk c h ⌝ }
-{
-    ((h.group as usize) < groups(c)) & (h.sequence < sequences(c))
-}
-
-fn user_ok(c: Cell, u: User) -> bool
-    ensures { λ r. ⌜ r ≡ userOk c u ⌝ }
-{
-    (1 <= u.rnti)
-        & one_of(u.order, &ORDERS)
-        & (1 <= u.count)
-        & ((u.first as usize) + (u.count as usize) <= (c.blocks as usize))
 }
 
 // Whether an RNTI is in a table, with no early exit, so that several places are looked at together.
@@ -352,25 +448,24 @@ fn pair_of(h: Hi) -> usize
     (h.group as usize) * 8 + (h.sequence as usize)
 }
 
-// The first fault of an HI after HIs that have the pairs.
-fn hi_fault(cell: Cell, pairs: &[u64; 7], h: Hi) -> Fault
-    requires { ⌜ cellOk cell ≡ true ⌝ }
-    ensures { λ r. ⌜ ((hs : List Hi) → PairsUsed cell (now (pairs .entry)) hs → r ≡ hiFault cell hs h) ⌝ }
+// The first cause of an HI after HIs that have the pairs.
+fn hi_cause(cell: Cell, pairs: &[u64; 7], h: Hi) -> Reason
+    requires { ⌜ CellIn cell ⌝ }
+    ensures { λ r. ⌜ ((hs : List Hi) → PairsUsed cell (now (pairs .entry)) hs → r ≡ hiCause cell hs h) ⌝ }
 {
-    if hi_ok(cell, h) {
-        if bitset::has(pairs, pair_of(h)) {
-            Fault::Is(Refusal::HiField)
-        } else {
-            Fault::Nothing
-        }
-    } else {
-        Fault::Is(Refusal::HiField)
+    if groups(cell) <= h.group as usize {
+        return Reason::Is(Cause::Group);
     }
+    if sequences(cell) <= h.sequence {
+        return Reason::Is(Cause::Sequence);
+    }
+    let used = bitset::has(pairs, pair_of(h));
+    demand(!used, Cause::PairUsed, Reason::Nothing)
 }
 
 // The HIs from position start on: how many, or the first fault.
 fn his_from(plan: &[u8], cell: Cell, start: usize) -> Counted
-    requires { ⌜ (start ≤ length (now plan)) × (cellOk cell ≡ true) ⌝ }
+    requires { ⌜ (start ≤ length (now plan)) × CellIn cell ⌝ }
     ensures { λ r. ⌜ HisRead (now (plan .entry)) cell start r ⌝ }
 {
     let mut pairs = [0u64; 7];
@@ -378,13 +473,13 @@ fn his_from(plan: &[u8], cell: Cell, start: usize) -> Counted
     let mut at = start;
     while stands(plan, at, 0x20) {
         let h = hi_at(plan, at);
-        match hi_fault(cell, &pairs, h) {
-            Fault::Nothing => {
+        match hi_cause(cell, &pairs, h) {
+            Reason::Nothing => {
                 bitset::add(&mut pairs, pair_of(h));
                 count = count + 1;
                 at = next_at(plan, at);
             }
-            Fault::Is(r) => return Counted::Refused(r),
+            Reason::Is(cause) => return Counted::Refused(found(count + 3, at, cause)),
         }
     }
     Counted::Count(count)
@@ -397,43 +492,64 @@ fn blocks_of(u: User) -> [u64; 2]
     bitset::run_of(u.first, u.count)
 }
 
-// The first fault of a USER after USERs that have the RNTIs and the blocks.
-fn user_fault(cell: Cell, rntis: &[u16; 104], blocks: &[u64; 2], u: User) -> Fault
-    ensures { λ r. ⌜ ((us : List User) → UsersUsed cell (now (rntis .entry)) (now (blocks .entry)) us → r ≡ userFault cell us u) ⌝ }
+// The first cause of a USER after USERs that have the RNTIs and the blocks.
+fn user_cause(cell: Cell, rntis: &[u16; 104], blocks: &[u64; 2], u: User) -> Reason
+    ensures { λ r. ⌜ ((us : List User) → UsersUsed cell (now (rntis .entry)) (now (blocks .entry)) us → r ≡ userCause cell us u) ⌝ }
 {
-    if user_ok(cell, u) {
-        let own = blocks_of(u);
-        if has_rnti(rntis, u.rnti) | bitset::meets(blocks, &own) {
-            Fault::Is(Refusal::Used)
-        } else {
-            Fault::Nothing
-        }
-    } else {
-        Fault::Is(Refusal::UserField)
+    if u.rnti < 1 {
+        return Reason::Is(Cause::Rnti);
+    }
+    if !one_of(u.order, &ORDERS) {
+        return Reason::Is(Cause::Modulation);
+    }
+    if u.count < 1 {
+        return Reason::Is(Cause::Count);
+    }
+    if (cell.blocks as usize) < (u.first as usize) + (u.count as usize) {
+        return Reason::Is(Cause::LastBlock);
+    }
+    if has_rnti(rntis, u.rnti) {
+        return Reason::Is(Cause::RntiUsed);
+    }
+    let own = blocks_of(u);
+    let shared = bitset::meets(blocks, &own);
+    demand(!shared, Cause::BlockUsed, Reason::Nothing)
+}
+
+// The cause of a command that is not due, at a position before END: it is missing, cannot be read or is out of order.
+fn late_cause(plan: &[u8], at: usize) -> Cause
+    ensures { λ r. ⌜ r ≡ lateCause (drop at (now (plan .entry))) ⌝ }
+{
+    if plan.len() <= at {
+        return Cause::NoEnd;
+    }
+    match command_at(plan, at) {
+        Command::Broken => broken_cause(plan, at),
+        _ => Cause::OutOfOrder,
     }
 }
 
 // After the HIs and the USERs of p: END is due at position at, and nothing after it.
-fn finish(plan: &[u8], p: Plan, at: usize) -> Checked
+fn finish(plan: &[u8], p: Plan, at: usize) -> Explained
     requires { ⌜ EndDue (now plan) p at ⌝ }
-    ensures { λ r. ⌜ r ≡ run (stateOf (now (plan .entry)) p) (commands (drop at (now (plan .entry)))) ⌝ }
+    ensures { λ r. ⌜ r ≡ planRest (now (plan .entry)) p at ⌝ }
 {
+    let number = p.his.count + p.users.count + 3;
     match command_at(plan, at) {
         Command::End => {
             if at + 1 < plan.len() {
-                return Checked::Refused(Refusal::Order);
+                return Explained::Refused(found(number + 1, at + 1, Cause::AfterEnd));
             }
-            Checked::Plan(p)
+            Explained::Accepted(p)
         }
-        Command::Broken => Checked::Refused(Refusal::Unreadable),
-        _ => Checked::Refused(Refusal::Order),
+        _ => Explained::Refused(found(number, at, late_cause(plan, at))),
     }
 }
 
 // The commands after his HIs from position start on: USERs and END.
-fn users_from(plan: &[u8], cell: Cell, frame: Frame, start: usize, his: usize) -> Checked
-    requires { ⌜ (HisPast (now plan) start his (start + 3 * his)) × (cellOk cell ≡ true) ⌝ }
-    ensures { λ r. ⌜ r ≡ run (bodyState (now (plan .entry)) cell frame start his (start + 3 * his) 0) (commands (drop (start + 3 * his) (now (plan .entry)))) ⌝ }
+fn users_from(plan: &[u8], cell: Cell, frame: Frame, start: usize, his: usize) -> Explained
+    requires { ⌜ (HisPast (now plan) start his (start + 3 * his)) × CellIn cell ⌝ }
+    ensures { λ r. ⌜ r ≡ bodyRest (now (plan .entry)) cell frame start his (start + 3 * his) 0 (start + 3 * his) ⌝ }
 {
     let mid = start + 3 * his;
     let mut rntis = [0u16; 104];
@@ -442,15 +558,15 @@ fn users_from(plan: &[u8], cell: Cell, frame: Frame, start: usize, his: usize) -
     let mut at = mid;
     while stands(plan, at, 0x30) {
         let u = user_at(plan, at);
-        match user_fault(cell, &rntis, &blocks, u) {
-            Fault::Nothing => {
+        match user_cause(cell, &rntis, &blocks, u) {
+            Reason::Nothing => {
                 let own = blocks_of(u);
                 rntis[users] = u.rnti;
                 blocks = bitset::join(&blocks, &own);
                 users = users + 1;
                 at = next_at(plan, at);
             }
-            Fault::Is(r) => return Checked::Refused(r),
+            Reason::Is(cause) => return Explained::Refused(found(his + users + 3, at, cause)),
         }
     }
     let p = Plan {
@@ -469,47 +585,52 @@ fn users_from(plan: &[u8], cell: Cell, frame: Frame, start: usize, his: usize) -
 }
 
 // The commands after FRAME: HIs, USERs and END, from position start on.
-fn body(plan: &[u8], cell: Cell, frame: Frame, start: usize) -> Checked
-    requires { ⌜ (start ≤ length (now plan)) × (cellOk cell ≡ true) ⌝ }
-    ensures { λ r. ⌜ r ≡ run (bodyState (now (plan .entry)) cell frame start 0 start 0) (commands (drop start (now (plan .entry)))) ⌝ }
+fn body(plan: &[u8], cell: Cell, frame: Frame, start: usize) -> Explained
+    requires { ⌜ (start ≤ length (now plan)) × CellIn cell ⌝ }
+    ensures { λ r. ⌜ r ≡ bodyRest (now (plan .entry)) cell frame start 0 start 0 start ⌝ }
 {
     match his_from(plan, cell, start) {
         Counted::Count(his) => users_from(plan, cell, frame, start, his),
-        Counted::Refused(r) => Checked::Refused(r),
+        Counted::Refused(f) => Explained::Refused(f),
     }
 }
 
 // The commands after CELL, from position at on.
-fn after_cell(plan: &[u8], c: Cell, at: usize) -> Checked
-    requires { ⌜ cellOk c ≡ true ⌝ }
-    ensures { λ r. ⌜ r ≡ run (celled c at) (commands (drop at (now (plan .entry)))) ⌝ }
+fn after_cell(plan: &[u8], c: Cell, at: usize) -> Explained
+    requires { ⌜ CellIn c ⌝ }
+    ensures { λ r. ⌜ r ≡ restFrom (now (plan .entry)) (celled c at) 2 at ⌝ }
 {
     match command_at(plan, at) {
-        Command::Frame(f) => {
-            if frame_ok(f) {
-                body(plan, c, f, at + 5)
-            } else {
-                Checked::Refused(Refusal::FrameField)
-            }
-        }
-        Command::Broken => Checked::Refused(Refusal::Unreadable),
-        _ => Checked::Refused(Refusal::Order),
+        Command::Frame(f) => match frame_cause(f) {
+            Reason::Nothing => body(plan, c, f, at + 5),
+            Reason::Is(cause) => Explained::Refused(found(2, at, cause)),
+        },
+        _ => Explained::Refused(found(2, at, late_cause(plan, at))),
     }
 }
 
-// The plan check.
+// The plan, or the first command that has a fault and the first cause of it.
+pub fn explain(plan: &[u8]) -> Explained
+    ensures { λ r. ⌜ r ≡ findingOf (now (plan .entry)) ⌝ }
+{
+    match command_at(plan, 0) {
+        Command::Cell(c) => match cell_cause(c) {
+            Reason::Nothing => after_cell(plan, c, 7),
+            Reason::Is(cause) => Explained::Refused(found(1, 0, cause)),
+        },
+        _ => Explained::Refused(found(1, 0, late_cause(plan, 0))),
+    }
+}
+
+// The plan check: the refusal alone.
 pub fn check(plan: &[u8]) -> Checked
     ensures { λ r. ⌜ r ≡ checkOf (now (plan .entry)) ⌝ }
 {
-    match command_at(plan, 0) {
-        Command::Cell(c) => {
-            if cell_ok(c) {
-                after_cell(plan, c, 7)
-            } else {
-                Checked::Refused(Refusal::CellField)
-            }
+    match explain(plan) {
+        Explained::Accepted(p) => Checked::Plan(p),
+        Explained::Refused(f) => {
+            let refusal = f.refusal;
+            Checked::Refused(refusal)
         }
-        Command::Broken => Checked::Refused(Refusal::Unreadable),
-        _ => Checked::Refused(Refusal::Order),
     }
 }

@@ -1,11 +1,11 @@
 // planexplain: reads a two-byte plan length and the plan from standard input, prints each command of the plan in words up to the one that is
 // refused, and says which field of it is refused and what is allowed there. What follows the plan is not looked at.
-use explain::Cause;
-use explain::Explained;
-use explain::Finding;
 use libc::STDOUT_FILENO;
+use plan::Cause;
 use plan::Cell;
 use plan::Command;
+use plan::Explained;
+use plan::Finding;
 use plan::Frame;
 use plan::Hi;
 use plan::User;
@@ -254,8 +254,8 @@ fn refused(plan: &[u8], f: Finding) {
 }
 
 fn show(plan: &[u8]) {
-    match explain::explain(plan) {
-        Explained::Accepted => {
+    match plan::explain(plan) {
+        Explained::Accepted(_) => {
             rows(plan, plan.len());
             print::text(b"accepted\n");
         }

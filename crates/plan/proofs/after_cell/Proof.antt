@@ -1,7 +1,7 @@
--- `plan::after_cell` meets its contract: FRAME is due: the run over the commands from position `at` on. Assumes nothing.
+-- `plan::after_cell` meets its contract: FRAME is due at position `at`. Assumes nothing.
 use mathlib.Core.Path.{sym, _∙_}
 use native.Mathlib.Omega.{arith}
-use Rattle.plan.proofs.Opening.{second-broken, late-second, frame-room, frame-refused, frame-turn}
+use Rattle.plan.proofs.Opening.{late-second, frame-room, frame-refused, frame-turn}
 use borrow.Author.Needs.{needs}
 use Rattle.plan.proofs.after_cell.Statement.{statement}
 use Rattle.plan.proofs.after_cell.Tie as tie
@@ -12,54 +12,64 @@ command-at-requires c κs = search needs
 enum-known-f : tie.Need-enum-known-f
 enum-known-f c = search needs
 
-frame-ok-requires : tie.Need-frame-ok-requires
-frame-ok-requires c κs = search needs
+frame-cause-requires : tie.Need-frame-cause-requires
+frame-cause-requires c κs = search needs
+
+enum-told : tie.Need-enum-told
+enum-told c = search needs
 
 add-body : tie.Need-add-body
 add-body c =
-    let at-f = c .before .before .before in
+    let at-f = c .before .before .before .before in
     let at-command-at = at-f .before .before in
     let at-args = at-command-at .before .before in
     omega (arith, frame-room (at-args .args .plan .now) (at-args .args .c) (at-args .args .at) _ (sym (at-command-at .command-at .ensures) ∙ at-f .f .given .1))
 
 body-requires : tie.Need-body-requires
 body-requires c κs =
-    let at-f = c .before .before .before in
+    let at-f = c .before .before .before .before in
     let at-command-at = at-f .before .before in
     let at-args = at-command-at .before .before in
     (frame-room (at-args .args .plan .now) (at-args .args .c) (at-args .args .at) _ (sym (at-command-at .command-at .ensures) ∙ at-f .f .given .1), at-args .pre)
 
-enum-told : tie.Need-enum-told
-enum-told c = search needs
+enum-known-cause : tie.Need-enum-known-cause
+enum-known-cause c = search needs
+
+found-requires : tie.Need-found-requires
+found-requires c κs = search needs
+
+late-cause-requires : tie.Need-late-cause-requires
+late-cause-requires c κs = search needs
+
+found-requires-2 : tie.Need-found-requires-2
+found-requires-2 c κs = search needs
 
 returns : tie.Need-returns
 returns c =
-    let at-if1 = c .before in
-    let at-frame-ok = at-if1 .before in
-    let at-f = at-frame-ok .before .before in
+    let at-enum-told = c .before in
+    let at-frame-cause = at-enum-told .before .before in
+    let at-f = at-frame-cause .before .before in
     let at-command-at = at-f .before .before in
-    let at-args = at-command-at .before .before in
-    c .body .ensures ∙ sym (frame-turn (at-args .args .plan .now) (at-args .args .c) (at-args .args .at) _ (sym (at-command-at .command-at .ensures) ∙ at-f .f .given .1) _ (at-frame-ok .frame-ok .ensures) (at-if1 .if1 .taken))
+    let a = at-command-at .before .before .args in
+    let e = sym (at-command-at .command-at .ensures) ∙ at-f .f .given .1 in
+    c .body .ensures ∙ frame-turn (a .plan .now) (a .c) (a .at) _ e (at-frame-cause .frame-cause .ensures) (at-enum-told .enum-told .given .1)
 
 returns-2 : tie.Need-returns-2
 returns-2 c =
-    let at-frame-ok = c .before in
-    let at-f = at-frame-ok .before .before in
+    let at-cause = c .before .before in
+    let at-frame-cause = at-cause .before .before in
+    let at-f = at-frame-cause .before .before in
     let at-command-at = at-f .before .before in
-    let at-args = at-command-at .before .before in
-    sym (frame-refused (at-args .args .plan .now) (at-args .args .c) (at-args .args .at) _ (sym (at-command-at .command-at .ensures) ∙ at-f .f .given .1) _ (at-frame-ok .frame-ok .ensures) (c .if1 .left))
+    let a = at-command-at .before .before .args in
+    let e = sym (at-command-at .command-at .ensures) ∙ at-f .f .given .1 in
+    frame-refused (a .plan .now) (a .c) (a .at) _ e (at-frame-cause .frame-cause .ensures) (at-cause .cause .given .1) (c .found .ensures)
 
 returns-3 : tie.Need-returns-3
 returns-3 c =
-    let at-command-at = c .before .before in
-    let at-args = at-command-at .before .before in
-    sym (second-broken (at-args .args .plan .now) (at-args .args .c) (at-args .args .at) (sym (at-command-at .command-at .ensures) ∙ c .enum-told .given .1))
-
-returns-4 : tie.Need-returns-4
-returns-4 c =
-    let at-command-at = c .before in
-    let at-args = at-command-at .before .before in
-    sym (late-second (at-args .args .plan .now) (at-args .args .c) (at-args .args .at) _ (sym (at-command-at .command-at .ensures)) (c .match .keys3))
+    let at-match = c .before .before in
+    let at-command-at = at-match .before in
+    let a = at-command-at .before .before .args in
+    late-second (a .plan .now) (a .c) (a .at) (sym (at-command-at .command-at .ensures)) (at-match .match .keys2) (c .before .late-cause .ensures) (c .found2 .ensures)
 
 pub after-cell-spec : {M : Type 1} → statement M
 after-cell-spec =
@@ -67,11 +77,14 @@ after-cell-spec =
     (tie.spec
     command-at-requires
     enum-known-f
-    frame-ok-requires
+    frame-cause-requires
+    enum-told
     add-body
     body-requires
-    enum-told
+    enum-known-cause
+    found-requires
+    late-cause-requires
+    found-requires-2
     returns
     returns-2
-    returns-3
-    returns-4)
+    returns-3)

@@ -18,8 +18,8 @@ users-from-requires c κs =
     let at-args = at-his-from .before .before in
     ((subst (HisRead (at-args .args .plan .now) (at-args .args .cell) (at-args .args .start)) (at-his .his .given .1) (at-his-from .his-from .ensures)) .0, at-args .pre .1)
 
-enum-known-r : tie.Need-enum-known-r
-enum-known-r c = search needs
+enum-known-f : tie.Need-enum-known-f
+enum-known-f c = search needs
 
 returns : tie.Need-returns
 returns c =
@@ -31,12 +31,12 @@ returns c =
 
 returns-2 : tie.Need-returns-2
 returns-2 c =
-    let at-r = c .before in
-    let at-his-from = at-r .before .before in
+    let at-f = c .before in
+    let at-his-from = at-f .before .before in
     let at-args = at-his-from .before .before in
-    (subst (HisRead (at-args .args .plan .now) (at-args .args .cell) (at-args .args .start)) (at-r .r .given .1) (at-his-from .his-from .ensures)) (at-args .args .frame)
+    (subst (HisRead (at-args .args .plan .now) (at-args .args .cell) (at-args .args .start)) (at-f .f .given .1) (at-his-from .his-from .ensures)) (at-args .args .frame)
 
 pub body-spec : {M : Type 1} → statement M
 body-spec =
     tie.close
-    (tie.spec his-from-requires enum-known-his users-from-requires enum-known-r returns returns-2)
+    (tie.spec his-from-requires enum-known-his users-from-requires enum-known-f returns returns-2)

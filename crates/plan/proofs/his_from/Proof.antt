@@ -25,15 +25,15 @@ stands-requires c κs = c .loop .inv .standing .room
 hi-at-requires : tie.Need-hi-at-requires Inv-loop μ-loop
 hi-at-requires c κs = tt
 
-hi-fault-requires : tie.Need-hi-fault-requires Inv-loop μ-loop
-hi-fault-requires c κs = c .before .before .before .before .before .before .pre .1
+hi-cause-requires : tie.Need-hi-cause-requires Inv-loop μ-loop
+hi-cause-requires c κs = c .before .before .before .before .before .before .pre .1
 
--- the HI at the loop's position, and its fault
-turn : (c : tie.After-hi-fault Inv-loop μ-loop) →
+-- the HI at the loop's position, and its cause
+turn : (c : tie.After-hi-cause Inv-loop μ-loop) →
     let h = c .before .before .hi-at .result in
     let i = c .before .before .before .before .before .loop in
     let a = c .before .before .before .before .before .before .before .args in
-    AtHi (a .plan .now) (a .cell) (a .start) (i .count) (i .at) (i .pairs) h (c .hi-fault .result)
+    AtHi (a .plan .now) (a .cell) (a .start) (i .count) (i .at) (i .pairs) h (c .hi-cause .result)
 turn c =
     let at-hi-at = c .before .before in
     let at-stands = at-hi-at .before .before in
@@ -44,7 +44,7 @@ turn c =
       going = at-loop .loop .inv;
       ok = at-args .pre .1;
       there = stands-hi (drop (at-loop .loop .at) w) (at-stands .stands .ensures) (at-hi-at .before .if1 .taken) (at-hi-at .hi-at .ensures);
-      fault = c .hi-fault .ensures (hisFrom (drop (at-args .args .start) w) (at-loop .loop .count)) (at-loop .loop .inv .used);
+      cause = c .hi-cause .ensures (hisFrom (drop (at-args .args .start) w) (at-loop .loop .count)) (at-loop .loop .inv .used);
     }
 
 enum-told : tie.Need-enum-told Inv-loop μ-loop
@@ -76,11 +76,17 @@ loop-again c =
     let at-before = at-enum-told .before in
     his-again (turn (at-before .before)) (at-enum-told .enum-told .given .1) (at-pair-of .pair-of .ensures) (at-add .add .ensures) (c .next-at .ensures)
 
-enum-known-r : tie.Need-enum-known-r Inv-loop μ-loop
-enum-known-r c = search needs
+enum-known-cause : tie.Need-enum-known-cause Inv-loop μ-loop
+enum-known-cause c = search needs
+
+add-found : tie.Need-add-found Inv-loop μ-loop
+add-found c = omega arith
+
+found-requires : tie.Need-found-requires Inv-loop μ-loop
+found-requires c κs = tt
 
 returns : tie.Need-returns Inv-loop μ-loop
-returns c = his-refused (turn (c .before .before .before)) (c .before .r .given .1)
+returns c = his-refused (turn (c .before .before .before .before)) (c .before .before .cause .given .1) (c .found .ensures)
 
 returns-2 : tie.Need-returns-2 Inv-loop μ-loop
 returns-2 c = his-done (c .before .before .loop .inv) (c .before .stands .ensures) (c .if1 .left)
@@ -94,7 +100,7 @@ his-from-spec =
     loop-holds
     stands-requires
     hi-at-requires
-    hi-fault-requires
+    hi-cause-requires
     enum-told
     slice-aggregate-add
     pair-of-requires
@@ -103,6 +109,8 @@ his-from-spec =
     next-at-requires
     loop-less
     loop-again
-    enum-known-r
+    enum-known-cause
+    add-found
+    found-requires
     returns
     returns-2)

@@ -33,15 +33,15 @@ stands-requires c κs = c .loop .inv .standing .room
 user-at-requires : tie.Need-user-at-requires Inv-loop μ-loop
 user-at-requires c κs = tt
 
-user-fault-requires : tie.Need-user-fault-requires Inv-loop μ-loop
-user-fault-requires c κs = tt
+user-cause-requires : tie.Need-user-cause-requires Inv-loop μ-loop
+user-cause-requires c κs = tt
 
--- the USER at the loop's position, and its fault
-turn : (c : tie.After-user-fault Inv-loop μ-loop) →
+-- the USER at the loop's position, and its cause
+turn : (c : tie.After-user-cause Inv-loop μ-loop) →
     let u = c .before .before .before .user-at .result in
     let i = c .before .before .before .before .before .before .loop in
     let a = c .before .before .before .before .before .before .before .before .args in
-    AtUser (a .plan .now) (a .cell) (a .frame) (a .start) (a .his) (a .start + 3 * a .his) (i .users) (i .at) (i .rntis) (i .blocks) u (c .user-fault .result)
+    AtUser (a .plan .now) (a .cell) (a .frame) (a .start) (a .his) (a .start + 3 * a .his) (i .users) (i .at) (i .rntis) (i .blocks) u (c .user-cause .result)
 turn c =
     let at-user-at = c .before .before .before in
     let at-stands = at-user-at .before .before in
@@ -53,7 +53,7 @@ turn c =
       going = at-loop .loop .inv;
       ok = at-args .pre .1;
       there = stands-user (drop (at-loop .loop .at) w) (at-stands .stands .ensures) (at-user-at .before .if1 .taken) (at-user-at .user-at .ensures);
-      fault = c .user-fault .ensures (usersFrom (drop mid w) (at-loop .loop .users)) (at-loop .loop .inv .used);
+      cause = c .user-cause .ensures (usersFrom (drop mid w) (at-loop .loop .users)) (at-loop .loop .inv .used);
     }
 
 enum-told : tie.Need-enum-told Inv-loop μ-loop
@@ -88,11 +88,26 @@ loop-again c =
     let at-before = at-enum-told .before in
     users-again (turn (at-before .before)) (at-enum-told .enum-told .given .1) (at-blocks-of .blocks-of .ensures) (at-join .join .ensures) (c .next-at .ensures)
 
-enum-known-r : tie.Need-enum-known-r Inv-loop μ-loop
-enum-known-r c = search needs
+enum-known-cause : tie.Need-enum-known-cause Inv-loop μ-loop
+enum-known-cause c = search needs
+
+add-found : tie.Need-add-found Inv-loop μ-loop
+add-found c =
+    let at-loop = c .before .before .before .before .before .before .before .before .before in
+    let at-pre = at-loop .before .before in
+    omega (arith, at-pre .pre .0 .room, at-loop .loop .inv .few)
+
+add-found-2 : tie.Need-add-found-2 Inv-loop μ-loop
+add-found-2 c =
+    let at-loop = c .before .before .before .before .before .before .before .before .before in
+    let at-pre = at-loop .before .before in
+    omega (arith, at-pre .pre .0 .room, at-loop .loop .inv .few)
+
+found-requires : tie.Need-found-requires Inv-loop μ-loop
+found-requires c κs = tt
 
 returns : tie.Need-returns Inv-loop μ-loop
-returns c = users-refused (turn (c .before .before .before)) (c .before .r .given .1)
+returns c = users-refused (turn (c .before .before .before .before)) (c .before .before .cause .given .1) (c .found .ensures)
 
 finish-requires : tie.Need-finish-requires Inv-loop μ-loop
 finish-requires c κs =
@@ -115,7 +130,7 @@ users-from-spec =
     loop-holds
     stands-requires
     user-at-requires
-    user-fault-requires
+    user-cause-requires
     enum-told
     blocks-of-requires
     mul-rntis
@@ -125,7 +140,10 @@ users-from-spec =
     next-at-requires
     loop-less
     loop-again
-    enum-known-r
+    enum-known-cause
+    add-found
+    add-found-2
+    found-requires
     returns
     finish-requires
     returns-2)

@@ -1,4 +1,0 @@
--- Laws that the proofs cite. For whoever reads the promises: Verdict.
-mod CauseLaws
-mod Walks
-pub mod Verdict
