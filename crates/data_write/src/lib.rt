@@ -14,15 +14,14 @@ use walk::Run;
 use walk::port_offsets;
 ghost use mathlib.Core.Path.{_≡_};
 ghost use Prim.Native.Nat.{_+_, _*_, _≤_, _<_};
-ghost use Rattle.gold.specs.Steps.{after as afterBits};
-ghost use Rattle.grid.specs.Writing.{Written};
-ghost use Rattle.areas.specs.Areas.{areaCount, areaSends, areaElement, AreaIn};
+ghost use lib.ListN.{length};
+ghost use Rattle.modulation.specs.Symbols.{Order, unitOf};
 ghost use Rattle.walk.specs.Addresses.{PairsIn, RunIn};
 ghost use Rattle.walk.specs.Forms.{Stretch};
-ghost use Rattle.data_write.specs.Sent.{groupOf, Sending};
+ghost use Rattle.data_write.specs.Sent.{groupOf, TableOf, Sending};
 ghost use Rattle.data_write.specs.Pairs.{RoundIn, RoundDone, PairsDone, RunFilled};
 ghost use Rattle.data_write.specs.OnePort.{SinglesIn, SinglesDone, HolesIn, HolesDone, SingleIn};
-ghost use Rattle.data_write.specs.Areas.{SignalsIn, AnyIn, RunsIn, RunsDone, FillIn, AreaFilled};
+ghost use Rattle.data_write.specs.Areas.{AnyIn, RunsIn, RunsDone, FillIn, AreaFilled};
 
 // The next four symbols at two pairs of places, at bytes `at` and `next` of their own ports and `across` further on the others. The table is read
 // before the grid is written, since the compiler cannot tell the two apart.
@@ -436,7 +435,7 @@ fn fill_runs(
 
 // An area's places, with symbols of q bits whose elements are in the order's table, from a slice's bits scrambled by what the pair gives; the
 // pair after them, at the bit after the last that was used. The masks are those of `areas::row_masks`.
-fn fill_by_tables(
+pub fn fill_by_tables(
     r: Registers,
     a: Area,
     q: u32,
@@ -456,14 +455,10 @@ fn fill_by_tables(
     codeword::end(r, &st)
 }
 
-// The same with tables that it makes: the elements of the order's symbols in the unit that the ports have, and the masks of the rows.
-pub fn fill_area(r: Registers, a: Area, q: u32, unit: u8, bits: &[u8], grid: &mut [u8]) -> Registers
-    requires { ⌜ AreaIn a q unit (now grid) × SignalsIn a ⌝ }
-    ensures { λ x. ⌜ Written (areaSends a) (areaElement a q unit (now (bits .entry)) r) (now (grid .entry)) (now (grid .exit)) × (x ≡ afterBits r (q * areaCount a)) ⌝ }
+// The table of an order's elements in the unit that the ports have.
+pub fn set_table(t: &mut [u32; 256], q: u32, ports: u8)
+    requires { ⌜ (length (now t) ≡ 256) × Order q ⌝ }
+    ensures { λ _. ⌜ TableOf ports q (unitOf q) (now (t .exit)) ⌝ }
 {
-    let mut t: [u32; 256] = [0; 256];
-    constellation::set_elements(&mut t, q, precoding::unit_on(a.cell.ports, unit));
-    let mut masks: [u8; 14] = [0; 14];
-    areas::row_masks(a.cell, a.frame, a.signals, a.leaves, &mut masks);
-    fill_by_tables(r, a, q, &t, &masks, bits, grid)
+    constellation::set_elements(t, q, precoding::unit_on(ports, modulation::unit(q)));
 }
