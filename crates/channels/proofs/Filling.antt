@@ -39,7 +39,7 @@ use Rattle.channels.specs.declared.Channel.{Channel}
 use Rattle.channels.specs.declared.Channel.the-variants.{Crs, Pbch, Pcfich, Phich, User as UserOf}
 
 -- ---- a user's order is a modulation's
-order-ok : (q : ℕ) → OneOf q orders → Order q
+pub order-ok : (q : ℕ) → OneOf q orders → Order q
 order-ok q h = (
   eqb→eq (q % 2) 0 (among-holds (λ (n : ℕ). eqb (n % 2) 0) orders q tt h),
   leb→le 2 q (among-holds (λ (n : ℕ). leb 2 n) orders q tt h),

@@ -1,9 +1,10 @@
--- `build::fill` meets its contract: every channel over silence makes the grid. Assumes nothing.
+-- `build::fill` meets its contract: channel after channel. Assumes nothing.
 use Prim.Native.Nat.{ℕ}
-use mathlib.Core.Path.{ap, _∙_}
+use mathlib.Core.Path.{refl, ap, _∙_}
 use lib.ListN.{length}
 use Rattle.base.proofs.Tables.{table-length}
-use Rattle.build.proofs.Turns.{silent-ready, ready-kept, pcfich-in, pcfich-written, filled-whole}
+use Rattle.base.specs.Tables.{table}
+use Rattle.build.proofs.Turns.{ready-kept, silent-ready, filled-whole, pcfich-in, pcfich-written}
 use Rattle.build.proofs.fill.Statement.{statement}
 use Rattle.build.proofs.fill.Tie as tie
 
@@ -11,29 +12,82 @@ silence-requires : tie.Need-silence-requires
 silence-requires c κs = tt
 
 fill-crs-requires : tie.Need-fill-crs-requires
-fill-crs-requires c κs = silent-ready (c .before .before .before .before .before .before .before .before .args .plan .now) (c .before .before .before .before .before .before .before .before .args .p) (c .before .before .before .before .before .before .before .before .args .payload .now) (c .before .before .before .before .before .before .before .before .pre) (c .before .before .before .silence .ensures)
+fill-crs-requires c κs =
+    let a = c .before .before .before .before .before in
+    let b = a .before .before .before .before .before in
+    silent-ready (b .pre) (a .silence .ensures)
 
 fill-marks-requires : tie.Need-fill-marks-requires
-fill-marks-requires c κs = (ready-kept (c .before .before .before .before .before .before .before .before .before .before .before .before .args .plan .now) (c .before .before .before .before .before .before .before .before .before .before .before .before .args .p) (c .before .before .before .before .before .before .before .before .before .before .before .before .args .payload .now) (silent-ready (c .before .before .before .before .before .before .before .before .before .before .before .before .args .plan .now) (c .before .before .before .before .before .before .before .before .before .before .before .before .args .p) (c .before .before .before .before .before .before .before .before .before .before .before .before .args .payload .now) (c .before .before .before .before .before .before .before .before .before .before .before .before .pre) (c .before .before .before .before .before .before .before .silence .ensures)) (c .before .before .before .fill-crs .ensures))
+fill-marks-requires c κs =
+    let a = c .before .before .before in
+    let b = a .before .before .before .before .before .before in
+    let d = b .before .before .before .before .before in
+    ready-kept (silent-ready (d .pre) (b .silence .ensures)) (a .fill-crs .ensures)
 
 fill-pbch-requires : tie.Need-fill-pbch-requires
-fill-pbch-requires c κs = (ready-kept (c .before .before .before .before .before .before .before .before .before .before .before .before .before .before .before .before .args .plan .now) (c .before .before .before .before .before .before .before .before .before .before .before .before .before .before .before .before .args .p) (c .before .before .before .before .before .before .before .before .before .before .before .before .before .before .before .before .args .payload .now) (ready-kept (c .before .before .before .before .before .before .before .before .before .before .before .before .before .before .before .before .args .plan .now) (c .before .before .before .before .before .before .before .before .before .before .before .before .before .before .before .before .args .p) (c .before .before .before .before .before .before .before .before .before .before .before .before .before .before .before .before .args .payload .now) (silent-ready (c .before .before .before .before .before .before .before .before .before .before .before .before .before .before .before .before .args .plan .now) (c .before .before .before .before .before .before .before .before .before .before .before .before .before .before .before .before .args .p) (c .before .before .before .before .before .before .before .before .before .before .before .before .before .before .before .before .args .payload .now) (c .before .before .before .before .before .before .before .before .before .before .before .before .before .before .before .before .pre) (c .before .before .before .before .before .before .before .before .before .before .before .silence .ensures)) (c .before .before .before .before .before .before .before .fill-crs .ensures)) (c .before .before .before .fill-marks .ensures))
+unfolding table
+fill-pbch-requires c κs =
+    let a = c .before .before .before .before .before in
+    let b = a .before .before .before .before in
+    let d = b .before .before .before .before .before .before in
+    let e = d .before .before .before .before .before in
+    (ready-kept (ready-kept (silent-ready (e .pre) (d .silence .ensures)) (b .fill-crs .ensures)) (a .fill-marks .ensures), (refl, refl))
 
 map-requires : tie.Need-map-requires
-map-requires c κs = pcfich-in (c .before .before .before .before .before .before .before .before .before .before .before .before .before .before .before .before .before .before .before .before .args .plan .now) (c .before .before .before .before .before .before .before .before .before .before .before .before .before .before .before .before .before .before .before .before .args .p) (c .before .before .before .before .before .before .before .before .before .before .before .before .before .before .before .before .before .before .before .before .args .payload .now) (ready-kept (c .before .before .before .before .before .before .before .before .before .before .before .before .before .before .before .before .before .before .before .before .args .plan .now) (c .before .before .before .before .before .before .before .before .before .before .before .before .before .before .before .before .before .before .before .before .args .p) (c .before .before .before .before .before .before .before .before .before .before .before .before .before .before .before .before .before .before .before .before .args .payload .now) (ready-kept (c .before .before .before .before .before .before .before .before .before .before .before .before .before .before .before .before .before .before .before .before .args .plan .now) (c .before .before .before .before .before .before .before .before .before .before .before .before .before .before .before .before .before .before .before .before .args .p) (c .before .before .before .before .before .before .before .before .before .before .before .before .before .before .before .before .before .before .before .before .args .payload .now) (silent-ready (c .before .before .before .before .before .before .before .before .before .before .before .before .before .before .before .before .before .before .before .before .args .plan .now) (c .before .before .before .before .before .before .before .before .before .before .before .before .before .before .before .before .before .before .before .before .args .p) (c .before .before .before .before .before .before .before .before .before .before .before .before .before .before .before .before .before .before .before .before .args .payload .now) (c .before .before .before .before .before .before .before .before .before .before .before .before .before .before .before .before .before .before .before .before .pre) (c .before .before .before .before .before .before .before .before .before .before .before .before .before .before .before .silence .ensures)) (c .before .before .before .before .before .before .before .before .before .before .before .fill-crs .ensures)) (c .before .before .before .before .before .before .before .fill-marks .ensures)) (c .before .before .before .fill-pbch .ensures)
+map-requires c κs =
+    let a = c .before .before .before .before .before in
+    let b = a .before .before .before .before .before .before in
+    let d = b .before .before .before .before in
+    let e = d .before .before .before .before .before .before in
+    let f = e .before .before .before .before .before in
+    pcfich-in (ready-kept (ready-kept (silent-ready (f .pre) (e .silence .ensures)) (d .fill-crs .ensures)) (b .fill-marks .ensures)) (a .fill-pbch .ensures .0)
 
 fill-units-requires : tie.Need-fill-units-requires
-fill-units-requires c κs = (ready-kept (c .before .before .before .before .before .before .before .before .before .before .before .before .before .before .before .before .before .before .before .before .before .before .before .before .args .plan .now) (c .before .before .before .before .before .before .before .before .before .before .before .before .before .before .before .before .before .before .before .before .before .before .before .before .args .p) (c .before .before .before .before .before .before .before .before .before .before .before .before .before .before .before .before .before .before .before .before .before .before .before .before .args .payload .now) (ready-kept (c .before .before .before .before .before .before .before .before .before .before .before .before .before .before .before .before .before .before .before .before .before .before .before .before .args .plan .now) (c .before .before .before .before .before .before .before .before .before .before .before .before .before .before .before .before .before .before .before .before .before .before .before .before .args .p) (c .before .before .before .before .before .before .before .before .before .before .before .before .before .before .before .before .before .before .before .before .before .before .before .before .args .payload .now) (ready-kept (c .before .before .before .before .before .before .before .before .before .before .before .before .before .before .before .before .before .before .before .before .before .before .before .before .args .plan .now) (c .before .before .before .before .before .before .before .before .before .before .before .before .before .before .before .before .before .before .before .before .before .before .before .before .args .p) (c .before .before .before .before .before .before .before .before .before .before .before .before .before .before .before .before .before .before .before .before .before .before .before .before .args .payload .now) (ready-kept (c .before .before .before .before .before .before .before .before .before .before .before .before .before .before .before .before .before .before .before .before .before .before .before .before .args .plan .now) (c .before .before .before .before .before .before .before .before .before .before .before .before .before .before .before .before .before .before .before .before .before .before .before .before .args .p) (c .before .before .before .before .before .before .before .before .before .before .before .before .before .before .before .before .before .before .before .before .before .before .before .before .args .payload .now) (silent-ready (c .before .before .before .before .before .before .before .before .before .before .before .before .before .before .before .before .before .before .before .before .before .before .before .before .args .plan .now) (c .before .before .before .before .before .before .before .before .before .before .before .before .before .before .before .before .before .before .before .before .before .before .before .before .args .p) (c .before .before .before .before .before .before .before .before .before .before .before .before .before .before .before .before .before .before .before .before .before .before .before .before .args .payload .now) (c .before .before .before .before .before .before .before .before .before .before .before .before .before .before .before .before .before .before .before .before .before .before .before .before .pre) (c .before .before .before .before .before .before .before .before .before .before .before .before .before .before .before .before .before .before .before .silence .ensures)) (c .before .before .before .before .before .before .before .before .before .before .before .before .before .before .before .fill-crs .ensures)) (c .before .before .before .before .before .before .before .before .before .before .before .fill-marks .ensures)) (c .before .before .before .before .before .before .before .fill-pbch .ensures)) (c .before .before .before .map .ensures))
+fill-units-requires c κs =
+    let a = c .before .before .before .before .before in
+    let b = a .before .before .before .before .before .before in
+    let d = b .before .before .before .before .before .before in
+    let e = d .before .before .before .before in
+    let f = e .before .before .before .before .before .before in
+    let g = f .before .before .before .before .before in
+    ready-kept (ready-kept (ready-kept (ready-kept (silent-ready (g .pre) (f .silence .ensures)) (e .fill-crs .ensures)) (d .fill-marks .ensures)) (b .fill-pbch .ensures .0)) (a .map .ensures)
 
 fill-users-requires : tie.Need-fill-users-requires
-fill-users-requires c κs = (ready-kept (c .before .before .before .before .before .before .before .before .before .before .before .before .before .before .before .before .before .before .before .before .before .before .before .before .before .before .before .before .args .plan .now) (c .before .before .before .before .before .before .before .before .before .before .before .before .before .before .before .before .before .before .before .before .before .before .before .before .before .before .before .before .args .p) (c .before .before .before .before .before .before .before .before .before .before .before .before .before .before .before .before .before .before .before .before .before .before .before .before .before .before .before .before .args .payload .now) (ready-kept (c .before .before .before .before .before .before .before .before .before .before .before .before .before .before .before .before .before .before .before .before .before .before .before .before .before .before .before .before .args .plan .now) (c .before .before .before .before .before .before .before .before .before .before .before .before .before .before .before .before .before .before .before .before .before .before .before .before .before .before .before .before .args .p) (c .before .before .before .before .before .before .before .before .before .before .before .before .before .before .before .before .before .before .before .before .before .before .before .before .before .before .before .before .args .payload .now) (ready-kept (c .before .before .before .before .before .before .before .before .before .before .before .before .before .before .before .before .before .before .before .before .before .before .before .before .before .before .before .before .args .plan .now) (c .before .before .before .before .before .before .before .before .before .before .before .before .before .before .before .before .before .before .before .before .before .before .before .before .before .before .before .before .args .p) (c .before .before .before .before .before .before .before .before .before .before .before .before .before .before .before .before .before .before .before .before .before .before .before .before .before .before .before .before .args .payload .now) (ready-kept (c .before .before .before .before .before .before .before .before .before .before .before .before .before .before .before .before .before .before .before .before .before .before .before .before .before .before .before .before .args .plan .now) (c .before .before .before .before .before .before .before .before .before .before .before .before .before .before .before .before .before .before .before .before .before .before .before .before .before .before .before .before .args .p) (c .before .before .before .before .before .before .before .before .before .before .before .before .before .before .before .before .before .before .before .before .before .before .before .before .before .before .before .before .args .payload .now) (ready-kept (c .before .before .before .before .before .before .before .before .before .before .before .before .before .before .before .before .before .before .before .before .before .before .before .before .before .before .before .before .args .plan .now) (c .before .before .before .before .before .before .before .before .before .before .before .before .before .before .before .before .before .before .before .before .before .before .before .before .before .before .before .before .args .p) (c .before .before .before .before .before .before .before .before .before .before .before .before .before .before .before .before .before .before .before .before .before .before .before .before .before .before .before .before .args .payload .now) (silent-ready (c .before .before .before .before .before .before .before .before .before .before .before .before .before .before .before .before .before .before .before .before .before .before .before .before .before .before .before .before .args .plan .now) (c .before .before .before .before .before .before .before .before .before .before .before .before .before .before .before .before .before .before .before .before .before .before .before .before .before .before .before .before .args .p) (c .before .before .before .before .before .before .before .before .before .before .before .before .before .before .before .before .before .before .before .before .before .before .before .before .before .before .before .before .args .payload .now) (c .before .before .before .before .before .before .before .before .before .before .before .before .before .before .before .before .before .before .before .before .before .before .before .before .before .before .before .before .pre) (c .before .before .before .before .before .before .before .before .before .before .before .before .before .before .before .before .before .before .before .before .before .before .before .silence .ensures)) (c .before .before .before .before .before .before .before .before .before .before .before .before .before .before .before .before .before .before .before .fill-crs .ensures)) (c .before .before .before .before .before .before .before .before .before .before .before .before .before .before .before .fill-marks .ensures)) (c .before .before .before .before .before .before .before .before .before .before .before .fill-pbch .ensures)) (c .before .before .before .before .before .before .before .map .ensures)) (c .before .before .before .fill-units .ensures))
+fill-users-requires c κs =
+    let a = c .before .before .before .before .before in
+    let b = a .before .before .before .before .before .before in
+    let d = b .before .before .before .before .before .before in
+    let e = d .before .before .before .before .before .before in
+    let f = e .before .before .before .before in
+    let g = f .before .before .before .before .before .before in
+    let h = g .before .before .before .before .before in
+    (ready-kept (ready-kept (ready-kept (ready-kept (ready-kept (silent-ready (h .pre) (g .silence .ensures)) (f .fill-crs .ensures)) (e .fill-marks .ensures)) (d .fill-pbch .ensures .0)) (b .map .ensures)) (a .fill-units .ensures), d .fill-pbch .ensures .1)
 
 same-length : tie.Need-same-length
-same-length c = c .before .before .fill-users .ensures .size ∙ c .before .before .before .before .before .before .fill-units .ensures .size ∙ c .before .before .before .before .before .before .before .before .before .before .map .ensures .size ∙ c .before .before .before .before .before .before .before .before .before .before .before .before .before .before .fill-pbch .ensures .size ∙ c .before .before .before .before .before .before .before .before .before .before .before .before .before .before .before .before .before .before .fill-marks .ensures .size ∙ c .before .before .before .before .before .before .before .before .before .before .before .before .before .before .before .before .before .before .before .before .before .before .fill-crs .ensures .size ∙ ap length (c .before .before .before .before .before .before .before .before .before .before .before .before .before .before .before .before .before .before .before .before .before .before .before .before .before .before .silence .ensures) ∙ table-length (length (c .before .before .before .before .before .before .before .before .before .before .before .before .before .before .before .before .before .before .before .before .before .before .before .before .before .before .before .before .before .before .before .args .grid .now)) (λ (i : ℕ). 0)
+same-length c =
+    let a = c .before .before in
+    let b = a .before .before .before .before .before .before in
+    let d = b .before .before .before .before .before .before in
+    let e = d .before .before .before .before .before .before in
+    let f = e .before .before .before .before .before .before in
+    let g = f .before .before .before .before in
+    let h = g .before .before .before .before .before .before in
+    let i = h .before .before .before .before .before in
+    a .fill-users .ensures .size ∙ b .fill-units .ensures .size ∙ d .map .ensures .size ∙ e .fill-pbch .ensures .0 .size ∙ f .fill-marks .ensures .size ∙ g .fill-crs .ensures .size
+    ∙ ap length (h .silence .ensures) ∙ table-length (length (i .args .grid .now)) (λ (i : ℕ). 0)
 
 returns : tie.Need-returns
-returns c = filled-whole (c .before .before .before .before .before .before .before .before .before .before .before .before .before .before .before .before .before .before .before .before .before .before .before .before .before .before .before .before .before .before .before .args .plan .now) (c .before .before .before .before .before .before .before .before .before .before .before .before .before .before .before .before .before .before .before .before .before .before .before .before .before .before .before .before .before .before .before .args .p) (c .before .before .before .before .before .before .before .before .before .before .before .before .before .before .before .before .before .before .before .before .before .before .before .before .before .before .before .before .before .before .before .args .payload .now) (c .before .before .before .before .before .before .before .before .before .before .before .before .before .before .before .before .before .before .before .before .before .before .before .before .before .before .before .before .before .before .before .pre) (c .before .before .before .before .before .before .before .before .before .before .before .before .before .before .before .before .before .before .before .before .before .before .before .before .before .before .silence .ensures) (c .before .before .before .before .before .before .before .before .before .before .before .before .before .before .before .before .before .before .before .before .before .before .fill-crs .ensures) (c .before .before .before .before .before .before .before .before .before .before .before .before .before .before .before .before .before .before .fill-marks .ensures) (c .before .before .before .before .before .before .before .before .before .before .before .before .before .before .fill-pbch .ensures) (pcfich-written (c .before .before .before .before .before .before .before .before .before .before .before .before .before .before .before .before .before .before .before .before .before .before .before .before .before .before .before .before .before .before .before .args .plan .now) (c .before .before .before .before .before .before .before .before .before .before .before .before .before .before .before .before .before .before .before .before .before .before .before .before .before .before .before .before .before .before .before .args .p) (c .before .before .before .before .before .before .before .before .before .before .before .before .before .before .before .before .before .before .before .before .before .before .before .before .before .before .before .before .before .before .before .args .payload .now) (ready-kept (c .before .before .before .before .before .before .before .before .before .before .before .before .before .before .before .before .before .before .before .before .before .before .before .before .before .before .before .before .before .before .before .args .plan .now) (c .before .before .before .before .before .before .before .before .before .before .before .before .before .before .before .before .before .before .before .before .before .before .before .before .before .before .before .before .before .before .before .args .p) (c .before .before .before .before .before .before .before .before .before .before .before .before .before .before .before .before .before .before .before .before .before .before .before .before .before .before .before .before .before .before .before .args .payload .now) (ready-kept (c .before .before .before .before .before .before .before .before .before .before .before .before .before .before .before .before .before .before .before .before .before .before .before .before .before .before .before .before .before .before .before .args .plan .now) (c .before .before .before .before .before .before .before .before .before .before .before .before .before .before .before .before .before .before .before .before .before .before .before .before .before .before .before .before .before .before .before .args .p) (c .before .before .before .before .before .before .before .before .before .before .before .before .before .before .before .before .before .before .before .before .before .before .before .before .before .before .before .before .before .before .before .args .payload .now) (ready-kept (c .before .before .before .before .before .before .before .before .before .before .before .before .before .before .before .before .before .before .before .before .before .before .before .before .before .before .before .before .before .before .before .args .plan .now) (c .before .before .before .before .before .before .before .before .before .before .before .before .before .before .before .before .before .before .before .before .before .before .before .before .before .before .before .before .before .before .before .args .p) (c .before .before .before .before .before .before .before .before .before .before .before .before .before .before .before .before .before .before .before .before .before .before .before .before .before .before .before .before .before .before .before .args .payload .now) (silent-ready (c .before .before .before .before .before .before .before .before .before .before .before .before .before .before .before .before .before .before .before .before .before .before .before .before .before .before .before .before .before .before .before .args .plan .now) (c .before .before .before .before .before .before .before .before .before .before .before .before .before .before .before .before .before .before .before .before .before .before .before .before .before .before .before .before .before .before .before .args .p) (c .before .before .before .before .before .before .before .before .before .before .before .before .before .before .before .before .before .before .before .before .before .before .before .before .before .before .before .before .before .before .before .args .payload .now) (c .before .before .before .before .before .before .before .before .before .before .before .before .before .before .before .before .before .before .before .before .before .before .before .before .before .before .before .before .before .before .before .pre) (c .before .before .before .before .before .before .before .before .before .before .before .before .before .before .before .before .before .before .before .before .before .before .before .before .before .before .silence .ensures)) (c .before .before .before .before .before .before .before .before .before .before .before .before .before .before .before .before .before .before .before .before .before .before .fill-crs .ensures)) (c .before .before .before .before .before .before .before .before .before .before .before .before .before .before .before .before .before .before .fill-marks .ensures)) (c .before .before .before .before .before .before .before .before .before .before .before .before .before .before .fill-pbch .ensures)) (c .before .before .before .before .before .before .before .before .before .before .before .before .before .before .before .before .before .before .before .before .before .before .before .before .before .before .before .before .before .before .before .args .payload .now) (c .before .before .before .before .before .before .before .before .before .before .map .ensures)) (c .before .before .before .before .before .before .fill-units .ensures) (c .before .before .fill-users .ensures)
-
+returns c =
+    let a = c .before .before in
+    let b = a .before .before .before .before .before .before in
+    let d = b .before .before .before .before .before .before in
+    let e = d .before .before .before .before .before .before in
+    let f = e .before .before .before .before .before .before in
+    let g = f .before .before .before .before in
+    let h = g .before .before .before .before .before .before in
+    let i = h .before .before .before .before .before in
+    filled-whole (i .pre) (h .silence .ensures) (g .fill-crs .ensures) (f .fill-marks .ensures) (e .fill-pbch .ensures .0)
+    (pcfich-written (ready-kept (ready-kept (ready-kept (silent-ready (i .pre) (h .silence .ensures)) (g .fill-crs .ensures)) (f .fill-marks .ensures)) (e .fill-pbch .ensures .0)) (i .args .payload .now) (d .map .ensures)) (b .fill-units .ensures) (a .fill-users .ensures)
 pub fill-spec : {M : Type 1} → statement M
 fill-spec =
     tie.close
