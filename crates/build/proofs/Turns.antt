@@ -36,8 +36,8 @@ use Rattle.counts.specs.declared.Shape.{Shape}
 use Rattle.counts.specs.Shape.{shapeOf, countBy}
 use Rattle.payload.proofs.Lengths.{bits-are}
 use Rattle.payload.proofs.Sections.{userStart, user-start-first}
-use Rattle.grid.specs.Writing.{Written}
-use Rattle.grid.proofs.Writing.{none, same, over, room-kept, whole}
+use Rattle.grid.specs.Writing.{Written, Room}
+use Rattle.grid.proofs.Writing.{none, same, over, whole}
 use Rattle.subframe.specs.Grid.{elementNumbered, gridOf}
 use Rattle.subframe.proofs.Bytes.{length-by-port}
 use Rattle.areas.specs.Tables.{RowMasks}
@@ -79,10 +79,18 @@ module _ {w : List ℕ} {p : Plan} {payload g₀ : List ℕ} (start : Ready w p 
   abbrev E : ℕ → Element
   E = elementNumbered w p payload
 
-  -- what the channels need, at any point of the filling
-  module _ {D : ℕ → Bool} {W : ℕ → Element} {g : List ℕ} (r : Written D W g₀ g) where
+  -- what the channels need, at any point of the filling: a grid g of the same length
+  module _ {g : List ℕ} (kept : length g ≡ length g₀) where
+    room-kept : Room (p .cell .ports) (placesOf (p .cell)) g
+    room-kept =
+        let r = start .room in
+        record { some = r .some; most = r .most; not-three = r .not-three; fits = r .fits; size = kept ∙ r .size }
+
+    pub ready-kept : Ready w p payload g
+    ready-kept = record { answer = start .answer; right = start .right; room = room-kept }
+
     channel-in : {t masks bits : List ℕ} (ch : Channel) → Among p ch → Planned w p bits ch → Tables p ch t masks → ChannelIn p ch t masks bits g
-    channel-in ch a h x = record { bytes = w; plan = start .answer; among = a; planned = h; tables = x; room = room-kept (start .room) r }
+    channel-in ch a h x = record { bytes = w; plan = start .answer; among = a; planned = h; tables = x; room = room-kept }
 
     pub crs-in : {t masks bits : List ℕ} (s q : ℕ) → s < symbols (p .cell) → q < p .cell .ports → ChannelIn p (Crs s q) t masks bits g
     unfolding Among Planned Tables
@@ -107,9 +115,6 @@ module _ {w : List ℕ} {p : Plan} {payload g₀ : List ℕ} (start : Ready w p 
         → RowMasks (p .cell) (p .frame) (p .cell .ports) true 14 masks → ChannelIn p (UserChannel u) t masks bits g
     unfolding Among Planned Tables
     user-in u i l e x m = channel-in (UserChannel u) (rw e (user-valid w p ok payload i l)) (i, l, e) (x, m)
-
-  pub ready-kept : {D : ℕ → Bool} {W : ℕ → Element} {g : List ℕ} → Written D W g₀ g → Ready w p payload g
-  ready-kept r = record { answer = start .answer; right = start .right; room = room-kept (start .room) r }
 
   -- PBCH's section ends before the users' sections start
   pub heads-in : {n from end : ℕ} → n ≡ pbchBits (p .cell) (p .frame) → from ≡ sectionBytes n → end ≡ usersStart p → (from ≤ end) × (end ≤ length payload)
@@ -239,7 +244,7 @@ module _ {w : List ℕ} {p : Plan} {payload g₀ : List ℕ} (start : Ready w p 
     pub going-valid :
         {t masks bits : List ℕ} → Having (p .cell .ports) (u .order) t → RowMasks (p .cell) (p .frame) (p .cell .ports) true 14 masks
         → ChannelIn p (UserChannel u) t masks bits g
-    going-valid x m = user-in (so .written) u i in-i user-is (x .table (λ z. omega (arith, z, going-order .1))) m
+    going-valid x m = user-in (so .written .size) u i in-i user-is (x .table (λ z. omega (arith, z, going-order .1))) m
 
     -- its section has b bytes, by the shape x of the frame's slots
     module _ {x : Shape} {n b : ℕ} (ex : x ≡ shapeOf (p .cell) (p .frame)) (en : n ≡ u .order * countBy (p .cell) x u) (eb : b ≡ sectionBytes n) where
@@ -287,19 +292,12 @@ module _ {P : ℕ} {t : List ℕ} where
   having-same e x = rw e x
 
 -- ---- all channels, over silence
+pub silent-kept : (g₀ : List ℕ) {g₁ : List ℕ} → g₁ ≡ table (length g₀) (λ (i : ℕ). 0) → length g₁ ≡ length g₀
+silent-kept g₀ e = rw e (table-length (length g₀) (λ (i : ℕ). 0))
+
 module _ {w : List ℕ} {p : Plan} {payload g₀ g₁ : List ℕ} (start : Ready w p payload g₀) (quietly : g₁ ≡ table (length g₀) (λ (i : ℕ). 0)) where
   abbrev Value : ℕ → Element
   Value = elementNumbered w p payload
-
-  pub silent-ready : Ready w p payload g₁
-  silent-ready =
-      record {
-        answer = start .answer;
-        right = start .right;
-        room =
-            let r = start .room in
-            record { some = r .some; most = r .most; not-three = r .not-three; fits = r .fits; size = rw quietly (table-length (length g₀) (λ (i : ℕ). 0) ∙ r .size) };
-      }
 
   all-written : {g : List ℕ} → Written (allSend w p) Value g₁ g → g ≡ gridOf w p payload
   unfolding gridOf

@@ -1,10 +1,7 @@
 -- `build::fill` meets its contract: channel after channel. Assumes nothing.
-use Prim.Native.Nat.{ℕ}
-use mathlib.Core.Path.{refl, ap, _∙_}
-use lib.ListN.{length}
-use Rattle.base.proofs.Tables.{table-length}
+use mathlib.Core.Path.{refl, _∙_}
 use Rattle.base.specs.Tables.{table}
-use Rattle.build.proofs.Turns.{ready-kept, silent-ready, filled-whole, pcfich-in, pcfich-written}
+use Rattle.build.proofs.Turns.{ready-kept, silent-kept, filled-whole, pcfich-in, pcfich-written}
 use Rattle.build.proofs.fill.Statement.{statement}
 use Rattle.build.proofs.fill.Tie as tie
 
@@ -15,14 +12,14 @@ fill-crs-requires : tie.Need-fill-crs-requires
 fill-crs-requires c κs =
     let a = c .before .before .before .before .before in
     let b = a .before .before .before .before .before in
-    silent-ready (b .pre) (a .silence .ensures)
+    ready-kept (b .pre) (silent-kept (b .args .grid .now) (a .silence .ensures))
 
 fill-marks-requires : tie.Need-fill-marks-requires
 fill-marks-requires c κs =
     let a = c .before .before .before in
     let b = a .before .before .before .before .before .before in
     let d = b .before .before .before .before .before in
-    ready-kept (silent-ready (d .pre) (b .silence .ensures)) (a .fill-crs .ensures)
+    ready-kept (d .pre) (a .fill-crs .ensures .size ∙ silent-kept (d .args .grid .now) (b .silence .ensures))
 
 fill-pbch-requires : tie.Need-fill-pbch-requires
 unfolding table
@@ -31,7 +28,7 @@ fill-pbch-requires c κs =
     let b = a .before .before .before .before in
     let d = b .before .before .before .before .before .before in
     let e = d .before .before .before .before .before in
-    (ready-kept (ready-kept (silent-ready (e .pre) (d .silence .ensures)) (b .fill-crs .ensures)) (a .fill-marks .ensures), (refl, refl))
+    (ready-kept (e .pre) (a .fill-marks .ensures .size ∙ b .fill-crs .ensures .size ∙ silent-kept (e .args .grid .now) (d .silence .ensures)), (refl, refl))
 
 map-requires : tie.Need-map-requires
 map-requires c κs =
@@ -40,7 +37,7 @@ map-requires c κs =
     let d = b .before .before .before .before in
     let e = d .before .before .before .before .before .before in
     let f = e .before .before .before .before .before in
-    pcfich-in (ready-kept (ready-kept (silent-ready (f .pre) (e .silence .ensures)) (d .fill-crs .ensures)) (b .fill-marks .ensures)) (a .fill-pbch .ensures .0)
+    pcfich-in (f .pre) (a .fill-pbch .ensures .0 .size ∙ b .fill-marks .ensures .size ∙ d .fill-crs .ensures .size ∙ silent-kept (f .args .grid .now) (e .silence .ensures))
 
 fill-units-requires : tie.Need-fill-units-requires
 fill-units-requires c κs =
@@ -50,7 +47,7 @@ fill-units-requires c κs =
     let e = d .before .before .before .before in
     let f = e .before .before .before .before .before .before in
     let g = f .before .before .before .before .before in
-    ready-kept (ready-kept (ready-kept (ready-kept (silent-ready (g .pre) (f .silence .ensures)) (e .fill-crs .ensures)) (d .fill-marks .ensures)) (b .fill-pbch .ensures .0)) (a .map .ensures)
+    ready-kept (g .pre) (a .map .ensures .size ∙ b .fill-pbch .ensures .0 .size ∙ d .fill-marks .ensures .size ∙ e .fill-crs .ensures .size ∙ silent-kept (g .args .grid .now) (f .silence .ensures))
 
 fill-users-requires : tie.Need-fill-users-requires
 fill-users-requires c κs =
@@ -61,7 +58,7 @@ fill-users-requires c κs =
     let f = e .before .before .before .before in
     let g = f .before .before .before .before .before .before in
     let h = g .before .before .before .before .before in
-    (ready-kept (ready-kept (ready-kept (ready-kept (ready-kept (silent-ready (h .pre) (g .silence .ensures)) (f .fill-crs .ensures)) (e .fill-marks .ensures)) (d .fill-pbch .ensures .0)) (b .map .ensures)) (a .fill-units .ensures), d .fill-pbch .ensures .1)
+    (ready-kept (h .pre) (a .fill-units .ensures .size ∙ b .map .ensures .size ∙ d .fill-pbch .ensures .0 .size ∙ e .fill-marks .ensures .size ∙ f .fill-crs .ensures .size ∙ silent-kept (h .args .grid .now) (g .silence .ensures)), d .fill-pbch .ensures .1)
 
 same-length : tie.Need-same-length
 same-length c =
@@ -73,8 +70,7 @@ same-length c =
     let g = f .before .before .before .before in
     let h = g .before .before .before .before .before .before in
     let i = h .before .before .before .before .before in
-    a .fill-users .ensures .size ∙ b .fill-units .ensures .size ∙ d .map .ensures .size ∙ e .fill-pbch .ensures .0 .size ∙ f .fill-marks .ensures .size ∙ g .fill-crs .ensures .size
-    ∙ ap length (h .silence .ensures) ∙ table-length (length (i .args .grid .now)) (λ (i : ℕ). 0)
+    a .fill-users .ensures .size ∙ b .fill-units .ensures .size ∙ d .map .ensures .size ∙ e .fill-pbch .ensures .0 .size ∙ f .fill-marks .ensures .size ∙ g .fill-crs .ensures .size ∙ silent-kept (i .args .grid .now) (h .silence .ensures)
 
 returns : tie.Need-returns
 returns c =
@@ -87,7 +83,7 @@ returns c =
     let h = g .before .before .before .before .before .before in
     let i = h .before .before .before .before .before in
     filled-whole (i .pre) (h .silence .ensures) (g .fill-crs .ensures) (f .fill-marks .ensures) (e .fill-pbch .ensures .0)
-    (pcfich-written (ready-kept (ready-kept (ready-kept (silent-ready (i .pre) (h .silence .ensures)) (g .fill-crs .ensures)) (f .fill-marks .ensures)) (e .fill-pbch .ensures .0)) (i .args .payload .now) (d .map .ensures)) (b .fill-units .ensures) (a .fill-users .ensures)
+    (pcfich-written (ready-kept (i .pre) (e .fill-pbch .ensures .0 .size ∙ f .fill-marks .ensures .size ∙ g .fill-crs .ensures .size ∙ silent-kept (i .args .grid .now) (h .silence .ensures))) (i .args .payload .now) (d .map .ensures)) (b .fill-units .ensures) (a .fill-users .ensures)
 pub fill-spec : {M : Type 1} → statement M
 fill-spec =
     tie.close

@@ -42,7 +42,7 @@ fill-crs-row-requires c κs =
     let b = a .before in
     let d = b .before in
     let e = d .before .before .before .before in
-    (ready-kept (e .pre) (b .loop .inv .1), omega (arith, a .loop-test .taken, d .slot-length .ensures))
+    (ready-kept (e .pre) (b .loop .inv .1 .size), omega (arith, a .loop-test .taken, d .slot-length .ensures))
 
 add-s : tie.Need-add-s Inv-loop μ-loop
 add-s c =

@@ -27,7 +27,7 @@ map-requires c κs =
     let a = c .before .before .before in
     let b = a .before .before in
     let d = b .before .before .before .before in
-    crs-in (d .pre .0) (b .loop .inv .1) _ _ (d .pre .1) (a .if1 .taken)
+    crs-in (d .pre .0) (b .loop .inv .1 .size) _ _ (d .pre .1) (a .if1 .taken)
 
 add-q : tie.Need-add-q Inv-loop μ-loop
 add-q c =

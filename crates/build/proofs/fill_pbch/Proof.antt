@@ -1,9 +1,7 @@
 -- `build::fill_pbch` meets its contract: the first section is PBCH's. Assumes nothing.
 use mathlib.Core.Path.{refl, ap, _∙_}
 use native.Mathlib.Omega.{arith}
-use Rattle.subframe.specs.Grid.{elementNumbered}
 use Rattle.payload.specs.Sections.{sectionBytes}
-use Rattle.grid.proofs.Writing.{none}
 use Rattle.build.proofs.Turns.{heads-in, pbch-none, pbch-written, pbch-in}
 use Rattle.build.proofs.fill_pbch.Statement.{statement}
 use Rattle.build.proofs.fill_pbch.Tie as tie
@@ -44,7 +42,7 @@ map-requires c κs =
     let b = a .before .before in
     let d = b .before .before .before .before in
     let e = d .before .before .before .before .before in
-    pbch-in (e .pre .0) (none (elementNumbered (e .args .plan .now) (e .args .p) (e .args .payload .now)) (e .args .grid .now)) (d .if1 .taken) (b .set-table .ensures) (a .row-masks .ensures)
+    pbch-in (e .pre .0) refl (d .if1 .taken) (b .set-table .ensures) (a .row-masks .ensures)
 
 same-length : tie.Need-same-length
 same-length c = c .before .before .map .ensures .size

@@ -128,7 +128,7 @@ map-requires c κs =
     let h = g .before in
     let i = h .before in
     let j = i .before .before .before .before in
-    unit-in (j .pre) (b .loop .inv .1) (b .loop .m) (omega (arith, a .loop-test .taken, i .units .ensures))
+    unit-in (j .pre) (b .loop .inv .1 .size) (b .loop .m) (omega (arith, a .loop-test .taken, i .units .ensures))
     (part-in (j .pre) (e .spread-length .ensures) _ _ (g .section-bytes .ensures ∙ ap sectionBytes (h .pbch-bits .ensures)) (f .users-start .ensures) (d .quad-sums .ensures) (b .loop .m)
     (omega (arith, a .loop-test .taken, i .units .ensures)))
 
