@@ -95,7 +95,8 @@ fn fill_pbch(
     grid: &mut [u8],
 )
     requires { ⌜ Ready (now plan) p (now payload) (now grid) × Spare (now t) (now masks) ⌝ }
-    ensures { λ _. ⌜ Written (pbchSends (now (plan .entry)) p) (elementNumbered (now (plan .entry)) p (now (payload .entry))) (now (grid .entry)) (now (grid .exit)) × Spare (now (t .exit)) (now (masks .exit)) ⌝ }
+    ensures { λ _. ⌜ Written (pbchSends (now (plan .entry)) p) (elementNumbered (now (plan .entry)) p (now (payload .entry))) (now (grid .entry)) (now (grid .exit))
+        × Spare (now (t .exit)) (now (masks .exit)) ⌝ }
 {
     if p.frame.subframe == 0 {
         let end = payload::section_bytes(payload::pbch_bits(p.cell, p.frame));

@@ -81,22 +81,22 @@ module _ {p : Plan} {ch : Channel} {t masks bits grid : List ℕ} (ok : ChannelI
       let L = slot-length (p .cell) in
       let x = subst (λ (c : Channel). Tables p c t masks) e (ok .tables) in
       subst (λ (b : Area). FillIn b 2 t masks grid) (sym ea) (
-        record {
-          unit = 2;
-          area =
-              record {
-                cell = v .cell;
-                frame = v .frame;
-                rows = omega (arith, L .0);
-                halves = omega (arith, pbch-wide);
-                order = (omega arith, omega arith, omega arith);
-                level = omega arith;
-                room = ok .room;
-              };
-          signals = λ many. (omega arith, λ x. omega (arith, x));
-          table = x .0;
-          bytes = x .1;
-        }
+      record {
+        unit = 2;
+        area =
+            record {
+              cell = v .cell;
+              frame = v .frame;
+              rows = omega (arith, L .0);
+              halves = omega (arith, pbch-wide);
+              order = (omega arith, omega arith, omega arith);
+              level = omega arith;
+              room = ok .room;
+            };
+        signals = λ many. (omega arith, λ x. omega (arith, x));
+        table = x .0;
+        bytes = x .1;
+      }
       )
 
   pub pcfich-in : PcfichIn (p .cell) (p .frame .cfi) grid
@@ -113,22 +113,22 @@ module _ {p : Plan} {ch : Channel} {t masks bits grid : List ℕ} (ok : ChannelI
       let h : UserIn (p .cell) u = subst (Among p) e (ok .among) in
       let x = subst (λ (c : Channel). Tables p c t masks) e (ok .tables) in
       rw eq (subst (λ (b : Area). FillIn b (u .order) t masks grid) (sym ea) (
-        record {
-          unit = unitOf (u .order);
-          area =
-              record {
-                cell = v .cell;
-                frame = v .frame;
-                rows = omega arith;
-                halves = omega (arith, h .last);
-                order = order-ok (u .order) (h .order);
-                level = omega (arith, unit-small (u .order));
-                room = ok .room;
-              };
-          signals = λ many. (many, not-three (p .cell) (v .cell));
-          table = x .0;
-          bytes = x .1;
-        }
+      record {
+        unit = unitOf (u .order);
+        area =
+            record {
+              cell = v .cell;
+              frame = v .frame;
+              rows = omega arith;
+              halves = omega (arith, h .last);
+              order = order-ok (u .order) (h .order);
+              level = omega (arith, unit-small (u .order));
+              room = ok .room;
+            };
+        signals = λ many. (many, not-three (p .cell) (v .cell));
+        table = x .0;
+        bytes = x .1;
+      }
       ))
 
   -- ---- what they write with the pair r, and where they leave it

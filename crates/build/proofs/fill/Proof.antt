@@ -47,7 +47,8 @@ fill-units-requires c κs =
     let e = d .before .before .before .before in
     let f = e .before .before .before .before .before .before in
     let g = f .before .before .before .before .before in
-    ready-kept (g .pre) (a .map .ensures .size ∙ b .fill-pbch .ensures .0 .size ∙ d .fill-marks .ensures .size ∙ e .fill-crs .ensures .size ∙ silent-kept (g .args .grid .now) (f .silence .ensures))
+    ready-kept (g .pre) (a .map .ensures .size ∙ b .fill-pbch .ensures .0 .size ∙ d .fill-marks .ensures .size ∙ e .fill-crs .ensures .size ∙ silent-kept (g .args .grid .now)
+    (f .silence .ensures))
 
 fill-users-requires : tie.Need-fill-users-requires
 fill-users-requires c κs =
@@ -57,8 +58,11 @@ fill-users-requires c κs =
     let e = d .before .before .before .before .before .before in
     let f = e .before .before .before .before in
     let g = f .before .before .before .before .before .before in
-    let h = g .before .before .before .before .before in
-    (ready-kept (h .pre) (a .fill-units .ensures .size ∙ b .map .ensures .size ∙ d .fill-pbch .ensures .0 .size ∙ e .fill-marks .ensures .size ∙ f .fill-crs .ensures .size ∙ silent-kept (h .args .grid .now) (g .silence .ensures)), d .fill-pbch .ensures .1)
+    let h = g .before .before .before .before .before in (
+      ready-kept (h .pre) (a .fill-units .ensures .size ∙ b .map .ensures .size ∙ d .fill-pbch .ensures .0 .size ∙ e .fill-marks .ensures .size ∙ f .fill-crs .ensures .size ∙ silent-kept
+          (h .args .grid .now) (g .silence .ensures)),
+      d .fill-pbch .ensures .1,
+    )
 
 same-length : tie.Need-same-length
 same-length c =
@@ -70,7 +74,8 @@ same-length c =
     let g = f .before .before .before .before in
     let h = g .before .before .before .before .before .before in
     let i = h .before .before .before .before .before in
-    a .fill-users .ensures .size ∙ b .fill-units .ensures .size ∙ d .map .ensures .size ∙ e .fill-pbch .ensures .0 .size ∙ f .fill-marks .ensures .size ∙ g .fill-crs .ensures .size ∙ silent-kept (i .args .grid .now) (h .silence .ensures)
+    a .fill-users .ensures .size ∙ b .fill-units .ensures .size ∙ d .map .ensures .size ∙ e .fill-pbch .ensures .0 .size ∙ f .fill-marks .ensures .size ∙ g .fill-crs .ensures .size
+    ∙ silent-kept (i .args .grid .now) (h .silence .ensures)
 
 returns : tie.Need-returns
 returns c =
@@ -83,7 +88,9 @@ returns c =
     let h = g .before .before .before .before .before .before in
     let i = h .before .before .before .before .before in
     filled-whole (i .pre) (h .silence .ensures) (g .fill-crs .ensures) (f .fill-marks .ensures) (e .fill-pbch .ensures .0)
-    (pcfich-written (ready-kept (i .pre) (e .fill-pbch .ensures .0 .size ∙ f .fill-marks .ensures .size ∙ g .fill-crs .ensures .size ∙ silent-kept (i .args .grid .now) (h .silence .ensures))) (i .args .payload .now) (d .map .ensures)) (b .fill-units .ensures) (a .fill-users .ensures)
+    (pcfich-written (ready-kept (i .pre) (e .fill-pbch .ensures .0 .size ∙ f .fill-marks .ensures .size ∙ g .fill-crs .ensures .size ∙ silent-kept (i .args .grid .now)
+    (h .silence .ensures))) (i .args .payload .now) (d .map .ensures)) (b .fill-units .ensures) (a .fill-users .ensures)
+
 pub fill-spec : {M : Type 1} → statement M
 fill-spec =
     tie.close

@@ -74,6 +74,7 @@ returns c =
     let b = a .before in
     let d = b .before .before .before .before in
     rows-end (d .pre) _ _ (a .loop .inv .0) (c .loop-test .left) (ap (λ (x : ℕ). 2 * x) (b .slot-length .ensures)) (a .loop .inv .1)
+
 pub fill-crs-spec : {M : Type 1} → statement M
 fill-crs-spec =
     tie.close

@@ -43,13 +43,12 @@ loop-again c =
     let a = c .before in
     let b = a .before in
     let d = b .before .before in
-    let e = d .before .before .before .before in
-    (
+    let e = d .before .before .before .before in (
       omega (arith, b .if1 .taken),
       ⊎-elim
-      (λ x. rw (x .5) (crs-more (e .pre .0) (e .args .s) (d .loop .q) (d .loop .inv .1) (e .args .payload .now) (sym (a .uses .ensures) ∙ x .0 .taken) (b .if1 .taken) (x .2 .ensures)))
-      (λ x. rw (x .1) (crs-pass (e .pre .0) (e .args .s) (d .loop .q) (d .loop .inv .1) (sym (a .uses .ensures) ∙ x .0 .left)))
-      (c .if2 .came),
+          (λ x. rw (x .5) (crs-more (e .pre .0) (e .args .s) (d .loop .q) (d .loop .inv .1) (e .args .payload .now) (sym (a .uses .ensures) ∙ x .0 .taken) (b .if1 .taken) (x .2 .ensures)))
+          (λ x. rw (x .1) (crs-pass (e .pre .0) (e .args .s) (d .loop .q) (d .loop .inv .1) (sym (a .uses .ensures) ∙ x .0 .left)))
+          (c .if2 .came),
     )
 
 same-length : tie.Need-same-length Inv-loop μ-loop
@@ -60,6 +59,7 @@ returns c =
     let a = c .before .before in
     let b = a .before .before .before .before in
     crs-end (b .pre .0) (b .args .s) _ (a .loop .inv .0) (c .if1 .left) (a .loop .inv .1)
+
 pub fill-crs-row-spec : {M : Type 1} → statement M
 fill-crs-row-spec =
     tie.close

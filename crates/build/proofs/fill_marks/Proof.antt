@@ -40,6 +40,7 @@ returns-2 c =
     let a = c .before in
     let b = a .before .before .before .before in
     marks-none (b .pre) (sym (a .is-marked .ensures) ∙ c .if1 .left)
+
 pub fill-marks-spec : {M : Type 1} → statement M
 fill-marks-spec =
     tie.close

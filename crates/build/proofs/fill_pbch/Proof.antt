@@ -55,8 +55,7 @@ returns c =
     let e = d .before .before in
     let f = e .before in
     let g = f .before in
-    let h = g .before .before .before .before .before in
-    (
+    let h = g .before .before .before .before .before in (
       pbch-written (h .pre .0) _ (g .if1 .taken) (e .section-bytes .ensures ∙ ap sectionBytes (f .pbch-bits .ensures)) (a .map .ensures),
       (d .set-table .ensures .table .size, b .row-masks .ensures .size),
     )
@@ -65,6 +64,7 @@ returns-2 : tie.Need-returns-2
 returns-2 c =
     let a = c .before .before .before .before .before in
     (pbch-none (a .pre .0) (c .if1 .left), a .pre .1)
+
 pub fill-pbch-spec : {M : Type 1} → statement M
 fill-pbch-spec =
     tie.close

@@ -129,7 +129,8 @@ map-requires c κs =
     let i = h .before in
     let j = i .before .before .before .before in
     unit-in (j .pre) (b .loop .inv .1 .size) (b .loop .m) (omega (arith, a .loop-test .taken, i .units .ensures))
-    (part-in (j .pre) (e .spread-length .ensures) _ _ (g .section-bytes .ensures ∙ ap sectionBytes (h .pbch-bits .ensures)) (f .users-start .ensures) (d .quad-sums .ensures) (b .loop .m)
+    (part-in (j .pre) (e .spread-length .ensures) _ _ (g .section-bytes .ensures ∙ ap sectionBytes (h .pbch-bits .ensures)) (f .users-start .ensures) (d .quad-sums .ensures)
+    (b .loop .m)
     (omega (arith, a .loop-test .taken, i .units .ensures)))
 
 add-m : tie.Need-add-m Inv-loop μ-loop
@@ -156,11 +157,11 @@ loop-again c =
     let h = g .before in
     let i = h .before in
     let j = i .before in
-    let k = j .before .before .before .before in
-    (
+    let k = j .before .before .before .before in (
       omega (arith, b .loop-test .taken, j .units .ensures),
-      units-more (k .pre) (f .spread-length .ensures) _ _ (h .section-bytes .ensures ∙ ap sectionBytes (i .pbch-bits .ensures)) (g .users-start .ensures) (e .quad-sums .ensures) (d .loop .m)
-      (omega (arith, b .loop-test .taken, j .units .ensures)) (d .loop .inv .1) (a .map .ensures),
+      units-more (k .pre) (f .spread-length .ensures) _ _ (h .section-bytes .ensures ∙ ap sectionBytes (i .pbch-bits .ensures)) (g .users-start .ensures) (e .quad-sums .ensures)
+          (d .loop .m)
+          (omega (arith, b .loop-test .taken, j .units .ensures)) (d .loop .inv .1) (a .map .ensures),
     )
 
 same-length : tie.Need-same-length Inv-loop μ-loop
@@ -172,6 +173,7 @@ returns c =
     let b = a .before .before .before .before .before .before .before .before in
     let d = b .before .before .before .before in
     units-end (d .pre) _ _ (a .loop .inv .0) (c .loop-test .left) (b .units .ensures) (a .loop .inv .1)
+
 pub fill-units-spec : {M : Type 1} → statement M
 fill-units-spec =
     tie.close

@@ -113,8 +113,7 @@ loop-again c =
     let f = e .before in
     let g = f .before in
     let h = g .before .before in
-    let i = h .before .before .before .before in
-    (
+    let i = h .before .before .before .before in (
       b .renew .ensures,
       λ r. going-next r (h .loop .inv .1 r) (g .if1 .taken) _ (f .user-at .ensures)
           (i .shape-of .ensures) (e .user-bits .ensures) (d .section-bytes .ensures) _ (c .next-at .ensures) (a .map .ensures),
@@ -131,6 +130,7 @@ returns c =
     let a = c .before .before in
     let b = a .before .before .before .before .before .before .before .before in
     users-end (b .pre .0) (a .loop .inv .1 (b .pre .0)) (c .if1 .left)
+
 pub fill-users-spec : {M : Type 1} → statement M
 fill-users-spec =
     tie.close

@@ -124,6 +124,7 @@ returns-5 c =
     let d = b .before .before in
     let e = d .before .before .before .before .before .before in
     user-filled (e .pre) _ _ _ _ (d .ch3 .given .1) (b .user-area .ensures) refl (a .fill-by-tables2 .ensures)
+
 pub filled-spec : {M : Type 1} → statement M
 filled-spec =
     tie.close

@@ -193,7 +193,8 @@ module _ {M : Type 1} (𝓤 : URA M) (H : Heap 𝓤) (A : Atoms 𝓤) (W : Given
   goes-lent : (l ν : ℕ) (δ : GName) (r : Registers) → ent 𝓤 (⋆ 𝓤 H A ((‵ (flft (ν ∷ []) fullShare) ⊛ tokens) ∷ ‵ (own-at l ν δ r) ∷ ‵ rest-own ∷ [])) (Lent 𝓤 H A at-mem run .pre (to-lent l ν δ r))
   goes-lent l ν δ r = qed W ((‵ (flft (ν ∷ []) fullShare) ⊛ tokens) ∷ ‵ (own-at l ν δ r) ∷ ‵ rest-own ∷ []) ∵ says ! ok $ move ! (1 ∷ 2 ∷ []) $ fjoin ! $ move ! (1 ∷ 0 ∷ []) $ frame ! $ done !
 
-  module _ (C : Calls 𝓤 H) (Λ : Loops 𝓤 H) (fm : FmC 𝓤 H (W .laws) C) (known-begin : Triple 𝓤 (C #channels·started) (Begin 𝓤 H A at-mem run)) (known-lent : Triple 𝓤 (C #channels·fill) (Lent 𝓤 H A at-mem run)) where
+  module _ (C : Calls 𝓤 H) (Λ : Loops 𝓤 H) (fm : FmC 𝓤 H (W .laws) C) (known-begin : Triple 𝓤 (C #channels·started) (Begin 𝓤 H A at-mem run))
+      (known-lent : Triple 𝓤 (C #channels·fill) (Lent 𝓤 H A at-mem run)) where
     walk : ent 𝓤 (onEntry 𝓤 H A f.signature (κ₁, (κ₂, (κ₃, (κ₄, tt)))) (q₁, (q₂, (q₃, (q₄, tt)))) x at)
         (WpFn 𝓤 H C Λ code.function (pv ∷ ev ∷ tv ∷ mv ∷ bv ∷ s ∷ []) Post)
     walk =
@@ -210,14 +211,16 @@ module _ {M : Type 1} (𝓤 : URA M) (H : Heap 𝓤) (A : Atoms 𝓤) (W : Given
         -- `started`
         use0 W (raw (Begin 𝓤 H A at-mem run .pre to-begin)) goes-begin $
         calls-at ! fm (Begin 𝓤 H A at-mem run) known-begin to-begin (and-then ! (load ! (from ! (stop !)) (look ! 23 refl)) (and-then ! (load ! (from ! (stop !)) (look ! 21 refl)) (no-more !))) (λ u.
-        use1 W (later (some (λ (r : Registers). (‵ ftrue ⊛ ‵ (R .own r (u ∷ []))) ⊛ raw (ensured 𝓤 H A begin.ended (begin.clauses 𝓤 H A at-mem run) tt (p, (ch, tt)) tt r)))) (id⊢ 𝓤 _) $ await ! tt $ pick ! (λ r.
+        use1 W (later (some (λ (r : Registers). (‵ ftrue ⊛ ‵ (R .own r (u ∷ []))) ⊛ raw (ensured 𝓤 H A begin.ended (begin.clauses 𝓤 H A at-mem run) tt (p, (ch, tt)) tt r)))) (id⊢ 𝓤 _) $
+        await ! tt $ pick ! (λ r.
         split ! $ move ! (1 ∷ []) $ use1 W (raw (fact 𝓤 (r ≡ first))) (begin-of 𝓤 H A at-mem run p ch r) $ heard ! (r ≡ first) (λ e₁. split ! $ drop ! $
         peeks ! R (Is R) (shows 𝓤 H A R) r (u ∷ []) (λ is. land ! (from ! (stop !)) (init ! 9 refl (LL.lawful T.the-type T′.the-laws 𝓤 H A W .typed r _ is .0)) $
         assigns ! (of-opd ! (load ! (from ! (stop !)) (look ! 9 refl))) (from ! (stop !)) (init ! 11 refl (LL.lawful T.the-type T′.the-laws 𝓤 H A W .typed r _ is .0)) $
         -- [what r owns; _12; …; _11; …; …; _0; …; the tokens; the parameters]
         assigns ! (addr ! (from ! (stop !))) (from ! (stop !)) (init ! 5 refl (tt, tt)) $
         assigns ! (addr ! (from ! (fld ! refl (hop ! (look-in ! 13 (sub ! 0 refl (whole !))) (stop !))))) (from ! (stop !)) (init ! 3 refl (tt, tt)) $
-        assigns ! (agg ! (and-then ! (load ! (from ! (stop !)) (look ! 3 refl)) (and-then ! (load ! (from ! (fld ! refl (stop !))) (look-in ! 13 (sub ! 1 refl (whole !)))) (no-more !)))) (from ! (stop !)) (init ! 1 refl (tt, (tt, (record { fits = room .0 }, tt)))) $
+        assigns ! (agg ! (and-then ! (load ! (from ! (stop !)) (look ! 3 refl)) (and-then ! (load ! (from ! (fld ! refl (stop !))) (look-in ! 13 (sub ! 1 refl (whole !)))) (no-more !))))
+        (from ! (stop !)) (init ! 1 refl (tt, (tt, (record { fits = room .0 }, tt)))) $
         -- the local is lent for a lifetime ν of the call
         move ! (11 ∷ 0 ∷ []) $ use2 W (‵ (mem R .lies r l₇ 0)) (lies-in 𝓤 H A W r u l₇) $ lft-new ! tt (λ ν. move ! (1 ∷ []) $
         use1 W (later (some (λ (δ : GName). ‵ (own-at l₇ ν δ r) ⊛ ‵ (flent (ν ∷ []) (Body (mem R) l₇ 0 δ))))) (lends-ref 𝓤 H A W R (named 0) (ν ∷ []) r l₇ 0) $ await ! tt $ pick ! (λ δ. split ! $
@@ -228,20 +231,26 @@ module _ {M : Type 1} (𝓤 : URA M) (H : Heap 𝓤) (A : Atoms 𝓤) (W : Given
         (and-then ! (load ! (from ! (stop !)) (look ! 23 refl)) (and-then ! (load ! (from ! (stop !)) (look ! 21 refl)) (and-then ! (load ! (from ! (stop !)) (look ! 19 refl))
         (and-then ! (load ! (from ! (stop !)) (look ! 17 refl)) (and-then ! (load ! (from ! (stop !)) (look ! 15 refl)) (and-then ! (load ! (from ! (stop !)) (look ! 2 refl))
         (no-more !)))))))) (λ v.
-        use1 W (later (some (λ (m : Unit {0}). ((‵ (flft (ν ∷ []) fullShare) ⊛ tokens) ⊛ ‵ (unit .own m (v ∷ []))) ⊛ raw (ensured 𝓤 H A lent.ended (lent.clauses 𝓤 H A at-mem run) (ν ∷ [], (κ₁, (κ₂, (κ₃, (κ₄, tt))))) (rx l₇ δ r, x) tt m)))) (id⊢ 𝓤 _) $ await ! tt $ pick ! (λ m.
-        split ! $ move ! (1 ∷ []) $ use1 W (some (λ (zs : Left). ‵ (lasts lent.ended (ν ∷ [], (κ₁, (κ₂, (κ₃, (κ₄, tt))))) (rx l₇ δ r, x) zs) ⊛ raw (fact 𝓤 (Says r (zs .1 .1 .1 .1 .1 .1 .0) × (zs .0 ≡ after r (bitsUsed p ch)))))) (id⊢ 𝓤 _) $ pick ! (λ zs.
+        use1 W (later (some (λ (m : Unit {0}). ((‵ (flft (ν ∷ []) fullShare) ⊛ tokens) ⊛ ‵ (unit .own m (v ∷ []))) ⊛ raw
+        (ensured 𝓤 H A lent.ended (lent.clauses 𝓤 H A at-mem run) (ν ∷ [], (κ₁, (κ₂, (κ₃, (κ₄, tt))))) (rx l₇ δ r, x) tt m)))) (id⊢ 𝓤 _) $ await ! tt $ pick ! (λ m.
+        split ! $ move ! (1 ∷ []) $ use1 W (some (λ (zs : Left). ‵ (lasts lent.ended (ν ∷ [], (κ₁, (κ₂, (κ₃, (κ₄, tt))))) (rx l₇ δ r, x) zs) ⊛ raw
+        (fact 𝓤 (Says r (zs .1 .1 .1 .1 .1 .1 .0) × (zs .0 ≡ after r (bitsUsed p ch)))))) (id⊢ 𝓤 _) $ pick ! (λ zs.
         split ! $ move ! (1 ∷ []) $ heard ! (Says r (zs .1 .1 .1 .1 .1 .1 .0) × (zs .0 ≡ after r (bitsUsed p ch))) (λ e. fsplit ! $ move ! (1 ∷ []) $
         fsplit ! $ drop ! $ fsplit ! $ drop ! $ fsplit ! $ drop ! $ fsplit ! $ drop ! $ fsplit ! $ drop ! $ fsplit ! $ fsplit ! $ move ! (1 ∷ []) $ feqL ! (λ l.
         -- [the last list; true; the last pair; the tokens and the result; the lender's part; _12; …; _11; …; _10; …; _9; …; _8; …; …; _6; …; …; _0; …]
-        move ! (3 ∷ []) $ split ! $ move ! (1 ∷ []) $ peeks ! unit (Is unit) (shows 𝓤 H A unit) m (v ∷ []) (λ is′. land ! (from ! (stop !)) (init ! 12 refl (nothing-lawful 𝓤 H A W .typed m _ is′ .0)) $
+        move ! (3 ∷ []) $ split ! $ move ! (1 ∷ []) $ peeks ! unit (Is unit) (shows 𝓤 H A unit) m (v ∷ [])
+        (λ is′. land ! (from ! (stop !)) (init ! 12 refl (nothing-lawful 𝓤 H A W .typed m _ is′ .0)) $
         assigns ! (of-opd ! (unit-lit !)) (from ! (stop !)) (init ! 29 refl (tt, tt)) $ drop ! $
         -- the lifetime is ended, and the local is back
-        split ! $ lft-end ! tt $ move ! (0 ∷ 5 ∷ 4 ∷ []) $ use3 W (later (‵ (mem R .lies (zs .0) l₇ 0))) (ref-back 𝓤 H A W R (ν ∷ []) δ (zs .0) l₇ 0) $ await ! tt $ use1 W (‵ (froom T′.mir l₇ 0)) (room-out 𝓤 H A W (zs .0) l₇) $
+        split ! $ lft-end ! tt $ move ! (0 ∷ 5 ∷ 4 ∷ []) $ use3 W (later (‵ (mem R .lies (zs .0) l₇ 0))) (ref-back 𝓤 H A W R (ν ∷ []) δ (zs .0) l₇ 0) $ await ! tt $
+        use1 W (‵ (froom T′.mir l₇ 0)) (room-out 𝓤 H A W (zs .0) l₇) $
         -- [room for _7; the tokens; the last list; true; _12; …; _11; …; _10; …; _9; …; _8; …; …; _6; …; …; _0; …]
         returns ! (look ! 27 refl) $ forget ! 4 refl $ forget ! 6 refl $ forget ! 8 refl $ forget ! 10 refl $ forget ! 12 refl $ forget ! 15 refl $
         forget ! 17 refl $ forget ! 19 refl $ forget ! 21 refl $ forget ! 23 refl $ forget ! 25 refl $ forget ! 27 refl $
-        move ! (27 ∷ 28 ∷ []) $ free1 ! $ move ! (25 ∷ 26 ∷ []) $ free1 ! $ move ! (23 ∷ 24 ∷ []) $ free1 ! $ move ! (21 ∷ 22 ∷ []) $ free1 ! $ move ! (19 ∷ 20 ∷ []) $ free1 ! $ move ! (17 ∷ 18 ∷ []) $ free1 ! $
-        move ! (15 ∷ 16 ∷ []) $ free1 ! $ move ! (0 ∷ 14 ∷ []) $ free1 ! $ move ! (11 ∷ 12 ∷ []) $ free1 ! $ move ! (9 ∷ 10 ∷ []) $ free1 ! $ move ! (7 ∷ 8 ∷ []) $ free1 ! $ move ! (5 ∷ 6 ∷ []) $ free1 ! $ move ! (3 ∷ 4 ∷ []) $ free1 ! $ free0 ! $
+        move ! (27 ∷ 28 ∷ []) $ free1 ! $ move ! (25 ∷ 26 ∷ []) $ free1 ! $ move ! (23 ∷ 24 ∷ []) $ free1 ! $ move ! (21 ∷ 22 ∷ []) $ free1 ! $ move ! (19 ∷ 20 ∷ []) $ free1 ! $
+        move ! (17 ∷ 18 ∷ []) $ free1 ! $
+        move ! (15 ∷ 16 ∷ []) $ free1 ! $ move ! (0 ∷ 14 ∷ []) $ free1 ! $ move ! (11 ∷ 12 ∷ []) $ free1 ! $ move ! (9 ∷ 10 ∷ []) $ free1 ! $ move ! (7 ∷ 8 ∷ []) $ free1 ! $
+        move ! (5 ∷ 6 ∷ []) $ free1 ! $ move ! (3 ∷ 4 ∷ []) $ free1 ! $ free0 ! $
         keep ! (0 ∷ 1 ∷ []) $ by ! (exits (zs .1 .1 .1 .1 .1 .1 .0) (subst (λ (z : Registers). Says z (zs .1 .1 .1 .1 .1 .1 .0)) e₁ (e .0)) l))))))))))))))))))))))))))
 
 map-meets : {M : Type 1} (𝓤 : URA M) (H : Heap 𝓤) (A : Atoms 𝓤) (W : Given 𝓤 H A) (at-mem : Memory → SProp 𝓤) (run : Routine → Fun 𝓤) (𝓣 : Tables 𝓤 H)
