@@ -85,7 +85,7 @@ fn fill_marks(plan: &[u8], p: Plan, payload: &[u8], grid: &mut [u8])
     }
 }
 
-// PBCH, where the subframe has it.
+// PBCH, where the subframe has it, with the table of QPSK. It leaves out the reference signals of four ports, whatever the cell has.
 fn fill_pbch(
     plan: &[u8],
     p: Plan,
@@ -150,7 +150,8 @@ fn renew(t: &mut [u32; 256], have: u8, order: u8, ports: u8)
     }
 }
 
-// The users, each from its part of the payload: a section starts where the one before ends.
+// The users, each from its part of the payload: a section starts where the one before ends. They share the masks, and users of one order in
+// turn the table.
 fn fill_users(
     plan: &[u8],
     p: Plan,
@@ -180,7 +181,7 @@ fn fill_users(
     }
 }
 
-// Every channel over silence. Whoever calls has the plan from the plan check, and has compared the lengths and the spare bits.
+// Every channel over silence, with one table and one row of masks for all of them, since the stack is small. Whoever calls has the plan from the plan check, and has compared the lengths and the spare bits.
 pub fn fill(plan: &[u8], p: Plan, payload: &[u8], grid: &mut [u8])
     requires { ⌜ Ready (now plan) p (now payload) (now grid) ⌝ }
     ensures { λ _. ⌜ now (grid .exit) ≡ gridOf (now (plan .entry)) p (now (payload .entry)) ⌝ }

@@ -47,7 +47,27 @@ module _ {P T gap j start step m : ℕ} {before : List ℕ} (h : PairsIn P T gap
       (y .first) (y .second))
       ia ib (subst (λ (n : ℕ). TwoPut gap a n g f) (z .own) c) (subst (λ (n : ℕ). TwoPut gap b n f k) (z .other) d)
 
--- ---- rounds of two pairs
+-- ---- a round of two pairs, from what the functions that it calls leave
+pub round-made :
+    {gap q at next across z own other own′ other′ : ℕ} {t bits st before st′ middle after : List ℕ} → Takes (4 * q) bits st z st′
+    → FromTable t (z / 2 ^ q / 2 ^ q / 2 ^ q) (z / 2 ^ q / 2 ^ q) own other → FromTable t (z / 2 ^ q) z own′ other′ → PairPut gap at across own other before middle
+    → PairPut gap next across own′ other′ middle after → RoundDone gap q t bits st at next across before st′ after
+round-made {z = z} {own} {other} {own′} {other′} {middle = middle} k x y a b =
+    record {
+      word = z;
+      takes = k;
+      own = own;
+      other = other;
+      own-next = own′;
+      other-next = other′;
+      first = x;
+      second = y;
+      middle = middle;
+      put = a;
+      put-next = b;
+    }
+
+-- ---- and rounds after rounds
 module _
     {P T gap j start step n q : ℕ} {t bits st before : List ℕ} (h : PairsIn P T gap j start step (2 * n) before) (s : Sending (2 * q) q j t bits st)
     {r : PortOffsets} (p : OffsetsAt P T j r) {at next i : ℕ} {st′ grid : List ℕ} (d : Rounds P T gap j start step n q t bits st before at next i st′ grid)
