@@ -19,7 +19,7 @@ ghost use Rattle.modulation.specs.Symbols.{Order, unitOf};
 ghost use Rattle.walk.specs.Addresses.{PairsIn, RunIn};
 ghost use Rattle.walk.specs.Forms.{Stretch};
 ghost use Rattle.data_write.specs.Sent.{groupOf, TableOf, Sending};
-ghost use Rattle.data_write.specs.Pairs.{RoundIn, RoundDone, PairsDone, RunFilled};
+ghost use Rattle.data_write.specs.Pairs.{RoundIn, RoundDone, PairsFit, FirstAt, PairsDone, RunFilled};
 ghost use Rattle.data_write.specs.OnePort.{SinglesIn, SinglesDone, HolesIn, HolesDone, SingleIn};
 ghost use Rattle.data_write.specs.Areas.{AnyIn, RunsIn, RunsDone, FillIn, AreaFilled};
 
@@ -74,6 +74,26 @@ fn round_apart(
     put_pair_apart(grid, next, across, joint(c, d), partners(c, d));
 }
 
+// The bytes of the first round's pairs on their own ports, and how much further their other ports are.
+struct FirstRound {
+    at: usize,
+    next: usize,
+    across: usize,
+}
+
+// Where rounds from place `start` and from index j on begin, pairs `step` places apart.
+fn first_round(ports: u8, places: usize, j: usize, start: usize, step: usize) -> FirstRound
+    requires { ⌜ PairsFit ports places j start step ⌝ }
+    ensures { λ x. ⌜ FirstAt ports places j start step x ⌝ }
+{
+    let p = port_offsets(ports, places, j);
+    FirstRound {
+        at: 3 * (p.own + start),
+        next: 3 * (p.next + start + step),
+        across: 3 * p.across,
+    }
+}
+
 // Half blocks with all six places open, two pairs in each round: twice n pairs, pair i at `start` + 2i. A loop of its own beside `quads`:
 // with one loop for both, the processor foresees its end less often.
 fn sixes(
@@ -91,13 +111,12 @@ fn sixes(
     requires { ⌜ PairsIn ports places 1 j start 2 (2 * n) (now grid) × Sending (2 * q) q j (now t) (now bits) (now st) ⌝ }
     ensures { λ _. ⌜ PairsDone ports places 1 j start 2 (2 * n) (2 * n) q (now (t .entry)) (now (bits .entry)) (now (st .entry)) (now (grid .entry)) (now (st .exit)) (now (grid .exit)) ⌝ }
 {
-    let p = port_offsets(ports, places, j);
-    let across = 3 * p.across;
-    let mut at = 3 * (p.own + start);
-    let mut next = 3 * (p.next + start + 2);
+    let f = first_round(ports, places, j, start, 2);
+    let mut at = f.at;
+    let mut next = f.next;
     let mut i: usize = 0;
     while i < n {
-        round(st, q, t, bits, grid, at, next, across);
+        round(st, q, t, bits, grid, at, next, f.across);
         at += 12;
         next += 12;
         i += 1;
@@ -120,13 +139,12 @@ fn quads(
     requires { ⌜ PairsIn ports places 1 j start 3 (2 * n) (now grid) × Sending (2 * q) q j (now t) (now bits) (now st) ⌝ }
     ensures { λ _. ⌜ PairsDone ports places 1 j start 3 (2 * n) (2 * n) q (now (t .entry)) (now (bits .entry)) (now (st .entry)) (now (grid .entry)) (now (st .exit)) (now (grid .exit)) ⌝ }
 {
-    let p = port_offsets(ports, places, j);
-    let across = 3 * p.across;
-    let mut at = 3 * (p.own + start);
-    let mut next = 3 * (p.next + start + 3);
+    let f = first_round(ports, places, j, start, 3);
+    let mut at = f.at;
+    let mut next = f.next;
     let mut i: usize = 0;
     while i < n {
-        round(st, q, t, bits, grid, at, next, across);
+        round(st, q, t, bits, grid, at, next, f.across);
         at += 18;
         next += 18;
         i += 1;
@@ -149,13 +167,12 @@ fn quads_apart(
     requires { ⌜ PairsIn ports places 2 j start 3 (2 * n) (now grid) × Sending (2 * q) q j (now t) (now bits) (now st) ⌝ }
     ensures { λ _. ⌜ PairsDone ports places 2 j start 3 (2 * n) (2 * n) q (now (t .entry)) (now (bits .entry)) (now (st .entry)) (now (grid .entry)) (now (st .exit)) (now (grid .exit)) ⌝ }
 {
-    let p = port_offsets(ports, places, j);
-    let across = 3 * p.across;
-    let mut at = 3 * (p.own + start);
-    let mut next = 3 * (p.next + start + 3);
+    let f = first_round(ports, places, j, start, 3);
+    let mut at = f.at;
+    let mut next = f.next;
     let mut i: usize = 0;
     while i < n {
-        round_apart(st, q, t, bits, grid, at, next, across);
+        round_apart(st, q, t, bits, grid, at, next, f.across);
         at += 18;
         next += 18;
         i += 1;
