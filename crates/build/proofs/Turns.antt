@@ -12,6 +12,7 @@ use Rattle.base.specs.Tables.{table}
 use Rattle.base.proofs.Tables.{table-length}
 use Rattle.base.specs.Bits.{bitAt}
 use Rattle.gold.specs.Sequence.{pairAt}
+use Rattle.modulation.specs.Symbols.{Order, unitOf, unitIn}
 use Rattle.phich.specs.Spreading.{spreadLength}
 use Rattle.phich.specs.Loops.{HisIn, QuadSums, Levels}
 use Rattle.phich.proofs.Scrambled.{part-is}
@@ -19,36 +20,43 @@ use Rattle.plan.specs.Check.{checkOf}
 use Rattle.plan.specs.Commands.{userOf}
 use Rattle.plan.specs.Fields.{unitsOf}
 use Rattle.plan.specs.Rows.{hisFrom, hisOf, nextOf, usersOf, nthUser}
+use Rattle.plan.specs.Valid.{UserIn}
 use Rattle.plan.specs.declared.User.{User}
 use Rattle.plan.specs.declared.Plan.{Plan}
 use Rattle.plan.specs.declared.Checked.the-variants.{Plan as accepted}
+use Rattle.plan.proofs.Counts.{units-most}
 use Rattle.plan.proofs.Valid.{valid}
 use Rattle.layout.specs.Rules.{crsSymbol, marked}
 use Rattle.layout.specs.Owners.{symbols}
 use Rattle.layout.specs.declared.Owner.the-variants.{Pcfich, Phich, User as UserOf}
 use Rattle.places.specs.Places.{placesOf}
 use Rattle.payload.specs.Sections.{sectionBytes}
-use Rattle.payload.specs.Payload.{pbchBits, userBits, payloadLength, usersStart}
-use Rattle.payload.specs.Loops.{computedBits}
+use Rattle.payload.specs.Payload.{pbchBits, userBits, usersStart}
+use Rattle.counts.specs.declared.Shape.{Shape}
+use Rattle.counts.specs.Shape.{shapeOf, countBy}
+use Rattle.payload.proofs.Lengths.{bits-are}
 use Rattle.payload.proofs.Sections.{userStart, user-start-first}
-use Rattle.grid.specs.Writing.{Written}
-use Rattle.grid.proofs.Writing.{none, same, over, room-kept, whole}
+use Rattle.grid.specs.Writing.{Written, Room}
+use Rattle.grid.proofs.Writing.{none, same, over, whole}
 use Rattle.subframe.specs.Grid.{elementNumbered, gridOf}
 use Rattle.subframe.proofs.Bytes.{length-by-port}
+use Rattle.areas.specs.Tables.{RowMasks}
+use Rattle.data_write.specs.Sent.{TableOf}
 use Rattle.signals.specs.Signals.{markSends, pssSent, sssSent}
 use Rattle.control.proofs.ControlOwners.{part-levels}
 use Rattle.control.proofs.Reading.{his-in}
 use Rattle.control.proofs.ReadingOwners.{his-read}
 use Rattle.channels.specs.declared.Channel.{Channel}
 use Rattle.channels.specs.declared.Channel.the-variants.{Crs, Pbch as PbchChannel, Pcfich as PcfichChannel, Phich as PhichChannel, User as UserChannel}
-use Rattle.channels.specs.Channels.{initOf, firstBit, sendsOf, sentOf, Among, Planned, ChannelIn}
-use Rattle.build.specs.Senders.{someBelow, ownerSends, crsIn, crsPorts, crsRows, marksSend, pbchSends, unitsSend, usersSend, allSend, Ready}
+use Rattle.channels.specs.Channels.{initOf, firstBit, sendsOf, sentOf, Among, Planned, Tables, ChannelIn}
+use Rattle.channels.proofs.Filling.{order-ok}
+use Rattle.build.specs.Senders.{someBelow, ownerSends, crsIn, crsPorts, crsRows, marksSend, pbchSends, unitsSend, usersSend, allSend, Ready, Having}
 use Rattle.build.proofs.Some.{some-none, some-more}
 use Rattle.build.proofs.DataValues.{pbch-area, pbch-value, user-area, user-value}
 use Rattle.build.proofs.SignalValues.{crs-numbered, pss-numbered, sss-numbered}
 use Rattle.build.proofs.ControlValues.{pcfich-owned, pcfich-numbered, phich-owned, phich-numbered}
 use Rattle.build.proofs.Quiet.{quiet}
-use Rattle.build.proofs.Slices.{From, from-first, from-user, from-next, start-room, user-valid, start-next, section-end, user-slice, pbch-slice, hi-slice}
+use Rattle.build.proofs.Slices.{From, from-first, from-user, from-next, start-room, user-valid, start-next, section-end, user-slice, pbch-slice, hi-slice, heads-room}
 
 -- ---- one of several after the other
 module _ (f : ℕ → ℕ → Bool) {E : ℕ → Element} {g₀ : List ℕ} where
@@ -64,40 +72,56 @@ module _ (f : ℕ → ℕ → Bool) {E : ℕ → Element} {g₀ : List ℕ} wher
         → Written (λ (e : ℕ). someBelow (λ (i : ℕ). f i e) (n + 1)) E g₀ h
     turn-more r d v = over so-far r v (λ e. some-more (λ (i : ℕ). f i e) n ∙ ap (λ (b : Bool). b || someBelow (λ (i : ℕ). f i e) n) (sym (d e)))
 
-module _ (w : List ℕ) (p : Plan) (payload : List ℕ) {g₀ : List ℕ} (start : Ready w p payload g₀) where
+module _ {w : List ℕ} {p : Plan} {payload g₀ : List ℕ} (start : Ready w p payload g₀) where
   ok : checkOf w ≡ accepted p
   ok = start .answer
 
   abbrev E : ℕ → Element
   E = elementNumbered w p payload
 
-  -- what the channels need, at any point of the filling
-  module _ {D : ℕ → Bool} {W : ℕ → Element} {g : List ℕ} (r : Written D W g₀ g) where
-    channel-in : {bits : List ℕ} (ch : Channel) → Among p ch → Planned w p bits ch → ChannelIn w p ch bits g
-    channel-in ch a h = record { plan = start .answer; among = a; planned = h; room = room-kept (start .room) r }
+  -- what the channels need, at any point of the filling: a grid g of the same length
+  module _ {g : List ℕ} (kept : length g ≡ length g₀) where
+    room-kept : Room (p .cell .ports) (placesOf (p .cell)) g
+    room-kept =
+        let r = start .room in
+        record { some = r .some; most = r .most; not-three = r .not-three; fits = r .fits; size = kept ∙ r .size }
 
-    pub crs-in : {bits : List ℕ} (s q : ℕ) → s < symbols (p .cell) → q < p .cell .ports → ChannelIn w p (Crs s q) bits g
-    unfolding Among Planned
-    crs-in s q a b = channel-in (Crs s q) (a, b) tt
+    pub ready-kept : Ready w p payload g
+    ready-kept = record { answer = start .answer; right = start .right; room = room-kept }
 
-    pub pbch-in : {bits : List ℕ} → p .frame .subframe ≡ 0 → ChannelIn w p PbchChannel bits g
-    unfolding Among Planned
-    pbch-in z = channel-in PbchChannel tt z
+    channel-in : {t masks bits : List ℕ} (ch : Channel) → Among p ch → Planned w p bits ch → Tables p ch t masks → ChannelIn p ch t masks bits g
+    channel-in ch a h x = record { bytes = w; plan = start .answer; among = a; planned = h; tables = x; room = room-kept }
 
-    pub pcfich-in : {bits : List ℕ} → ChannelIn w p PcfichChannel bits g
-    unfolding Among Planned
-    pcfich-in = channel-in PcfichChannel tt tt
+    pub crs-in : {t masks bits : List ℕ} (s q : ℕ) → s < symbols (p .cell) → q < p .cell .ports → ChannelIn p (Crs s q) t masks bits g
+    unfolding Among Planned Tables
+    crs-in s q a b = channel-in (Crs s q) (a, b) tt tt
 
-    pub unit-in : {bits : List ℕ} (m : ℕ) → m < unitsOf (p .cell) → Levels 8 bits → ChannelIn w p (PhichChannel m) bits g
-    unfolding Among Planned
-    unit-in m a l = channel-in (PhichChannel m) a l
+    pub pbch-in :
+        {t masks bits : List ℕ} → p .frame .subframe ≡ 0 → TableOf (p .cell .ports) 2 (unitOf 2) t → RowMasks (p .cell) (p .frame) 4 false 14 masks
+        → ChannelIn p PbchChannel t masks bits g
+    unfolding Among Planned Tables unitOf unitIn
+    pbch-in z x m = channel-in PbchChannel tt z (x, m)
 
-    pub user-in : {bits : List ℕ} (u : User) (i : ℕ) → i < length (usersOf w p) → u ≡ nthUser w p i → ChannelIn w p (UserChannel u) bits g
-    unfolding Among Planned
-    user-in u i l e = channel-in (UserChannel u) (rw e (user-valid w p ok payload i l)) (i, l, e)
+    pub pcfich-in : {t masks bits : List ℕ} → ChannelIn p PcfichChannel t masks bits g
+    unfolding Among Planned Tables
+    pcfich-in = channel-in PcfichChannel tt tt tt
 
-  pub ready-kept : {D : ℕ → Bool} {W : ℕ → Element} {g : List ℕ} → Written D W g₀ g → Ready w p payload g
-  ready-kept r = record { answer = start .answer; right = start .right; room = room-kept (start .room) r }
+    pub unit-in : {t masks bits : List ℕ} (m : ℕ) → m < unitsOf (p .cell) → Levels 8 bits → ChannelIn p (PhichChannel m) t masks bits g
+    unfolding Among Planned Tables
+    unit-in m a l = channel-in (PhichChannel m) a l tt
+
+    pub user-in :
+        {t masks bits : List ℕ} (u : User) (i : ℕ) → i < length (usersOf w p) → u ≡ nthUser w p i → TableOf (p .cell .ports) (u .order) (unitOf (u .order)) t
+        → RowMasks (p .cell) (p .frame) (p .cell .ports) true 14 masks → ChannelIn p (UserChannel u) t masks bits g
+    unfolding Among Planned Tables
+    user-in u i l e x m = channel-in (UserChannel u) (rw e (user-valid w p ok payload i l)) (i, l, e) (x, m)
+
+  -- PBCH's section ends before the users' sections start
+  pub heads-in : {n from end : ℕ} → n ≡ pbchBits (p .cell) (p .frame) → from ≡ sectionBytes n → end ≡ usersStart p → (from ≤ end) × (end ≤ length payload)
+  heads-in {n} {from} {end} en ef ee = rw (start .right .size) (heads-room w p ok payload from end (ef ∙ ap sectionBytes en) ee)
+
+  pub few-units : {n m : ℕ} → n ≡ unitsOf (p .cell) → m < n → m < 25
+  few-units e l = omega (arith, units-most (p .cell) (valid w p ok .cell))
 
   -- ---- reference signals of symbol s
   module _ (s : ℕ) where
@@ -112,7 +136,7 @@ module _ (w : List ℕ) (p : Plan) (payload : List ℕ) {g₀ : List ℕ} (start
 
       pub crs-more :
           (bits : List ℕ) {h : List ℕ} → crsSymbol (p .cell) q s ≡ true → q < p .cell .ports
-          → Written (sendsOf p (Crs s q)) (sentOf w p bits (pairAt (initOf p (Crs s q)) (firstBit p (Crs s q))) (Crs s q)) g h
+          → Written (sendsOf p (Crs s q)) (sentOf p bits (pairAt (initOf p (Crs s q)) (firstBit p (Crs s q))) (Crs s q)) g h
           → Written (crsPorts p s (q + 1)) E g₀ h
       unfolding crsPorts crsIn sendsOf sentOf initOf firstBit
       crs-more bits y l r = turn-more (crsIn p s) q so-far r (λ e. rw y refl) (λ e k. crs-numbered w p ok payload s q e l y k)
@@ -151,7 +175,7 @@ module _ (w : List ℕ) (p : Plan) (payload : List ℕ) {g₀ : List ℕ} (start
 
   pub pbch-written :
       {g : List ℕ} (end : ℕ) → p .frame .subframe ≡ 0 → end ≡ sectionBytes (pbchBits (p .cell) (p .frame))
-      → Written (sendsOf p PbchChannel) (sentOf w p (take (end - 0) (drop 0 payload)) (pairAt (initOf p PbchChannel) (firstBit p PbchChannel)) PbchChannel) g₀ g
+      → Written (sendsOf p PbchChannel) (sentOf p (take (end - 0) (drop 0 payload)) (pairAt (initOf p PbchChannel) (firstBit p PbchChannel)) PbchChannel) g₀ g
       → Written (pbchSends w p) E g₀ g
   unfolding pbchSends sendsOf sentOf initOf firstBit
   pbch-written end z ee r =
@@ -160,7 +184,7 @@ module _ (w : List ℕ) (p : Plan) (payload : List ℕ) {g₀ : List ℕ} (start
 
   -- ---- PCFICH
   pub pcfich-written :
-      (bits : List ℕ) {g : List ℕ} → Written (sendsOf p PcfichChannel) (sentOf w p bits (pairAt (initOf p PcfichChannel) (firstBit p PcfichChannel)) PcfichChannel) g₀ g
+      (bits : List ℕ) {g : List ℕ} → Written (sendsOf p PcfichChannel) (sentOf p bits (pairAt (initOf p PcfichChannel) (firstBit p PcfichChannel)) PcfichChannel) g₀ g
       → Written (ownerSends w p Pcfich) E g₀ g
   unfolding sendsOf sentOf initOf firstBit
   pcfich-written bits r = same (λ e. pcfich-owned w p ok payload (start .room) e) (λ e k. pcfich-numbered w p ok payload (start .room) e k) r
@@ -185,7 +209,7 @@ module _ (w : List ℕ) (p : Plan) (payload : List ℕ) {g₀ : List ℕ} (start
 
     pub units-more :
         {g h : List ℕ} → Written (unitsSend w p m) E g₀ g
-        → Written (sendsOf p (PhichChannel m)) (sentOf w p (take (8 * m + 8 - 8 * m) (drop (8 * m) s)) (pairAt (initOf p (PhichChannel m)) (firstBit p (PhichChannel m))) (PhichChannel m)) g h
+        → Written (sendsOf p (PhichChannel m)) (sentOf p (take (8 * m + 8 - 8 * m) (drop (8 * m) s)) (pairAt (initOf p (PhichChannel m)) (firstBit p (PhichChannel m))) (PhichChannel m)) g h
         → Written (unitsSend w p (m + 1)) E g₀ h
     unfolding unitsSend sendsOf sentOf initOf firstBit
     units-more so-far r =
@@ -214,23 +238,31 @@ module _ (w : List ℕ) (p : Plan) (payload : List ℕ) {g₀ : List ℕ} (start
     user-is : u ≡ nthUser w p i
     user-is = eu ∙ from-user w p at i (so .users) in-i more
 
-    pub going-valid : {bits : List ℕ} → ChannelIn w p (UserChannel u) bits g
-    going-valid = user-in (so .written) u i in-i user-is
+    pub going-order : Order (u .order)
+    going-order = order-ok (u .order) (subst (UserIn (p .cell)) (sym user-is) (user-valid w p ok payload i in-i) .order)
 
-    module _ (end : ℕ) (ee : end ≡ from + sectionBytes (computedBits (p .cell) (p .frame) u)) where
-      ends : end ≡ from + sectionBytes (userBits w p i)
-      ends = section-end w p ok payload i in-i u from end user-is ee
+    pub going-valid :
+        {t masks bits : List ℕ} → Having (p .cell .ports) (u .order) t → RowMasks (p .cell) (p .frame) (p .cell .ports) true 14 masks
+        → ChannelIn p (UserChannel u) t masks bits g
+    going-valid x m = user-in (so .written .size) u i in-i user-is (x .table (λ z. omega (arith, z, going-order .1))) m
 
-      end-is : end ≡ userStart w p (i + 1)
+    -- its section has b bytes, by the shape x of the frame's slots
+    module _ {x : Shape} {n b : ℕ} (ex : x ≡ shapeOf (p .cell) (p .frame)) (en : n ≡ u .order * countBy (p .cell) x u) (eb : b ≡ sectionBytes n) where
+      ends : from + b ≡ from + sectionBytes (userBits w p i)
+      ends =
+          section-end w p ok payload i in-i u from (from + b) user-is
+          (ap (λ (k : ℕ). from + k) (eb ∙ ap sectionBytes (bits-are (p .cell) (p .frame) u x n ex en)))
+
+      end-is : from + b ≡ userStart w p (i + 1)
       end-is = ends ∙ rw (so .section) (sym (start-next w p ok payload i in-i))
 
-      pub going-room : (from ≤ end) × (end ≤ payloadLength w p)
-      going-room = (omega arith, rw end-is (start-room w p ok payload (i + 1)))
+      pub going-room : from + b ≤ length payload
+      going-room = rw (start .right .size, end-is) (start-room w p ok payload (i + 1))
 
       pub going-next :
           {h : List ℕ} (to : ℕ) → to ≡ nextOf w at
-          → Written (sendsOf p (UserChannel u)) (sentOf w p (take (end - from) (drop from payload)) (pairAt (initOf p (UserChannel u)) (firstBit p (UserChannel u))) (UserChannel u)) g h
-          → Going to end (i + 1) h
+          → Written (sendsOf p (UserChannel u)) (sentOf p (take (from + b - from) (drop from payload)) (pairAt (initOf p (UserChannel u)) (firstBit p (UserChannel u))) (UserChannel u)) g h
+          → Going to (from + b) (i + 1) h
       unfolding usersSend sendsOf sentOf initOf firstBit
       going-next to et r =
           record {
@@ -240,7 +272,7 @@ module _ (w : List ℕ) (p : Plan) (payload : List ℕ) {g₀ : List ℕ} (start
             written =
                 turn-more (λ (n e : ℕ). ownerSends w p (UserOf n) e) i (so .written) (rw user-is at r)
                 (λ e. user-area w p ok payload payload (start .room) i in-i e)
-                (λ e k. user-value w p ok payload (take (end - from) (drop from payload)) (start .room) i in-i (user-slice w p ok payload i in-i from end (so .section) ends) e k);
+                (λ e k. user-value w p ok payload (take (from + b - from) (drop from payload)) (start .room) i in-i (user-slice w p ok payload i in-i from (from + b) (so .section) ends) e k);
           }
 
   pub users-end : {at from i : ℕ} {g : List ℕ} → Going at from i g → p .users .count ≤ i → Written (usersSend w p (length (usersOf w p))) E g₀ g
@@ -248,20 +280,24 @@ module _ (w : List ℕ) (p : Plan) (payload : List ℕ) {g₀ : List ℕ} (start
       let e : i ≡ length (usersOf w p) = omega (arith, so .most, valid w p ok .users-count) in
       rw (← e) (so .written)
 
+-- ---- the table at hand: none, as it is made, and as it is
+module _ {P : ℕ} {t : List ℕ} where
+  pub having-none : length t ≡ 256 → Having P 0 t
+  having-none e = record { size = e; table = λ n. absurd (n refl) }
+
+  pub having-made : {q : ℕ} → TableOf P q (unitOf q) t → Having P q t
+  having-made x = record { size = x .table .size; table = λ n. x }
+
+  pub having-same : {q have : ℕ} → q ≡ have → Having P have t → Having P q t
+  having-same e x = rw e x
+
 -- ---- all channels, over silence
-module _ (w : List ℕ) (p : Plan) (payload : List ℕ) {g₀ g₁ : List ℕ} (start : Ready w p payload g₀) (quietly : g₁ ≡ table (length g₀) (λ (i : ℕ). 0)) where
+pub silent-kept : (g₀ : List ℕ) {g₁ : List ℕ} → g₁ ≡ table (length g₀) (λ (i : ℕ). 0) → length g₁ ≡ length g₀
+silent-kept g₀ e = rw e (table-length (length g₀) (λ (i : ℕ). 0))
+
+module _ {w : List ℕ} {p : Plan} {payload g₀ g₁ : List ℕ} (start : Ready w p payload g₀) (quietly : g₁ ≡ table (length g₀) (λ (i : ℕ). 0)) where
   abbrev Value : ℕ → Element
   Value = elementNumbered w p payload
-
-  pub silent-ready : Ready w p payload g₁
-  silent-ready =
-      record {
-        answer = start .answer;
-        right = start .right;
-        room =
-            let r = start .room in
-            record { some = r .some; most = r .most; not-three = r .not-three; fits = r .fits; size = rw quietly (table-length (length g₀) (λ (i : ℕ). 0) ∙ r .size) };
-      }
 
   all-written : {g : List ℕ} → Written (allSend w p) Value g₁ g → g ≡ gridOf w p payload
   unfolding gridOf

@@ -1,10 +1,11 @@
--- For the inner contracts and loops only: which elements of the grid the channels write.
+-- For the inner contracts and loops only: which elements of the grid the channels write, and what filling needs.
 use Prim.Native.Nat.{ℕ, zero, suc, _+_, _/_, _%_}
 use mathlib.Core.Path.{_≡_}
 use mathlib.Core.Bool.{Bool, false, _&&_, _||_}
 use mathlib.Core.List.{List}
 use lib.Dec.{eqb}
 use lib.ListN.{length}
+use Rattle.modulation.specs.Symbols.{unitOf}
 use Rattle.plan.specs.Check.{checkOf}
 use Rattle.plan.specs.Fields.{unitsOf}
 use Rattle.plan.specs.Rows.{usersOf}
@@ -17,6 +18,7 @@ use Rattle.layout.specs.declared.Owner.the-variants.{Crs, Sync, Pbch, Pcfich, P
 use Rattle.places.specs.Places.{placesOf, ownsAt, indexOf}
 use Rattle.payload.specs.Payload.{AcceptedPayload}
 use Rattle.grid.specs.Writing.{sends, Room}
+use Rattle.data_write.specs.Sent.{TableOf}
 use Rattle.signals.specs.Signals.{crsSends, markSends}
 
 -- one of f 0, .., f (n - 1) holds
@@ -73,3 +75,12 @@ pub record Ready (w : List ℕ) (p : Plan) (payload grid : List ℕ) : Type 0 wh
   pub answer : checkOf w ≡ accepted p
   pub right : AcceptedPayload w p payload
   pub room : Room (p .cell .ports) (placesOf (p .cell)) grid
+
+-- room for a table of elements and for the masks
+abbrev pub Spare : List ℕ → List ℕ → Type 0
+Spare t masks = (length t ≡ 256) × (length masks ≡ 14)
+
+-- t has the elements of order `have` on P ports, or `have` is 0
+pub record Having (P have : ℕ) (t : List ℕ) : Type 0 where
+  pub size : length t ≡ 256
+  pub table : (have ≡ 0 → ⊥) → TableOf P have (unitOf have) t

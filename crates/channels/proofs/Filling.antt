@@ -26,20 +26,20 @@ use Rattle.counts.proofs.UserElements.{user-elements}
 use Rattle.payload.specs.Payload.{pbchBits}
 use Rattle.grid.specs.Writing.{Written}
 use Rattle.subframe.proofs.OwnerBits.{pbch-both}
-use Rattle.areas.specs.Areas.{areaCount, areaSends, areaElement, pbchArea, userArea, AreaIn}
+use Rattle.areas.specs.Areas.{areaCount, pbchArea, userArea}
 use Rattle.areas.specs.declared.Area.{Area}
 use Rattle.areas.proofs.AreaOwners.{pbch-count, user-count}
-use Rattle.data_write.specs.Areas.{SignalsIn}
+use Rattle.data_write.specs.Areas.{FillIn, AreaFilled}
 use Rattle.signals.specs.Signals.{crsSends, crsSent}
 use Rattle.signals.specs.Rows.{SignalIn}
 use Rattle.control.specs.Control.{pcfichSends, pcfichSent, phichSends, phichSent}
 use Rattle.control.specs.Filling.{PcfichIn, PhichIn}
-use Rattle.channels.specs.Channels.{sendsOf, sentOf, bitsUsed, Among, Planned, ChannelIn}
+use Rattle.channels.specs.Channels.{sendsOf, sentOf, bitsUsed, Among, Planned, Tables, ChannelIn}
 use Rattle.channels.specs.declared.Channel.{Channel}
 use Rattle.channels.specs.declared.Channel.the-variants.{Crs, Pbch, Pcfich, Phich, User as UserOf}
 
 -- ---- a user's order is a modulation's
-order-ok : (q : ℕ) → OneOf q orders → Order q
+pub order-ok : (q : ℕ) → OneOf q orders → Order q
 order-ok q h = (
   eqb→eq (q % 2) 0 (among-holds (λ (n : ℕ). eqb (n % 2) 0) orders q tt h),
   leb→le 2 q (among-holds (λ (n : ℕ). leb 2 n) orders q tt h),
@@ -55,7 +55,10 @@ not-three c h e =
     omega arith
 
 -- ---- what the functions require
-module _ (w : List ℕ) (p : Plan) (ch : Channel) (grid : List ℕ) {bits : List ℕ} (ok : ChannelIn w p ch bits grid) where
+module _ {p : Plan} {ch : Channel} {t masks bits grid : List ℕ} (ok : ChannelIn p ch t masks bits grid) where
+  abbrev w : List ℕ
+  w = ok .bytes
+
   v : Valid w p
   v = valid w p (ok .plan)
 
@@ -72,20 +75,28 @@ module _ (w : List ℕ) (p : Plan) (ch : Channel) (grid : List ℕ) {bits : List
   pub pbch-wide : 6 ≤ p .cell .blocks
   pbch-wide = omega (arith, blocks-least (p .cell) (v .cell))
 
-  pub pbch-in : (a : Area) → a ≡ pbchArea (p .cell) (p .frame) → AreaIn a 2 2 grid × SignalsIn a
-  pbch-in a e =
+  pub pbch-in : (a : Area) → ch ≡ Pbch → a ≡ pbchArea (p .cell) (p .frame) → FillIn a 2 t masks grid
+  unfolding Tables
+  pbch-in a e ea =
       let L = slot-length (p .cell) in
-      subst (λ (b : Area). AreaIn b 2 2 grid × SignalsIn b) (sym e) (
-        record {
-          cell = v .cell;
-          frame = v .frame;
-          rows = omega (arith, L .0);
-          halves = omega (arith, pbch-wide);
-          order = (omega arith, omega arith, omega arith);
-          level = omega arith;
-          room = ok .room;
-        },
-        λ many. (omega arith, λ x. omega (arith, x)),
+      let x = subst (λ (c : Channel). Tables p c t masks) e (ok .tables) in
+      subst (λ (b : Area). FillIn b 2 t masks grid) (sym ea) (
+      record {
+        unit = 2;
+        area =
+            record {
+              cell = v .cell;
+              frame = v .frame;
+              rows = omega (arith, L .0);
+              halves = omega (arith, pbch-wide);
+              order = (omega arith, omega arith, omega arith);
+              level = omega arith;
+              room = ok .room;
+            };
+        signals = λ many. (omega arith, λ x. omega (arith, x));
+        table = x .0;
+        bytes = x .1;
+      }
       )
 
   pub pcfich-in : PcfichIn (p .cell) (p .frame .cfi) grid
@@ -96,80 +107,71 @@ module _ (w : List ℕ) (p : Plan) (ch : Channel) (grid : List ℕ) {bits : List
   phich-in m x e ex =
       record { cell = v .cell; unit = omega (arith, subst (Among p) e (ok .among), ex); room = ok .room; levels = subst (Planned w p bits) e (ok .planned) }
 
-  pub user-in : (u : User) (a : Area) (unit : ℕ) → ch ≡ UserOf u → a ≡ userArea (p .cell) (p .frame) u → unit ≡ unitOf (u .order)
-      → AreaIn a (u .order) unit grid × SignalsIn a
-  unfolding Among
-  user-in u a unit e ea eu =
+  pub user-in : (u : User) (a : Area) (q : ℕ) → ch ≡ UserOf u → a ≡ userArea (p .cell) (p .frame) u → q ≡ u .order → FillIn a q t masks grid
+  unfolding Among Tables
+  user-in u a q e ea eq =
       let h : UserIn (p .cell) u = subst (Among p) e (ok .among) in
-      subst (λ (b : Area). AreaIn b (u .order) unit grid × SignalsIn b) (sym ea) (
-        record {
-          cell = v .cell;
-          frame = v .frame;
-          rows = omega arith;
-          halves = omega (arith, h .last);
-          order = order-ok (u .order) (h .order);
-          level = omega (arith, eu, unit-small (u .order));
-          room = ok .room;
-        },
-        λ many. (many, not-three (p .cell) (v .cell)),
-      )
+      let x = subst (λ (c : Channel). Tables p c t masks) e (ok .tables) in
+      rw eq (subst (λ (b : Area). FillIn b (u .order) t masks grid) (sym ea) (
+      record {
+        unit = unitOf (u .order);
+        area =
+            record {
+              cell = v .cell;
+              frame = v .frame;
+              rows = omega arith;
+              halves = omega (arith, h .last);
+              order = order-ok (u .order) (h .order);
+              level = omega (arith, unit-small (u .order));
+              room = ok .room;
+            };
+        signals = λ many. (many, not-three (p .cell) (v .cell));
+        table = x .0;
+        bytes = x .1;
+      }
+      ))
 
-  -- ---- where they leave the pair
-  module _ (r : Registers) {x : Registers} where
-    pub crs-after : (s q : ℕ) → ch ≡ Crs s q → x ≡ after r (4 * p .cell .blocks) → x ≡ after r (bitsUsed p ch)
-    unfolding bitsUsed
-    crs-after s q e k = k ∙ sym (ap (λ (c : Channel). after r (bitsUsed p c)) e)
+  -- ---- what they write with the pair r, and where they leave it
+  -- as the promises of the channels have it
+  abbrev Fills : Registers → Registers → List ℕ → Channel → Type 0
+  Fills r x h c = Written (sendsOf p c) (sentOf p bits r c) grid h × (x ≡ after r (bitsUsed p c))
 
-    pub pbch-after : (a : Area) → ch ≡ Pbch → a ≡ pbchArea (p .cell) (p .frame) → x ≡ after r (2 * areaCount a) → x ≡ after r (bitsUsed p ch)
-    unfolding Planned bitsUsed
-    pbch-after a e ea k =
+  module _ (r : Registers) {x : Registers} {h : List ℕ} where
+    pub crs-filled :
+        (s q y : ℕ) → ch ≡ Crs s q → y ≡ s → Written (crsSends (p .cell) y q) (crsSent (p .cell) r) grid h × (x ≡ after r (4 * p .cell .blocks)) → Fills r x h ch
+    unfolding sendsOf sentOf bitsUsed
+    crs-filled s q y e ey k =
+        subst (Fills r x h) (sym e) (subst (λ (z : ℕ). Written (crsSends (p .cell) z q) (crsSent (p .cell) r) grid h) ey (k .0), k .1)
+
+    pub pbch-filled : (a : Area) → ch ≡ Pbch → a ≡ pbchArea (p .cell) (p .frame) → AreaFilled a 2 t bits r grid x h → Fills r x h ch
+    unfolding sendsOf sentOf bitsUsed Planned Tables
+    pbch-filled a e ea k =
         let z : p .frame .subframe ≡ 0 = subst (Planned w p bits) e (ok .planned) in
-        let n : 2 * areaCount a ≡ pbchBits (p .cell) (p .frame) = ap (λ (b : Area). 2 * areaCount b) ea ∙ ap (λ (m : ℕ). 2 * m) (pbch-count w p (ok .plan) z) ∙ sym (pbch-both w p (ok .plan)) in
-        k ∙ ap (after r) n ∙ sym (ap (λ (c : Channel). after r (bitsUsed p c)) e)
+        let f : AreaFilled (pbchArea (p .cell) (p .frame)) 2 t bits r grid x h = subst (λ (b : Area). AreaFilled b 2 t bits r grid x h) ea k in
+        let n : 2 * areaCount (pbchArea (p .cell) (p .frame)) ≡ pbchBits (p .cell) (p .frame) = ap (λ (m : ℕ). 2 * m) (pbch-count w p (ok .plan) z) ∙ sym (pbch-both w p (ok .plan)) in
+        subst (Fills r x h) (sym e) (f .written 2 (subst (λ (c : Channel). Tables p c t masks) e (ok .tables) .0), f .pair ∙ ap (after r) n)
 
-    pub pcfich-after : ch ≡ Pcfich → x ≡ after r 32 → x ≡ after r (bitsUsed p ch)
-    unfolding bitsUsed
-    pcfich-after e k = k ∙ sym (ap (λ (c : Channel). after r (bitsUsed p c)) e)
+    pub pcfich-filled : ch ≡ Pcfich → Written (pcfichSends (p .cell)) (pcfichSent (p .cell) (p .frame .cfi) r) grid h × (x ≡ after r 32) → Fills r x h ch
+    unfolding sendsOf sentOf bitsUsed
+    pcfich-filled e k = subst (Fills r x h) (sym e) k
 
-    pub phich-after : (m : ℕ) → ch ≡ Phich m → x ≡ after r (3 * spreadLength (p .cell)) → x ≡ after r (bitsUsed p ch)
-    unfolding bitsUsed
-    phich-after m e k = k ∙ sym (ap (λ (c : Channel). after r (bitsUsed p c)) e)
+    pub phich-filled :
+        (m y : ℕ) → ch ≡ Phich m → y ≡ m → Written (phichSends (p .cell) y) (phichSent (p .cell) y r bits) grid h × (x ≡ after r (3 * spreadLength (p .cell))) → Fills r x h ch
+    unfolding sendsOf sentOf bitsUsed
+    phich-filled m y e ey k =
+        subst (Fills r x h) (sym e) (subst (λ (z : ℕ). Written (phichSends (p .cell) z) (phichSent (p .cell) z r bits) grid h) ey (k .0), k .1)
 
-    pub user-after : (u : User) (a : Area) → ch ≡ UserOf u → a ≡ userArea (p .cell) (p .frame) u → x ≡ after r (u .order * areaCount a) → x ≡ after r (bitsUsed p ch)
-    unfolding Planned bitsUsed nthUser
-    user-after u a e ea k =
+    pub user-filled :
+        (u : User) (a : Area) (q : ℕ) → ch ≡ UserOf u → a ≡ userArea (p .cell) (p .frame) u → q ≡ u .order → AreaFilled a q t bits r grid x h → Fills r x h ch
+    unfolding sendsOf sentOf bitsUsed Planned Tables nthUser
+    user-filled u a q e ea eq k =
         let none : User = record { rnti = 0; order = 0; first = 0; count = 0 } in
         let d = subst (Planned w p bits) e (ok .planned) in
-        let n : areaCount a ≡ userElements (p .cell) (p .frame) (u .first) (u .count) =
-        ap areaCount ea ∙ rw (d .2) (user-count w p (ok .plan) (d .0) (d .1) none ∙ user-elements w p (ok .plan) none (d .0) (d .1)) in
-        k ∙ ap (λ (m : ℕ). after r (u .order * m)) n ∙ sym (ap (λ (c : Channel). after r (bitsUsed p c)) e)
-
--- ---- what they write
-module _ (w : List ℕ) (p : Plan) (bits : List ℕ) (r : Registers) (g h : List ℕ) where
-  -- as the promises of the channels have it
-  abbrev Fills : Channel → Type 0
-  Fills c = Written (sendsOf p c) (sentOf w p bits r c) g h
-
-  module _ (ch : Channel) where
-    pub of-crs : (s q x : ℕ) → ch ≡ Crs s q → x ≡ s → Written (crsSends (p .cell) x q) (crsSent (p .cell) r) g h → Fills ch
-    unfolding sendsOf sentOf
-    of-crs s q x e ex k = subst Fills (sym e) (subst (λ (y : ℕ). Written (crsSends (p .cell) y q) (crsSent (p .cell) r) g h) ex k)
-
-    pub of-pbch : (a : Area) → ch ≡ Pbch → a ≡ pbchArea (p .cell) (p .frame) → Written (areaSends a) (areaElement a 2 2 bits r) g h → Fills ch
-    unfolding sendsOf sentOf
-    of-pbch a e ea k = subst Fills (sym e) (subst (λ (b : Area). Written (areaSends b) (areaElement b 2 2 bits r) g h) ea k)
-
-    pub of-pcfich : ch ≡ Pcfich → Written (pcfichSends (p .cell)) (pcfichSent (p .cell) (p .frame .cfi) r) g h → Fills ch
-    unfolding sendsOf sentOf
-    of-pcfich e k = subst Fills (sym e) k
-
-    pub of-phich : (m x : ℕ) → ch ≡ Phich m → x ≡ m → Written (phichSends (p .cell) x) (phichSent (p .cell) x r bits) g h → Fills ch
-    unfolding sendsOf sentOf
-    of-phich m x e ex k = subst Fills (sym e) (subst (λ (y : ℕ). Written (phichSends (p .cell) y) (phichSent (p .cell) y r bits) g h) ex k)
-
-    pub of-user : (u : User) (a : Area) (unit : ℕ) → ch ≡ UserOf u → a ≡ userArea (p .cell) (p .frame) u → unit ≡ unitOf (u .order)
-        → Written (areaSends a) (areaElement a (u .order) unit bits r) g h → Fills ch
-    unfolding sendsOf sentOf
-    of-user u a unit e ea eu k =
-        subst Fills (sym e) (subst (λ (b : Area). Written (areaSends b) (areaElement b (u .order) (unitOf (u .order)) bits r) g h) ea
-        (subst (λ (y : ℕ). Written (areaSends a) (areaElement a (u .order) y bits r) g h) eu k))
+        let f : AreaFilled (userArea (p .cell) (p .frame) u) (u .order) t bits r grid x h =
+        subst (λ (b : Area). AreaFilled b (u .order) t bits r grid x h) ea (subst (λ (m : ℕ). AreaFilled a m t bits r grid x h) eq k) in
+        let n : areaCount (userArea (p .cell) (p .frame) u) ≡ userElements (p .cell) (p .frame) (u .first) (u .count) =
+        rw (d .2) (user-count w p (ok .plan) (d .0) (d .1) none ∙ user-elements w p (ok .plan) none (d .0) (d .1)) in
+        subst (Fills r x h) (sym e) (
+          f .written (unitOf (u .order)) (subst (λ (c : Channel). Tables p c t masks) e (ok .tables) .0),
+          f .pair ∙ ap (λ (m : ℕ). after r (u .order * m)) n,
+        )

@@ -1,6 +1,6 @@
 -- For the inner contracts only: the channels that have a scrambling or reference sequence, each filled through a lent register pair.
--- w is a plan's bytes, p the plan that the plan check answers with, bits the channel's section of the payload; a PHICH unit has the bytes of
--- its quad's sums instead, which are made for all units at once.
+-- p is the plan that the plan check answers with, w its bytes, bits the channel's section of the payload; a PHICH unit has the bytes of its
+-- quad's sums instead, which are made for all units at once. t is a table of elements and masks a byte for each symbol, both lent.
 use Prim.Native.Nat.{ℕ, _+_, _-_, _*_, _<_}
 use mathlib.Core.Path.{_≡_}
 use mathlib.Core.Bool.{Bool}
@@ -26,6 +26,10 @@ use Rattle.grid.specs.Writing.{Room}
 use Rattle.payload.specs.Payload.{pbchBits}
 use Rattle.subframe.specs.Elements.{pbchFirst, controlInit, userInit}
 use Rattle.areas.specs.Areas.{areaSends, areaElement, pbchArea, userArea}
+use Rattle.areas.specs.Tables.{RowMasks}
+use Rattle.areas.specs.declared.Area.{Area}
+use Rattle.data_write.specs.Sent.{TableOf}
+use Rattle.data_write.specs.Areas.{portsOf}
 use Rattle.signals.specs.Signals.{crsSends, crsSent}
 use Rattle.control.specs.Control.{pcfichSends, pcfichSent, phichSends, phichSent}
 use Rattle.channels.specs.declared.Channel.{Channel}
@@ -55,12 +59,12 @@ sendsOf p Pcfich e = pcfichSends (p .cell) e
 sendsOf p (Phich m) e = phichSends (p .cell) m e
 sendsOf p (User u) e = areaSends (userArea (p .cell) (p .frame) u) e
 
-unfoldable pub sentOf : List ℕ → Plan → List ℕ → Registers → Channel → ℕ → Element
-sentOf w p bits r (Crs s q) e = crsSent (p .cell) r e
-sentOf w p bits r Pbch e = areaElement (pbchArea (p .cell) (p .frame)) 2 2 bits r e
-sentOf w p bits r Pcfich e = pcfichSent (p .cell) (p .frame .cfi) r e
-sentOf w p bits r (Phich m) e = phichSent (p .cell) m r bits e
-sentOf w p bits r (User u) e = areaElement (userArea (p .cell) (p .frame) u) (u .order) (unitOf (u .order)) bits r e
+unfoldable pub sentOf : Plan → List ℕ → Registers → Channel → ℕ → Element
+sentOf p bits r (Crs s q) e = crsSent (p .cell) r e
+sentOf p bits r Pbch e = areaElement (pbchArea (p .cell) (p .frame)) 2 2 bits r e
+sentOf p bits r Pcfich e = pcfichSent (p .cell) (p .frame .cfi) r e
+sentOf p bits r (Phich m) e = phichSent (p .cell) m r bits e
+sentOf p bits r (User u) e = areaElement (userArea (p .cell) (p .frame) u) (u .order) (unitOf (u .order)) bits r e
 
 -- how many bits of the sequence it uses
 unfoldable pub bitsUsed : Plan → Channel → ℕ
@@ -91,8 +95,22 @@ Planned w p bits Pcfich = Unit {0}
 Planned w p bits (Phich m) = Levels 8 bits
 Planned w p bits (User u) = (i : ℕ) × (i < length (usersOf w p)) × (u ≡ nthUser w p i)
 
-pub record ChannelIn (w : List ℕ) (p : Plan) (ch : Channel) (bits grid : List ℕ) : Type 0 where
-  pub plan : checkOf w ≡ accepted p
+-- an area's places are filled with the table of its order, and by its masks
+abbrev pub Lent : Area → ℕ → ℕ → List ℕ → List ℕ → Type 0
+Lent a q unit t masks = TableOf (portsOf a) q unit t × RowMasks (a .cell) (a .frame) (a .signals) (a .leaves) 14 masks
+
+-- the tables as they are needed by the channels that read them
+unfoldable pub Tables : Plan → Channel → List ℕ → List ℕ → Type 0
+Tables p (Crs s q) t masks = Unit {0}
+Tables p Pbch t masks = Lent (pbchArea (p .cell) (p .frame)) 2 2 t masks
+Tables p Pcfich t masks = Unit {0}
+Tables p (Phich m) t masks = Unit {0}
+Tables p (User u) t masks = Lent (userArea (p .cell) (p .frame) u) (u .order) (unitOf (u .order)) t masks
+
+pub record ChannelIn (p : Plan) (ch : Channel) (t masks bits grid : List ℕ) : Type 0 where
+  pub bytes : List ℕ
+  pub plan : checkOf bytes ≡ accepted p
   pub among : Among p ch
-  pub planned : Planned w p bits ch
+  pub planned : Planned bytes p bits ch
+  pub tables : Tables p ch t masks
   pub room : Room (p .cell .ports) (placesOf (p .cell)) grid

@@ -114,12 +114,13 @@ fn filled(
     r: Registers,
     p: Plan,
     ch: Channel,
-    plan: &[u8],
+    t: &[u32; 256],
+    masks: &[u8; 14],
     bits: &[u8],
     grid: &mut [u8],
 ) -> Registers
-    requires { ⌜ ChannelIn (now plan) p ch (now bits) (now grid) ⌝ }
-    ensures { λ s. ⌜ Written (sendsOf p ch) (sentOf (now (plan .entry)) p (now (bits .entry)) r ch) (now (grid .entry)) (now (grid .exit)) × (s ≡ after r (bitsUsed p ch)) ⌝ }
+    requires { ⌜ ChannelIn p ch (now t) (now masks) (now bits) (now grid) ⌝ }
+    ensures { λ s. ⌜ Written (sendsOf p ch) (sentOf p (now (bits .entry)) r ch) (now (grid .entry)) (now (grid .exit)) × (s ≡ after r (bitsUsed p ch)) ⌝ }
 {
     let cell = p.cell;
     let frame = p.frame;
@@ -127,32 +128,39 @@ fn filled(
         Channel::Crs(s, port) => signals::fill_crs(r, cell, base::wide(s), port, grid),
         Channel::Pbch => {
             let area = areas::pbch_area(cell, frame);
-            data_write::fill_area(r, area, 2, 2, bits, grid)
+            data_write::fill_by_tables(r, area, 2, t, masks, bits, grid)
         }
         Channel::Pcfich => control::fill_pcfich(r, cell, frame.cfi, grid),
         Channel::Phich(m) => control::fill_phich(r, cell, base::wide(m), bits, grid),
         Channel::User(u) => {
             let area = areas::user_area(cell, frame, u);
-            let order = u.order as u32;
-            data_write::fill_area(r, area, order, modulation::unit(order), bits, grid)
+            data_write::fill_by_tables(r, area, u.order as u32, t, masks, bits, grid)
         }
     }
 }
 
 // The pair is lent to the channel being filled and advanced in place, by the bits that the channel uses.
-pub fn fill(r: &mut Registers, p: Plan, ch: Channel, plan: &[u8], bits: &[u8], grid: &mut [u8])
-    requires { ⌜ ChannelIn (now plan) p ch (now bits) (now grid) ⌝ }
-    ensures { λ _. ⌜ Written (sendsOf p ch) (sentOf (now (plan .entry)) p (now (bits .entry)) (now (r .entry)) ch) (now (grid .entry)) (now (grid .exit)) × (now (r .exit) ≡ after (now (r .entry)) (bitsUsed p ch)) ⌝ }
+pub fn fill(
+    r: &mut Registers,
+    p: Plan,
+    ch: Channel,
+    t: &[u32; 256],
+    masks: &[u8; 14],
+    bits: &[u8],
+    grid: &mut [u8],
+)
+    requires { ⌜ ChannelIn p ch (now t) (now masks) (now bits) (now grid) ⌝ }
+    ensures { λ _. ⌜ Written (sendsOf p ch) (sentOf p (now (bits .entry)) (now (r .entry)) ch) (now (grid .entry)) (now (grid .exit)) × (now (r .exit) ≡ after (now (r .entry)) (bitsUsed p ch)) ⌝ }
 {
     let was = *r;
-    *r = filled(was, p, ch, plan, bits, grid);
+    *r = filled(was, p, ch, t, masks, bits, grid);
 }
 
 // The channel filled, with a pair of its own that it lends. Its parameters are plain, so that its callers need no proof by hand.
-pub fn map(p: Plan, ch: Channel, plan: &[u8], bits: &[u8], grid: &mut [u8])
-    requires { ⌜ ChannelIn (now plan) p ch (now bits) (now grid) ⌝ }
-    ensures { λ _. ⌜ Written (sendsOf p ch) (sentOf (now (plan .entry)) p (now (bits .entry)) (pairAt (initOf p ch) (firstBit p ch)) ch) (now (grid .entry)) (now (grid .exit)) ⌝ }
+pub fn map(p: Plan, ch: Channel, t: &[u32; 256], masks: &[u8; 14], bits: &[u8], grid: &mut [u8])
+    requires { ⌜ ChannelIn p ch (now t) (now masks) (now bits) (now grid) ⌝ }
+    ensures { λ _. ⌜ Written (sendsOf p ch) (sentOf p (now (bits .entry)) (pairAt (initOf p ch) (firstBit p ch)) ch) (now (grid .entry)) (now (grid .exit)) ⌝ }
 {
     let mut r = started(p, ch);
-    fill(&mut r, p, ch, plan, bits, grid);
+    fill(&mut r, p, ch, t, masks, bits, grid);
 }

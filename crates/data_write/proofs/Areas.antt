@@ -13,7 +13,8 @@ use Rattle.base.specs.declared.Element.{Element}
 use Rattle.base.specs.Counts.{cnt}
 use Rattle.base.proofs.Counts.{cnt-most}
 use Rattle.gold.specs.declared.Registers.{Registers}
-use Rattle.gold.specs.Steps.{after as afterBits}
+use Rattle.modulation.specs.Symbols.{unitOf}
+use Rattle.modulation.proofs.Formulas.{unit-small}
 use Rattle.codeword.specs.Streams.{symbolsOf}
 use Rattle.codeword.specs.Bits48.{Standing, Begins48, Ends}
 use Rattle.precoding.specs.Matrices.{unitOn}
@@ -37,11 +38,11 @@ use Rattle.walk.proofs.Pairs.{written-none, written-join, written-all}
 use Rattle.areas.specs.declared.Area.{Area}
 use Rattle.constellation.specs.Entries.{Elements}
 use Rattle.areas.specs.Areas.{areaCount, areaSends, areaElement, AreaIn}
-use Rattle.areas.specs.Tables.{RowMasks, AreaTables}
+use Rattle.areas.specs.Tables.{AreaTables}
 use Rattle.areas.proofs.Tables.{tables-index, tables-count, tables-sends}
 use Rattle.data_write.specs.Sent.{sentElement, groupOf, TableOf, Sending}
 use Rattle.data_write.specs.Pairs.{RunFilled}
-use Rattle.data_write.specs.Areas.{AnyIn, tablesAt, portsOf, groupIn, SignalsIn, RunsIn, Going, RunsDone, FillIn, AreaFilled}
+use Rattle.data_write.specs.Areas.{AnyIn, tablesAt, portsOf, groupIn, RunsIn, Going, RunsDone, FillIn, AreaFilled}
 use Rattle.data_write.proofs.Filled.{later-sending}
 
 -- ---- one port, and two or four
@@ -252,30 +253,15 @@ module _ {a : Area} {q : ℕ} {t masks grid : List ℕ} (h : FillIn a q t masks 
         pair = e .exact bits (q * areaCount a) (d .stands r (begins q b) .ready);
       }
 
--- the tables that an area's filling makes for itself
-unit-small : (P unit : ℕ) → unit ≤ 127 → unitOn P unit < 256
+-- the table of an order, as it is made
+on-small : (P unit : ℕ) → unit ≤ 127 → unitOn P unit < 256
 unfolding unitOn
-unit-small P unit l = pick (eqb P 1)
+on-small P unit l = pick (eqb P 1)
   where
     pick : (b : Bool) → cond b unit (2 * unit) < 256
     pick true = omega arith
     pick false = omega arith
 
-pub tables-made :
-    {a : Area} {q unit u : ℕ} {t masks grid : List ℕ} → AreaIn a q unit grid × SignalsIn a → u ≡ unitOn (portsOf a) unit → Elements q u t
-    → RowMasks (a .cell) (a .frame) (a .signals) (a .leaves) 14 masks → FillIn a q t masks grid
-tables-made {a} {q} {unit} {u} {t} i e s m =
-    record {
-      unit = unit;
-      area = i .0;
-      signals = i .1;
-      table = record { small = unit-small (portsOf a) unit (i .0 .level); table = subst (λ (x : ℕ). Elements q x t) e s };
-      bytes = m;
-    }
-
-pub by-tables :
-    {a : Area} {q unit u : ℕ} {t bits before after : List ℕ} {r x : Registers} → unit ≤ 127 → u ≡ unitOn (portsOf a) unit → Elements q u t
-    → AreaFilled a q t bits r before x after
-    → Written (areaSends a) (areaElement a q unit bits r) before after × (x ≡ afterBits r (q * areaCount a))
-by-tables {a} {q} {unit} {t = t} l e s f =
-    (f .written unit (record { small = unit-small (portsOf a) unit l; table = subst (λ (x : ℕ). Elements q x t) e s }), f .pair)
+pub table-made : {P q unit u : ℕ} {t : List ℕ} → unit ≡ unitOf q → u ≡ unitOn P unit → Elements q u t → TableOf P q (unitOf q) t
+table-made {P} {q} {t = t} e f s =
+    record { small = on-small P (unitOf q) (omega (arith, unit-small q)); table = subst (λ (x : ℕ). Elements q x t) (f ∙ ap (unitOn P) e) s }

@@ -1,6 +1,6 @@
 -- THE LAWS OF FILLING PAIRS: one pair more, and two in each round. Assumes what a run of pairs needs.
 use Prim.Native.Nat.{ℕ, _+_, _*_, _/_, _%_, _^_, _≤_, _<_}
-use mathlib.Core.Path.{_≡_, refl, _∙_, subst}
+use mathlib.Core.Path.{_≡_, refl, ap, _∙_, subst}
 use mathlib.Core.Bool.{Bool}
 use mathlib.Core.List.{List}
 use native.Mathlib.Omega.{arith}
@@ -12,14 +12,14 @@ use Rattle.codeword.proofs.Orders.{quad-groups}
 use Rattle.precoding.specs.Places.{ownPort, otherPort}
 use Rattle.grid.specs.Writing.{Written}
 use Rattle.element_pairs.specs.Numbers.{TwoPut, PairPut}
-use Rattle.walk.specs.declared.PortOffsets.{PortOffsets}
 use Rattle.walk.specs.Runs.{PairsAt}
 use Rattle.walk.specs.Parts.{sentPart}
-use Rattle.walk.specs.Addresses.{OffsetsAt, PairsIn}
+use Rattle.walk.specs.Addresses.{PairsIn}
 use Rattle.walk.proofs.Pairs.{written-none, written-join, pair-written}
-use Rattle.walk.proofs.Addresses.{at-own, at-other, next-at, next-other, rounds-on, fits-at, fits-next}
+use Rattle.walk.proofs.Addresses.{at-own, at-other, next-at, next-other, rounds-start, rounds-on, round-small, fits-at, fits-next}
 use Rattle.data_write.specs.Sent.{sentElement, TableOf, Sending, FromTable}
-use Rattle.data_write.specs.Pairs.{RoundIn, RoundDone, PairsDone, Rounds}
+use Rattle.data_write.specs.declared.FirstRound.{FirstRound}
+use Rattle.data_write.specs.Pairs.{RoundIn, RoundDone, PairsFit, FirstAt, PairsDone, Rounds}
 use Rattle.data_write.proofs.Source.{stands-on, can-take, SymbolsAt, pair-has, first-symbols, next-symbols}
 
 module _ {P T gap j start step m : ℕ} {before : List ℕ} (h : PairsIn P T gap j start step m before) where
@@ -47,27 +47,58 @@ module _ {P T gap j start step m : ℕ} {before : List ℕ} (h : PairsIn P T gap
       (y .first) (y .second))
       ia ib (subst (λ (n : ℕ). TwoPut gap a n g f) (z .own) c) (subst (λ (n : ℕ). TwoPut gap b n f k) (z .other) d)
 
--- ---- rounds of two pairs
+-- ---- a round of two pairs, from what the functions that it calls leave
+pub round-made :
+    {gap q at next across z own other own′ other′ : ℕ} {t bits st before st′ middle after : List ℕ} → Takes (4 * q) bits st z st′
+    → FromTable t (z / 2 ^ q / 2 ^ q / 2 ^ q) (z / 2 ^ q / 2 ^ q) own other → FromTable t (z / 2 ^ q) z own′ other′ → PairPut gap at across own other before middle
+    → PairPut gap next across own′ other′ middle after → RoundDone gap q t bits st at next across before st′ after
+round-made {z = z} {own} {other} {own′} {other′} {middle = middle} k x y a b =
+    record {
+      word = z;
+      takes = k;
+      own = own;
+      other = other;
+      own-next = own′;
+      other-next = other′;
+      first = x;
+      second = y;
+      middle = middle;
+      put = a;
+      put-next = b;
+    }
+
+-- ---- and rounds after rounds
+pub pairs-fit : {P T gap j start step m : ℕ} {grid : List ℕ} → PairsIn P T gap j start step m grid → PairsFit P T j start step
+pairs-fit {gap = gap} {m = m} {grid} h = record { gap = gap; pairs = m; grid = grid; inside = h }
+
+pub rounds-first :
+    {P T gap j start step : ℕ} (n : ℕ) {q : ℕ} {t bits st before : List ℕ} {x : FirstRound} → PairsIn P T gap j start step (2 * n) before
+    → FirstAt P T j start step x → Rounds P T gap j start step n q t bits st before (x .at) (x .next) 0 st before
+rounds-first n h p = record { round = rw (p .at, p .next) (rounds-start h (p .ports)); done = none-done h }
+
 module _
     {P T gap j start step n q : ℕ} {t bits st before : List ℕ} (h : PairsIn P T gap j start step (2 * n) before) (s : Sending (2 * q) q j t bits st)
-    {r : PortOffsets} (p : OffsetsAt P T j r) {at next i : ℕ} {st′ grid : List ℕ} (d : Rounds P T gap j start step n q t bits st before at next i st′ grid)
-    (l : i < n) where
-  pub round-in : RoundIn gap q bits st′ at next (3 * r .across) grid
+    {x : FirstRound} (p : FirstAt P T j start step x) {at next i : ℕ} {st′ grid : List ℕ}
+    (d : Rounds P T gap j start step n q t bits st before at next i st′ grid) (l : i < n) where
+  pub round-in : RoundIn gap q bits st′ at next (x .across) grid
   round-in =
       record {
         takes = can-take {j = j + 2 * (2 * i)} (quad-groups q (s .order)) (s .order) (omega (arith, h .index)) (d .done .stands (s .pair) (s .standing));
         few = omega (arith, s .order .2);
-        first = omega (arith, d .done .size, fits-at h p (d .round) l);
-        second = omega (arith, d .done .size, fits-next h p (d .round) l);
+        first = omega (arith, d .done .size, p .across, fits-at h (p .ports) (d .round) l);
+        second = omega (arith, d .done .size, p .across, fits-next h (p .ports) (d .round) l);
       }
+
+  pub few-bytes : (at ≤ 100800) × (next ≤ 100800) × (n ≤ 8400)
+  few-bytes = let b = round-small h (p .ports) (d .round) l in (b .0, b .1, omega (arith, h .index))
 
   filled-on :
       {z v u v′ u′ : ℕ} {st″ f k : List ℕ} → Takes (4 * q) bits st′ z st″ → FromTable t (z / 2 ^ q / 2 ^ q / 2 ^ q) (z / 2 ^ q / 2 ^ q) v u
-      → FromTable t (z / 2 ^ q) z v′ u′ → PairPut gap at (3 * r .across) v u grid f → PairPut gap next (3 * r .across) v′ u′ f k
+      → FromTable t (z / 2 ^ q) z v′ u′ → PairPut gap at (x .across) v u grid f → PairPut gap next (x .across) v′ u′ f k
       → Rounds P T gap j start step n q t bits st before (at + 6 * step) (next + 6 * step) (i + 1) st″ k
-  filled-on {z} {v} {u} {v′} {u′} {st″} {f} {k} tk x y a b =
+  filled-on {z} {v} {u} {v′} {u′} {st″} {f} {k} tk y y′ a b =
       record {
-        round = rounds-on h p (d .round) l;
+        round = rounds-on h (p .ports) (d .round) l;
         done =
             record {
               size = b .size ∙ a .size ∙ d .done .size;
@@ -76,8 +107,8 @@ module _
             };
       }
     where
-      to : ℕ
-      to = j + 2 * (2 * i)
+      far : (b : ℕ) → b + x .across ≡ b + 3 * p .offsets .across
+      far b = ap (λ (a : ℕ). b + a) (p .across)
 
       on : (reg : Registers) → Standing (2 * q) bits reg (q * j) st → Standing (2 * q) bits reg (q * (j + 2 * (2 * (i + 1)))) st″
       on reg g =
@@ -98,14 +129,14 @@ module _
           subst (λ (c : ℕ). Written (sentPart own P T j c) (sentElement own P T unit (symbolsOf q bits reg)) before k) e
           (written-join own P T (sentElement own P T unit (symbolsOf q bits reg)) j (2 * (2 * i) + 2) 2
           (written-join own P T (sentElement own P T unit (symbolsOf q bits reg)) j (2 * (2 * i)) 2 (d .done .done own unit reg tb g pa)
-          (pair-filled h own tb (s .order) pa (2 * i) (omega arith) (at-own h p (d .round) l) (at-other h p (d .round) l) first x (a .own) (a .other)))
+          (pair-filled h own tb (s .order) pa (2 * i) (omega arith) (at-own h (p .ports) (d .round) l) (far at ∙ at-other h (p .ports) (d .round) l) first y (a .own) (a .other)))
           (subst (λ (c : ℕ). Written (sentPart own P T c 2) (sentElement own P T unit (symbolsOf q bits reg)) f k) e″
-          (pair-filled h own tb (s .order) pa (2 * i + 1) (omega arith) (next-at h p (d .round) l) (next-other h p (d .round) l) second y (b .own) (b .other))))
+          (pair-filled h own tb (s .order) pa (2 * i + 1) (omega arith) (next-at h (p .ports) (d .round) l) (far next ∙ next-other h (p .ports) (d .round) l) second y′ (b .own) (b .other))))
 
   pub round-on :
-      {st″ k : List ℕ} → RoundDone gap q t bits st′ at next (3 * r .across) grid st″ k
+      {st″ k : List ℕ} → RoundDone gap q t bits st′ at next (x .across) grid st″ k
       → Rounds P T gap j start step n q t bits st before (at + 6 * step) (next + 6 * step) (i + 1) st″ k
-  round-on x = filled-on (x .takes) (x .first) (x .second) (x .put) (x .put-next)
+  round-on y = filled-on (y .takes) (y .first) (y .second) (y .put) (y .put-next)
 
 pub filled-end :
     {P T gap j start step n q at next i : ℕ} {t bits st before st′ grid : List ℕ} → Rounds P T gap j start step n q t bits st before at next i st′ grid

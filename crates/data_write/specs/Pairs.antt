@@ -9,10 +9,12 @@ use Rattle.codeword.specs.Bits48.{Standing, CanTake, Takes}
 use Rattle.element_pairs.specs.Numbers.{PairPut}
 use Rattle.codeword.specs.Streams.{symbolsOf}
 use Rattle.grid.specs.Writing.{Written}
+use Rattle.walk.specs.declared.PortOffsets.{PortOffsets}
 use Rattle.walk.specs.declared.Run.{Run}
 use Rattle.walk.specs.Runs.{runCount, Laid, PairsAt}
 use Rattle.walk.specs.Parts.{sentPart}
-use Rattle.walk.specs.Addresses.{RoundAt}
+use Rattle.walk.specs.Addresses.{OffsetsAt, PairsIn, RoundAt}
+use Rattle.data_write.specs.declared.FirstRound.{FirstRound}
 use Rattle.data_write.specs.Sent.{sentElement, TableOf, FromTable}
 
 -- what two pairs of places need, `gap` from a pair's first place to its second, and what is done with them
@@ -34,6 +36,20 @@ pub record RoundDone (gap q : ℕ) (t bits st : List ℕ) (at next across : ℕ)
   pub middle : List ℕ
   pub put : PairPut gap at across own other before middle
   pub put-next : PairPut gap next across own-next other-next middle after
+
+-- some pairs are inside a grid, and where rounds of them begin, by the offsets of their ports
+pub record PairsFit (P T j start step : ℕ) : Type 0 where
+  pub gap : ℕ
+  pub pairs : ℕ
+  pub grid : List ℕ
+  pub inside : PairsIn P T gap j start step pairs grid
+
+pub record FirstAt (P T j start step : ℕ) (x : FirstRound) : Type 0 where
+  pub offsets : PortOffsets
+  pub ports : OffsetsAt P T j offsets
+  pub at : x .at ≡ 3 * (offsets .own + start)
+  pub next : x .next ≡ 3 * (offsets .next + start + step)
+  pub across : x .across ≡ 3 * offsets .across
 
 -- of m pairs i are filled, and the bits stand after their symbols
 pub record PairsDone (P T gap j start step m i q : ℕ) (t bits st before st′ after : List ℕ) : Type 0 where

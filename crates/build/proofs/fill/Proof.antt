@@ -1,9 +1,7 @@
--- `build::fill` meets its contract: every channel over silence makes the grid. Assumes nothing.
-use Prim.Native.Nat.{ℕ}
-use mathlib.Core.Path.{ap, _∙_}
-use lib.ListN.{length}
-use Rattle.base.proofs.Tables.{table-length}
-use Rattle.build.proofs.Turns.{silent-ready, ready-kept, pcfich-in, pcfich-written, filled-whole}
+-- `build::fill` meets its contract: channel after channel. Assumes nothing.
+use mathlib.Core.Path.{refl, _∙_}
+use Rattle.base.specs.Tables.{table}
+use Rattle.build.proofs.Turns.{ready-kept, silent-kept, filled-whole, pcfich-in, pcfich-written}
 use Rattle.build.proofs.fill.Statement.{statement}
 use Rattle.build.proofs.fill.Tie as tie
 
@@ -11,28 +9,87 @@ silence-requires : tie.Need-silence-requires
 silence-requires c κs = tt
 
 fill-crs-requires : tie.Need-fill-crs-requires
-fill-crs-requires c κs = silent-ready (c .before .before .before .before .before .before .before .before .args .plan .now) (c .before .before .before .before .before .before .before .before .args .p) (c .before .before .before .before .before .before .before .before .args .payload .now) (c .before .before .before .before .before .before .before .before .pre) (c .before .before .before .silence .ensures)
+fill-crs-requires c κs =
+    let a = c .before .before .before .before .before in
+    let b = a .before .before .before .before .before in
+    ready-kept (b .pre) (silent-kept (b .args .grid .now) (a .silence .ensures))
 
 fill-marks-requires : tie.Need-fill-marks-requires
-fill-marks-requires c κs = (ready-kept (c .before .before .before .before .before .before .before .before .before .before .before .before .args .plan .now) (c .before .before .before .before .before .before .before .before .before .before .before .before .args .p) (c .before .before .before .before .before .before .before .before .before .before .before .before .args .payload .now) (silent-ready (c .before .before .before .before .before .before .before .before .before .before .before .before .args .plan .now) (c .before .before .before .before .before .before .before .before .before .before .before .before .args .p) (c .before .before .before .before .before .before .before .before .before .before .before .before .args .payload .now) (c .before .before .before .before .before .before .before .before .before .before .before .before .pre) (c .before .before .before .before .before .before .before .silence .ensures)) (c .before .before .before .fill-crs .ensures))
+fill-marks-requires c κs =
+    let a = c .before .before .before in
+    let b = a .before .before .before .before .before .before in
+    let d = b .before .before .before .before .before in
+    ready-kept (d .pre) (a .fill-crs .ensures .size ∙ silent-kept (d .args .grid .now) (b .silence .ensures))
 
 fill-pbch-requires : tie.Need-fill-pbch-requires
-fill-pbch-requires c κs = (ready-kept (c .before .before .before .before .before .before .before .before .before .before .before .before .before .before .before .before .args .plan .now) (c .before .before .before .before .before .before .before .before .before .before .before .before .before .before .before .before .args .p) (c .before .before .before .before .before .before .before .before .before .before .before .before .before .before .before .before .args .payload .now) (ready-kept (c .before .before .before .before .before .before .before .before .before .before .before .before .before .before .before .before .args .plan .now) (c .before .before .before .before .before .before .before .before .before .before .before .before .before .before .before .before .args .p) (c .before .before .before .before .before .before .before .before .before .before .before .before .before .before .before .before .args .payload .now) (silent-ready (c .before .before .before .before .before .before .before .before .before .before .before .before .before .before .before .before .args .plan .now) (c .before .before .before .before .before .before .before .before .before .before .before .before .before .before .before .before .args .p) (c .before .before .before .before .before .before .before .before .before .before .before .before .before .before .before .before .args .payload .now) (c .before .before .before .before .before .before .before .before .before .before .before .before .before .before .before .before .pre) (c .before .before .before .before .before .before .before .before .before .before .before .silence .ensures)) (c .before .before .before .before .before .before .before .fill-crs .ensures)) (c .before .before .before .fill-marks .ensures))
+unfolding table
+fill-pbch-requires c κs =
+    let a = c .before .before .before .before .before in
+    let b = a .before .before .before .before in
+    let d = b .before .before .before .before .before .before in
+    let e = d .before .before .before .before .before in
+    (ready-kept (e .pre) (a .fill-marks .ensures .size ∙ b .fill-crs .ensures .size ∙ silent-kept (e .args .grid .now) (d .silence .ensures)), (refl, refl))
 
 map-requires : tie.Need-map-requires
-map-requires c κs = pcfich-in (c .before .before .before .before .before .before .before .before .before .before .before .before .before .before .before .before .before .before .before .before .args .plan .now) (c .before .before .before .before .before .before .before .before .before .before .before .before .before .before .before .before .before .before .before .before .args .p) (c .before .before .before .before .before .before .before .before .before .before .before .before .before .before .before .before .before .before .before .before .args .payload .now) (ready-kept (c .before .before .before .before .before .before .before .before .before .before .before .before .before .before .before .before .before .before .before .before .args .plan .now) (c .before .before .before .before .before .before .before .before .before .before .before .before .before .before .before .before .before .before .before .before .args .p) (c .before .before .before .before .before .before .before .before .before .before .before .before .before .before .before .before .before .before .before .before .args .payload .now) (ready-kept (c .before .before .before .before .before .before .before .before .before .before .before .before .before .before .before .before .before .before .before .before .args .plan .now) (c .before .before .before .before .before .before .before .before .before .before .before .before .before .before .before .before .before .before .before .before .args .p) (c .before .before .before .before .before .before .before .before .before .before .before .before .before .before .before .before .before .before .before .before .args .payload .now) (silent-ready (c .before .before .before .before .before .before .before .before .before .before .before .before .before .before .before .before .before .before .before .before .args .plan .now) (c .before .before .before .before .before .before .before .before .before .before .before .before .before .before .before .before .before .before .before .before .args .p) (c .before .before .before .before .before .before .before .before .before .before .before .before .before .before .before .before .before .before .before .before .args .payload .now) (c .before .before .before .before .before .before .before .before .before .before .before .before .before .before .before .before .before .before .before .before .pre) (c .before .before .before .before .before .before .before .before .before .before .before .before .before .before .before .silence .ensures)) (c .before .before .before .before .before .before .before .before .before .before .before .fill-crs .ensures)) (c .before .before .before .before .before .before .before .fill-marks .ensures)) (c .before .before .before .fill-pbch .ensures)
+map-requires c κs =
+    let a = c .before .before .before .before .before in
+    let b = a .before .before .before .before .before .before in
+    let d = b .before .before .before .before in
+    let e = d .before .before .before .before .before .before in
+    let f = e .before .before .before .before .before in
+    pcfich-in (f .pre) (a .fill-pbch .ensures .0 .size ∙ b .fill-marks .ensures .size ∙ d .fill-crs .ensures .size ∙ silent-kept (f .args .grid .now) (e .silence .ensures))
 
 fill-units-requires : tie.Need-fill-units-requires
-fill-units-requires c κs = (ready-kept (c .before .before .before .before .before .before .before .before .before .before .before .before .before .before .before .before .before .before .before .before .before .before .before .before .args .plan .now) (c .before .before .before .before .before .before .before .before .before .before .before .before .before .before .before .before .before .before .before .before .before .before .before .before .args .p) (c .before .before .before .before .before .before .before .before .before .before .before .before .before .before .before .before .before .before .before .before .before .before .before .before .args .payload .now) (ready-kept (c .before .before .before .before .before .before .before .before .before .before .before .before .before .before .before .before .before .before .before .before .before .before .before .before .args .plan .now) (c .before .before .before .before .before .before .before .before .before .before .before .before .before .before .before .before .before .before .before .before .before .before .before .before .args .p) (c .before .before .before .before .before .before .before .before .before .before .before .before .before .before .before .before .before .before .before .before .before .before .before .before .args .payload .now) (ready-kept (c .before .before .before .before .before .before .before .before .before .before .before .before .before .before .before .before .before .before .before .before .before .before .before .before .args .plan .now) (c .before .before .before .before .before .before .before .before .before .before .before .before .before .before .before .before .before .before .before .before .before .before .before .before .args .p) (c .before .before .before .before .before .before .before .before .before .before .before .before .before .before .before .before .before .before .before .before .before .before .before .before .args .payload .now) (ready-kept (c .before .before .before .before .before .before .before .before .before .before .before .before .before .before .before .before .before .before .before .before .before .before .before .before .args .plan .now) (c .before .before .before .before .before .before .before .before .before .before .before .before .before .before .before .before .before .before .before .before .before .before .before .before .args .p) (c .before .before .before .before .before .before .before .before .before .before .before .before .before .before .before .before .before .before .before .before .before .before .before .before .args .payload .now) (silent-ready (c .before .before .before .before .before .before .before .before .before .before .before .before .before .before .before .before .before .before .before .before .before .before .before .before .args .plan .now) (c .before .before .before .before .before .before .before .before .before .before .before .before .before .before .before .before .before .before .before .before .before .before .before .before .args .p) (c .before .before .before .before .before .before .before .before .before .before .before .before .before .before .before .before .before .before .before .before .before .before .before .before .args .payload .now) (c .before .before .before .before .before .before .before .before .before .before .before .before .before .before .before .before .before .before .before .before .before .before .before .before .pre) (c .before .before .before .before .before .before .before .before .before .before .before .before .before .before .before .before .before .before .before .silence .ensures)) (c .before .before .before .before .before .before .before .before .before .before .before .before .before .before .before .fill-crs .ensures)) (c .before .before .before .before .before .before .before .before .before .before .before .fill-marks .ensures)) (c .before .before .before .before .before .before .before .fill-pbch .ensures)) (c .before .before .before .map .ensures))
+fill-units-requires c κs =
+    let a = c .before .before .before .before .before in
+    let b = a .before .before .before .before .before .before in
+    let d = b .before .before .before .before .before .before in
+    let e = d .before .before .before .before in
+    let f = e .before .before .before .before .before .before in
+    let g = f .before .before .before .before .before in
+    ready-kept (g .pre) (a .map .ensures .size ∙ b .fill-pbch .ensures .0 .size ∙ d .fill-marks .ensures .size ∙ e .fill-crs .ensures .size ∙ silent-kept (g .args .grid .now)
+    (f .silence .ensures))
 
 fill-users-requires : tie.Need-fill-users-requires
-fill-users-requires c κs = (ready-kept (c .before .before .before .before .before .before .before .before .before .before .before .before .before .before .before .before .before .before .before .before .before .before .before .before .before .before .before .before .args .plan .now) (c .before .before .before .before .before .before .before .before .before .before .before .before .before .before .before .before .before .before .before .before .before .before .before .before .before .before .before .before .args .p) (c .before .before .before .before .before .before .before .before .before .before .before .before .before .before .before .before .before .before .before .before .before .before .before .before .before .before .before .before .args .payload .now) (ready-kept (c .before .before .before .before .before .before .before .before .before .before .before .before .before .before .before .before .before .before .before .before .before .before .before .before .before .before .before .before .args .plan .now) (c .before .before .before .before .before .before .before .before .before .before .before .before .before .before .before .before .before .before .before .before .before .before .before .before .before .before .before .before .args .p) (c .before .before .before .before .before .before .before .before .before .before .before .before .before .before .before .before .before .before .before .before .before .before .before .before .before .before .before .before .args .payload .now) (ready-kept (c .before .before .before .before .before .before .before .before .before .before .before .before .before .before .before .before .before .before .before .before .before .before .before .before .before .before .before .before .args .plan .now) (c .before .before .before .before .before .before .before .before .before .before .before .before .before .before .before .before .before .before .before .before .before .before .before .before .before .before .before .before .args .p) (c .before .before .before .before .before .before .before .before .before .before .before .before .before .before .before .before .before .before .before .before .before .before .before .before .before .before .before .before .args .payload .now) (ready-kept (c .before .before .before .before .before .before .before .before .before .before .before .before .before .before .before .before .before .before .before .before .before .before .before .before .before .before .before .before .args .plan .now) (c .before .before .before .before .before .before .before .before .before .before .before .before .before .before .before .before .before .before .before .before .before .before .before .before .before .before .before .before .args .p) (c .before .before .before .before .before .before .before .before .before .before .before .before .before .before .before .before .before .before .before .before .before .before .before .before .before .before .before .before .args .payload .now) (ready-kept (c .before .before .before .before .before .before .before .before .before .before .before .before .before .before .before .before .before .before .before .before .before .before .before .before .before .before .before .before .args .plan .now) (c .before .before .before .before .before .before .before .before .before .before .before .before .before .before .before .before .before .before .before .before .before .before .before .before .before .before .before .before .args .p) (c .before .before .before .before .before .before .before .before .before .before .before .before .before .before .before .before .before .before .before .before .before .before .before .before .before .before .before .before .args .payload .now) (silent-ready (c .before .before .before .before .before .before .before .before .before .before .before .before .before .before .before .before .before .before .before .before .before .before .before .before .before .before .before .before .args .plan .now) (c .before .before .before .before .before .before .before .before .before .before .before .before .before .before .before .before .before .before .before .before .before .before .before .before .before .before .before .before .args .p) (c .before .before .before .before .before .before .before .before .before .before .before .before .before .before .before .before .before .before .before .before .before .before .before .before .before .before .before .before .args .payload .now) (c .before .before .before .before .before .before .before .before .before .before .before .before .before .before .before .before .before .before .before .before .before .before .before .before .before .before .before .before .pre) (c .before .before .before .before .before .before .before .before .before .before .before .before .before .before .before .before .before .before .before .before .before .before .before .silence .ensures)) (c .before .before .before .before .before .before .before .before .before .before .before .before .before .before .before .before .before .before .before .fill-crs .ensures)) (c .before .before .before .before .before .before .before .before .before .before .before .before .before .before .before .fill-marks .ensures)) (c .before .before .before .before .before .before .before .before .before .before .before .fill-pbch .ensures)) (c .before .before .before .before .before .before .before .map .ensures)) (c .before .before .before .fill-units .ensures))
+fill-users-requires c κs =
+    let a = c .before .before .before .before .before in
+    let b = a .before .before .before .before .before .before in
+    let d = b .before .before .before .before .before .before in
+    let e = d .before .before .before .before .before .before in
+    let f = e .before .before .before .before in
+    let g = f .before .before .before .before .before .before in
+    let h = g .before .before .before .before .before in (
+      ready-kept (h .pre) (a .fill-units .ensures .size ∙ b .map .ensures .size ∙ d .fill-pbch .ensures .0 .size ∙ e .fill-marks .ensures .size ∙ f .fill-crs .ensures .size ∙ silent-kept
+          (h .args .grid .now) (g .silence .ensures)),
+      d .fill-pbch .ensures .1,
+    )
 
 same-length : tie.Need-same-length
-same-length c = c .before .before .fill-users .ensures .size ∙ c .before .before .before .before .before .before .fill-units .ensures .size ∙ c .before .before .before .before .before .before .before .before .before .before .map .ensures .size ∙ c .before .before .before .before .before .before .before .before .before .before .before .before .before .before .fill-pbch .ensures .size ∙ c .before .before .before .before .before .before .before .before .before .before .before .before .before .before .before .before .before .before .fill-marks .ensures .size ∙ c .before .before .before .before .before .before .before .before .before .before .before .before .before .before .before .before .before .before .before .before .before .before .fill-crs .ensures .size ∙ ap length (c .before .before .before .before .before .before .before .before .before .before .before .before .before .before .before .before .before .before .before .before .before .before .before .before .before .before .silence .ensures) ∙ table-length (length (c .before .before .before .before .before .before .before .before .before .before .before .before .before .before .before .before .before .before .before .before .before .before .before .before .before .before .before .before .before .before .before .args .grid .now)) (λ (i : ℕ). 0)
+same-length c =
+    let a = c .before .before in
+    let b = a .before .before .before .before .before .before in
+    let d = b .before .before .before .before .before .before in
+    let e = d .before .before .before .before .before .before in
+    let f = e .before .before .before .before .before .before in
+    let g = f .before .before .before .before in
+    let h = g .before .before .before .before .before .before in
+    let i = h .before .before .before .before .before in
+    a .fill-users .ensures .size ∙ b .fill-units .ensures .size ∙ d .map .ensures .size ∙ e .fill-pbch .ensures .0 .size ∙ f .fill-marks .ensures .size ∙ g .fill-crs .ensures .size
+    ∙ silent-kept (i .args .grid .now) (h .silence .ensures)
 
 returns : tie.Need-returns
-returns c = filled-whole (c .before .before .before .before .before .before .before .before .before .before .before .before .before .before .before .before .before .before .before .before .before .before .before .before .before .before .before .before .before .before .before .args .plan .now) (c .before .before .before .before .before .before .before .before .before .before .before .before .before .before .before .before .before .before .before .before .before .before .before .before .before .before .before .before .before .before .before .args .p) (c .before .before .before .before .before .before .before .before .before .before .before .before .before .before .before .before .before .before .before .before .before .before .before .before .before .before .before .before .before .before .before .args .payload .now) (c .before .before .before .before .before .before .before .before .before .before .before .before .before .before .before .before .before .before .before .before .before .before .before .before .before .before .before .before .before .before .before .pre) (c .before .before .before .before .before .before .before .before .before .before .before .before .before .before .before .before .before .before .before .before .before .before .before .before .before .before .silence .ensures) (c .before .before .before .before .before .before .before .before .before .before .before .before .before .before .before .before .before .before .before .before .before .before .fill-crs .ensures) (c .before .before .before .before .before .before .before .before .before .before .before .before .before .before .before .before .before .before .fill-marks .ensures) (c .before .before .before .before .before .before .before .before .before .before .before .before .before .before .fill-pbch .ensures) (pcfich-written (c .before .before .before .before .before .before .before .before .before .before .before .before .before .before .before .before .before .before .before .before .before .before .before .before .before .before .before .before .before .before .before .args .plan .now) (c .before .before .before .before .before .before .before .before .before .before .before .before .before .before .before .before .before .before .before .before .before .before .before .before .before .before .before .before .before .before .before .args .p) (c .before .before .before .before .before .before .before .before .before .before .before .before .before .before .before .before .before .before .before .before .before .before .before .before .before .before .before .before .before .before .before .args .payload .now) (ready-kept (c .before .before .before .before .before .before .before .before .before .before .before .before .before .before .before .before .before .before .before .before .before .before .before .before .before .before .before .before .before .before .before .args .plan .now) (c .before .before .before .before .before .before .before .before .before .before .before .before .before .before .before .before .before .before .before .before .before .before .before .before .before .before .before .before .before .before .before .args .p) (c .before .before .before .before .before .before .before .before .before .before .before .before .before .before .before .before .before .before .before .before .before .before .before .before .before .before .before .before .before .before .before .args .payload .now) (ready-kept (c .before .before .before .before .before .before .before .before .before .before .before .before .before .before .before .before .before .before .before .before .before .before .before .before .before .before .before .before .before .before .before .args .plan .now) (c .before .before .before .before .before .before .before .before .before .before .before .before .before .before .before .before .before .before .before .before .before .before .before .before .before .before .before .before .before .before .before .args .p) (c .before .before .before .before .before .before .before .before .before .before .before .before .before .before .before .before .before .before .before .before .before .before .before .before .before .before .before .before .before .before .before .args .payload .now) (ready-kept (c .before .before .before .before .before .before .before .before .before .before .before .before .before .before .before .before .before .before .before .before .before .before .before .before .before .before .before .before .before .before .before .args .plan .now) (c .before .before .before .before .before .before .before .before .before .before .before .before .before .before .before .before .before .before .before .before .before .before .before .before .before .before .before .before .before .before .before .args .p) (c .before .before .before .before .before .before .before .before .before .before .before .before .before .before .before .before .before .before .before .before .before .before .before .before .before .before .before .before .before .before .before .args .payload .now) (silent-ready (c .before .before .before .before .before .before .before .before .before .before .before .before .before .before .before .before .before .before .before .before .before .before .before .before .before .before .before .before .before .before .before .args .plan .now) (c .before .before .before .before .before .before .before .before .before .before .before .before .before .before .before .before .before .before .before .before .before .before .before .before .before .before .before .before .before .before .before .args .p) (c .before .before .before .before .before .before .before .before .before .before .before .before .before .before .before .before .before .before .before .before .before .before .before .before .before .before .before .before .before .before .before .args .payload .now) (c .before .before .before .before .before .before .before .before .before .before .before .before .before .before .before .before .before .before .before .before .before .before .before .before .before .before .before .before .before .before .before .pre) (c .before .before .before .before .before .before .before .before .before .before .before .before .before .before .before .before .before .before .before .before .before .before .before .before .before .before .silence .ensures)) (c .before .before .before .before .before .before .before .before .before .before .before .before .before .before .before .before .before .before .before .before .before .before .fill-crs .ensures)) (c .before .before .before .before .before .before .before .before .before .before .before .before .before .before .before .before .before .before .fill-marks .ensures)) (c .before .before .before .before .before .before .before .before .before .before .before .before .before .before .fill-pbch .ensures)) (c .before .before .before .before .before .before .before .before .before .before .before .before .before .before .before .before .before .before .before .before .before .before .before .before .before .before .before .before .before .before .before .args .payload .now) (c .before .before .before .before .before .before .before .before .before .before .map .ensures)) (c .before .before .before .before .before .before .fill-units .ensures) (c .before .before .fill-users .ensures)
+returns c =
+    let a = c .before .before in
+    let b = a .before .before .before .before .before .before in
+    let d = b .before .before .before .before .before .before in
+    let e = d .before .before .before .before .before .before in
+    let f = e .before .before .before .before .before .before in
+    let g = f .before .before .before .before in
+    let h = g .before .before .before .before .before .before in
+    let i = h .before .before .before .before .before in
+    filled-whole (i .pre) (h .silence .ensures) (g .fill-crs .ensures) (f .fill-marks .ensures) (e .fill-pbch .ensures .0)
+    (pcfich-written (ready-kept (i .pre) (e .fill-pbch .ensures .0 .size ∙ f .fill-marks .ensures .size ∙ g .fill-crs .ensures .size ∙ silent-kept (i .args .grid .now)
+    (h .silence .ensures))) (i .args .payload .now) (d .map .ensures)) (b .fill-units .ensures) (a .fill-users .ensures)
 
 pub fill-spec : {M : Type 1} → statement M
 fill-spec =

@@ -11,34 +11,54 @@ use Rattle.build.proofs.fill_crs_row.Statement.{statement}
 use Rattle.build.proofs.fill_crs_row.Tie as tie
 
 abbrev Inv-loop : tie.InvT-loop
-Inv-loop plan p payload s grid₀ q₀ grid q = (q ≤ p .cell .ports) × Written (crsPorts p s q) (elementNumbered plan p payload) grid₀ grid
+Inv-loop plan p payload s t masks grid₀ q₀ grid q = (q ≤ p .cell .ports) × Written (crsPorts p s q) (elementNumbered plan p payload) grid₀ grid
 
 abbrev μ-loop : tie.MeasureT-loop
-μ-loop plan p payload s grid₀ q₀ grid q = p .cell .ports - q
+μ-loop plan p payload s t masks grid₀ q₀ grid q = p .cell .ports - q
 
 loop-holds : tie.Need-loop-holds Inv-loop μ-loop
-loop-holds c = (omega arith, crs-none (c .before .before .before .args .plan .now) (c .before .before .before .args .p) (c .before .before .before .args .payload .now) (c .before .before .before .pre .0) (c .before .before .before .args .s))
+loop-holds c = (omega arith, crs-none (c .before .before .before .pre .0) (c .before .before .before .args .s))
 
 uses-requires : tie.Need-uses-requires Inv-loop μ-loop
 uses-requires c κs = tt
 
 map-requires : tie.Need-map-requires Inv-loop μ-loop
-map-requires c κs = crs-in (c .before .before .before .before .before .before .before .before .before .args .plan .now) (c .before .before .before .before .before .before .before .before .before .args .p) (c .before .before .before .before .before .before .before .before .before .args .payload .now) (c .before .before .before .before .before .before .before .before .before .pre .0) (c .before .before .before .before .before .loop .inv .1) (c .before .before .before .before .before .before .before .before .before .args .s) (c .before .before .before .before .before .loop .q) (c .before .before .before .before .before .before .before .before .before .pre .1) (c .before .before .before .if1 .taken)
+map-requires c κs =
+    let a = c .before .before .before in
+    let b = a .before .before in
+    let d = b .before .before .before .before in
+    crs-in (d .pre .0) (b .loop .inv .1 .size) _ _ (d .pre .1) (a .if1 .taken)
 
 add-q : tie.Need-add-q Inv-loop μ-loop
-add-q c = omega (arith, c .before .before .if1 .taken, c .before .before .before .before .before .before .before .before .pre .0 .room .most)
+add-q c =
+    let a = c .before .before in
+    let b = a .before .before .before .before .before .before in
+    omega (arith, a .if1 .taken, b .pre .0 .room .most)
 
 loop-less : tie.Need-loop-less Inv-loop μ-loop
 loop-less c = omega (arith, c .before .before .if1 .taken)
 
 loop-again : tie.Need-loop-again Inv-loop μ-loop
-loop-again c = (omega (arith, c .before .before .if1 .taken), ⊎-elim (λ x. rw (x .5) (crs-more (c .before .before .before .before .before .before .before .before .args .plan .now) (c .before .before .before .before .before .before .before .before .args .p) (c .before .before .before .before .before .before .before .before .args .payload .now) (c .before .before .before .before .before .before .before .before .pre .0) (c .before .before .before .before .before .before .before .before .args .s) (c .before .before .before .before .loop .q) (c .before .before .before .before .loop .inv .1) (c .before .before .before .before .before .before .before .before .args .payload .now) (sym (c .before .uses .ensures) ∙ x .0 .taken) (c .before .before .if1 .taken) (x .2 .ensures))) (λ x. rw (x .1) (crs-pass (c .before .before .before .before .before .before .before .before .args .plan .now) (c .before .before .before .before .before .before .before .before .args .p) (c .before .before .before .before .before .before .before .before .args .payload .now) (c .before .before .before .before .before .before .before .before .pre .0) (c .before .before .before .before .before .before .before .before .args .s) (c .before .before .before .before .loop .q) (c .before .before .before .before .loop .inv .1) (sym (c .before .uses .ensures) ∙ x .0 .left))) (c .if2 .came))
+loop-again c =
+    let a = c .before in
+    let b = a .before in
+    let d = b .before .before in
+    let e = d .before .before .before .before in (
+      omega (arith, b .if1 .taken),
+      ⊎-elim
+          (λ x. rw (x .5) (crs-more (e .pre .0) (e .args .s) (d .loop .q) (d .loop .inv .1) (e .args .payload .now) (sym (a .uses .ensures) ∙ x .0 .taken) (b .if1 .taken) (x .2 .ensures)))
+          (λ x. rw (x .1) (crs-pass (e .pre .0) (e .args .s) (d .loop .q) (d .loop .inv .1) (sym (a .uses .ensures) ∙ x .0 .left)))
+          (c .if2 .came),
+    )
 
 same-length : tie.Need-same-length Inv-loop μ-loop
 same-length c = c .before .before .loop .inv .1 .size
 
 returns : tie.Need-returns Inv-loop μ-loop
-returns c = crs-end (c .before .before .before .before .before .before .args .plan .now) (c .before .before .before .before .before .before .args .p) (c .before .before .before .before .before .before .args .payload .now) (c .before .before .before .before .before .before .pre .0) (c .before .before .before .before .before .before .args .s) (c .before .before .loop .q) (c .before .before .loop .inv .0) (c .if1 .left) (c .before .before .loop .inv .1)
+returns c =
+    let a = c .before .before in
+    let b = a .before .before .before .before in
+    crs-end (b .pre .0) (b .args .s) _ (a .loop .inv .0) (c .if1 .left) (a .loop .inv .1)
 
 pub fill-crs-row-spec : {M : Type 1} → statement M
 fill-crs-row-spec =

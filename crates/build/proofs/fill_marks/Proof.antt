@@ -10,21 +10,44 @@ is-marked-requires : tie.Need-is-marked-requires
 is-marked-requires c κs = tt
 
 fill-pss-requires : tie.Need-fill-pss-requires
-fill-pss-requires c κs = record { cell = valid _ _ (c .before .before .before .before .before .before .pre .answer) .cell; room = c .before .before .before .before .before .before .pre .room }
+fill-pss-requires c κs =
+    let a = c .before .before .before .before .before .before in
+    record { cell = valid _ _ (a .pre .answer) .cell; room = a .pre .room }
 
 fill-sss-requires : tie.Need-fill-sss-requires
-fill-sss-requires c κs = record { cell = valid _ _ (c .before .before .before .before .before .before .before .before .before .before .pre .answer) .cell; room = room-kept (c .before .before .before .before .before .before .before .before .before .before .pre .room) (c .before .before .before .fill-pss .ensures) }
+fill-sss-requires c κs =
+    let a = c .before .before .before in
+    let b = a .before .before .before .before .before .before .before in
+    record { cell = valid _ _ (b .pre .answer) .cell; room = room-kept (b .pre .room) (a .fill-pss .ensures) }
 
 same-length : tie.Need-same-length
-same-length c = c .before .before .fill-sss .ensures .size ∙ c .before .before .before .before .before .before .fill-pss .ensures .size
+same-length c =
+    let a = c .before .before in
+    let b = a .before .before .before .before in
+    a .fill-sss .ensures .size ∙ b .fill-pss .ensures .size
 
 returns : tie.Need-returns
-returns c = marks-both (c .before .before .before .before .before .before .before .before .before .before .before .before .before .args .plan .now) (c .before .before .before .before .before .before .before .before .before .before .before .before .before .args .p) (c .before .before .before .before .before .before .before .before .before .before .before .before .before .args .payload .now) (c .before .before .before .before .before .before .before .before .before .before .before .before .before .pre) (sym (c .before .before .before .before .before .before .before .before .before .is-marked .ensures) ∙ c .before .before .before .before .before .before .before .before .if1 .taken) (c .before .before .before .before .before .before .fill-pss .ensures) (c .before .before .fill-sss .ensures)
+returns c =
+    let a = c .before .before in
+    let b = a .before .before .before .before in
+    let d = b .before .before in
+    let e = d .before in
+    let f = e .before .before .before .before in
+    marks-both (f .pre) (sym (e .is-marked .ensures) ∙ d .if1 .taken) (b .fill-pss .ensures) (a .fill-sss .ensures)
 
 returns-2 : tie.Need-returns-2
-returns-2 c = marks-none (c .before .before .before .before .before .args .plan .now) (c .before .before .before .before .before .args .p) (c .before .before .before .before .before .args .payload .now) (c .before .before .before .before .before .pre) (sym (c .before .is-marked .ensures) ∙ c .if1 .left)
+returns-2 c =
+    let a = c .before in
+    let b = a .before .before .before .before in
+    marks-none (b .pre) (sym (a .is-marked .ensures) ∙ c .if1 .left)
 
 pub fill-marks-spec : {M : Type 1} → statement M
 fill-marks-spec =
     tie.close
-    (tie.spec is-marked-requires fill-pss-requires fill-sss-requires same-length returns returns-2)
+    (tie.spec
+    is-marked-requires
+    fill-pss-requires
+    fill-sss-requires
+    same-length
+    returns
+    returns-2)

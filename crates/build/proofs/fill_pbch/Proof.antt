@@ -1,11 +1,8 @@
 -- `build::fill_pbch` meets its contract: the first section is PBCH's. Assumes nothing.
 use mathlib.Core.Path.{refl, ap, _∙_}
 use native.Mathlib.Omega.{arith}
-use Rattle.subframe.specs.Grid.{elementNumbered}
 use Rattle.payload.specs.Sections.{sectionBytes}
-use Rattle.grid.proofs.Writing.{none}
-use Rattle.build.proofs.Slices.{heads-room}
-use Rattle.build.proofs.Turns.{pbch-none, pbch-written, pbch-in}
+use Rattle.build.proofs.Turns.{heads-in, pbch-none, pbch-written, pbch-in}
 use Rattle.build.proofs.fill_pbch.Statement.{statement}
 use Rattle.build.proofs.fill_pbch.Tie as tie
 
@@ -15,6 +12,16 @@ pbch-bits-requires c κs = tt
 section-bytes-requires : tie.Need-section-bytes-requires
 section-bytes-requires c κs = tt
 
+set-table-requires : tie.Need-set-table-requires
+set-table-requires c κs =
+    let a = c .before .before .before .before .before .before .before .before in
+    (a .pre .1 .0, (omega arith, omega arith, omega arith))
+
+row-masks-requires : tie.Need-row-masks-requires
+row-masks-requires c κs =
+    let a = c .before .before .before .before .before .before .before .before .before .before in
+    a .pre .1 .1
+
 sub-map : tie.Need-sub-map
 sub-map c = omega arith
 
@@ -22,19 +29,41 @@ part-map-start : tie.Need-part-map-start
 part-map-start c = omega arith
 
 part-map-end : tie.Need-part-map-end
-part-map-end c = let h = heads-room (c .before .before .before .before .before .before .before .args .plan .now) (c .before .before .before .before .before .before .before .args .p) (c .before .before .before .before .before .before .before .pre .answer) (c .before .before .before .before .before .before .before .args .payload .now) _ _ (c .section-bytes .ensures ∙ ap sectionBytes (c .before .pbch-bits .ensures)) refl in omega (arith, h .0, h .1, c .before .before .before .before .before .before .before .pre .right .size)
+part-map-end c =
+    let a = c .before .before .before .before .before .before in
+    let b = a .before in
+    let d = b .before .before .before .before .before .before in
+    let h = heads-in (d .pre .0) (b .pbch-bits .ensures) (a .section-bytes .ensures) refl in
+    omega (arith, h .0, h .1)
 
 map-requires : tie.Need-map-requires
-map-requires c κs = pbch-in (c .before .before .before .before .before .before .before .before .before .args .plan .now) (c .before .before .before .before .before .before .before .before .before .args .p) (c .before .before .before .before .before .before .before .before .before .args .payload .now) (c .before .before .before .before .before .before .before .before .before .pre) (none (elementNumbered (c .before .before .before .before .before .before .before .before .before .args .plan .now) (c .before .before .before .before .before .before .before .before .before .args .p) (c .before .before .before .before .before .before .before .before .before .args .payload .now)) (c .before .before .before .before .before .before .before .before .before .args .grid .now)) (c .before .before .before .before .if1 .taken)
+map-requires c κs =
+    let a = c .before .before .before .before in
+    let b = a .before .before in
+    let d = b .before .before .before .before in
+    let e = d .before .before .before .before .before in
+    pbch-in (e .pre .0) refl (d .if1 .taken) (b .set-table .ensures) (a .row-masks .ensures)
 
 same-length : tie.Need-same-length
 same-length c = c .before .before .map .ensures .size
 
 returns : tie.Need-returns
-returns c = pbch-written (c .before .before .before .before .before .before .before .before .before .before .before .before .args .plan .now) (c .before .before .before .before .before .before .before .before .before .before .before .before .args .p) (c .before .before .before .before .before .before .before .before .before .before .before .before .args .payload .now) (c .before .before .before .before .before .before .before .before .before .before .before .before .pre) _ (c .before .before .before .before .before .before .before .if1 .taken) (c .before .before .before .before .before .section-bytes .ensures ∙ ap sectionBytes (c .before .before .before .before .before .before .pbch-bits .ensures)) (c .before .before .map .ensures)
+returns c =
+    let a = c .before .before in
+    let b = a .before .before .before .before .before in
+    let d = b .before .before in
+    let e = d .before .before in
+    let f = e .before in
+    let g = f .before in
+    let h = g .before .before .before .before .before in (
+      pbch-written (h .pre .0) _ (g .if1 .taken) (e .section-bytes .ensures ∙ ap sectionBytes (f .pbch-bits .ensures)) (a .map .ensures),
+      (d .set-table .ensures .table .size, b .row-masks .ensures .size),
+    )
 
 returns-2 : tie.Need-returns-2
-returns-2 c = pbch-none (c .before .before .before .before .before .args .plan .now) (c .before .before .before .before .before .args .p) (c .before .before .before .before .before .args .payload .now) (c .before .before .before .before .before .pre) (c .if1 .left)
+returns-2 c =
+    let a = c .before .before .before .before .before in
+    (pbch-none (a .pre .0) (c .if1 .left), a .pre .1)
 
 pub fill-pbch-spec : {M : Type 1} → statement M
 fill-pbch-spec =
@@ -42,6 +71,8 @@ fill-pbch-spec =
     (tie.spec
     pbch-bits-requires
     section-bytes-requires
+    set-table-requires
+    row-masks-requires
     sub-map
     part-map-start
     part-map-end

@@ -1,6 +1,4 @@
 -- `build::fill_units` meets its contract: unit after unit. Assumes nothing.
-use Rattle.plan.proofs.Counts.{units-most}
-use Rattle.plan.proofs.Valid.{valid}
 use Prim.Native.Nat.{_-_, _≤_}
 use mathlib.Core.Path.{refl, ap, _∙_}
 use native.Mathlib.Omega.{arith}
@@ -10,17 +8,16 @@ use Rattle.subframe.specs.Grid.{elementNumbered}
 use Rattle.plan.specs.Fields.{unitsOf}
 use Rattle.payload.specs.Sections.{sectionBytes}
 use Rattle.build.specs.Senders.{unitsSend}
-use Rattle.build.proofs.Slices.{heads-room}
-use Rattle.build.proofs.Turns.{units-none, his-ready, part-in, units-more, units-end, unit-in}
+use Rattle.build.proofs.Turns.{heads-in, few-units, units-none, his-ready, part-in, units-more, units-end, unit-in}
 use Rattle.build.proofs.fill_units.Statement.{statement}
 use Rattle.build.proofs.fill_units.Tie as tie
 
 abbrev Inv-loop : tie.InvT-loop
-Inv-loop plan p payload grid₀ units start end l sums m₀ grid m =
+Inv-loop plan p payload t masks grid₀ units start end l sums m₀ grid m =
     (m ≤ unitsOf (p .cell)) × Written (unitsSend plan p m) (elementNumbered plan p payload) grid₀ grid
 
 abbrev μ-loop : tie.MeasureT-loop
-μ-loop plan p payload grid₀ units start end l sums m₀ grid m = unitsOf (p .cell) - m
+μ-loop plan p payload t masks grid₀ units start end l sums m₀ grid m = unitsOf (p .cell) - m
 
 units-requires : tie.Need-units-requires Inv-loop μ-loop
 units-requires c κs = tt
@@ -39,229 +36,143 @@ spread-length-requires c κs = tt
 
 sub-quad-sums : tie.Need-sub-quad-sums Inv-loop μ-loop
 sub-quad-sums c =
-    let h = heads-room (c .before .before .before .before .before .before .before .before .args .plan .now) (c .before .before .before .before .before
-    .before .before .before .args .p) (c .before .before .before .before .before .before .before .before .pre .answer) (c .before .before .before
-    .before .before .before .before .before .args .payload .now) _ _ (c .before .before .section-bytes .ensures ∙ ap sectionBytes (c .before .before
-    .before .pbch-bits .ensures)) (c .before .users-start .ensures) in
-    omega (arith, h .0)
+    let a = c .before in
+    let b = a .before in
+    let d = b .before in
+    let e = d .before .before .before .before .before in
+    let h = heads-in (e .pre) (d .pbch-bits .ensures) (b .section-bytes .ensures) (a .users-start .ensures) in
+    omega (arith, h .0, h .1)
 
 part-quad-sums-start : tie.Need-part-quad-sums-start Inv-loop μ-loop
 part-quad-sums-start c =
-    let h = heads-room (c .before .before .before .before .before .before .before .before .args .plan .now) (c .before .before .before .before .before
-    .before .before .before .args .p) (c .before .before .before .before .before .before .before .before .pre .answer) (c .before .before .before
-    .before .before .before .before .before .args .payload .now) _ _ (c .before .before .section-bytes .ensures ∙ ap sectionBytes (c .before .before
-    .before .pbch-bits .ensures)) (c .before .users-start .ensures) in
-    omega (arith, h .0)
+    let a = c .before in
+    let b = a .before in
+    let d = b .before in
+    let e = d .before .before .before .before .before in
+    let h = heads-in (e .pre) (d .pbch-bits .ensures) (b .section-bytes .ensures) (a .users-start .ensures) in
+    omega (arith, h .0, h .1)
 
 part-quad-sums-end : tie.Need-part-quad-sums-end Inv-loop μ-loop
 part-quad-sums-end c =
-    let h = heads-room (c .before .before .before .before .before .before .before .before .args .plan .now) (c .before .before .before .before .before
-    .before .before .before .args .p) (c .before .before .before .before .before .before .before .before .pre .answer) (c .before .before .before
-    .before .before .before .before .before .args .payload .now) _ _ (c .before .before .section-bytes .ensures ∙ ap sectionBytes (c .before .before
-    .before .pbch-bits .ensures)) (c .before .users-start .ensures) in
-    omega (arith, h .1, c .before .before .before .before .before .before .before .before .pre .right .size)
+    let a = c .before in
+    let b = a .before in
+    let d = b .before in
+    let e = d .before .before .before .before .before in
+    let h = heads-in (e .pre) (d .pbch-bits .ensures) (b .section-bytes .ensures) (a .users-start .ensures) in
+    omega (arith, h .0, h .1)
 
 quad-sums-requires : tie.Need-quad-sums-requires Inv-loop μ-loop
 unfolding table
-quad-sums-requires c κs = (
-  his-ready (c .before .before .before .before .before .before .before .before .before .before .args .plan .now) (c .before .before .before .before
-      .before .before .before .before .before .before .args .p) (c .before .before .before .before .before .before .before .before .before .before .args
-      .payload .now) (c .before .before .before .before .before .before .before .before .before .before .pre) (c .before .before .spread-length
-      .ensures),
-  refl,
-)
+quad-sums-requires c κs =
+    let a = c .before .before in
+    let b = a .before .before .before .before .before .before .before .before in
+    (his-ready (b .pre) (a .spread-length .ensures), refl)
 
 loop-holds : tie.Need-loop-holds Inv-loop μ-loop
-loop-holds c = (
-  omega arith,
-  units-none (c .before .before .before .before .before .before .before .before .before .before .before .args .plan .now) (c .before
-      .before .before .before .before .before .before .before .before .before .before .args .p) (c .before .before .before .before .before .before
-      .before .before .before .before .before .args .payload .now) (c .before .before .before .before .before .before .before .before .before .before
-      .before .pre),
-)
+loop-holds c =
+    let a = c .before .before .before .before .before .before .before .before .before .before .before in
+    (omega arith, units-none (a .pre))
 
 mul-from : tie.Need-mul-from Inv-loop μ-loop
 mul-from c =
-    omega (
-      arith,
-      c .before .loop .inv .0,
-      c .loop-test .taken,
-      c .before .before .before .before .before .before .before .before .before .units
-          .ensures,
-      units-most (c .before .before .before .before .before .before .before .before .before .before .before .before .before .args .p .cell)
-          (valid (c .before .before .before .before .before .before .before .before .before .before .before .before .before .args .plan .now)
-          (c .before .before .before .before .before .before .before .before .before .before .before .before .before .args .p)
-          (c .before .before .before .before .before .before .before .before .before .before .before .before .before .pre .answer) .cell),
-    )
+    let a = c .before .before .before .before .before .before .before .before .before in
+    let b = a .before .before .before .before in
+    omega (arith, few-units (b .pre) (a .units .ensures) (c .loop-test .taken))
 
 mul-to : tie.Need-mul-to Inv-loop μ-loop
 mul-to c =
-    omega (
-      arith,
-      c .before .loop .inv .0,
-      c .loop-test .taken,
-      c .before .before .before .before .before .before .before .before .before .units
-          .ensures,
-      units-most (c .before .before .before .before .before .before .before .before .before .before .before .before .before .args .p .cell)
-          (valid (c .before .before .before .before .before .before .before .before .before .before .before .before .before .args .plan .now)
-          (c .before .before .before .before .before .before .before .before .before .before .before .before .before .args .p)
-          (c .before .before .before .before .before .before .before .before .before .before .before .before .before .pre .answer) .cell),
-    )
+    let a = c .before .before .before .before .before .before .before .before .before in
+    let b = a .before .before .before .before in
+    omega (arith, few-units (b .pre) (a .units .ensures) (c .loop-test .taken))
 
 add-to : tie.Need-add-to Inv-loop μ-loop
 add-to c =
-    omega (
-      arith,
-      c .before .loop .inv .0,
-      c .loop-test .taken,
-      c .before .before .before .before .before .before .before .before .before .units
-          .ensures,
-      units-most (c .before .before .before .before .before .before .before .before .before .before .before .before .before .args .p .cell)
-          (valid (c .before .before .before .before .before .before .before .before .before .before .before .before .before .args .plan .now)
-          (c .before .before .before .before .before .before .before .before .before .before .before .before .before .args .p)
-          (c .before .before .before .before .before .before .before .before .before .before .before .before .before .pre .answer) .cell),
-    )
+    let a = c .before .before .before .before .before .before .before .before .before in
+    let b = a .before .before .before .before in
+    omega (arith, few-units (b .pre) (a .units .ensures) (c .loop-test .taken))
 
-cast-t22 : tie.Need-cast-t22 Inv-loop μ-loop
-cast-t22 c =
-    omega (
-      arith,
-      c .before .loop .inv .0,
-      c .loop-test .taken,
-      c .before .before .before .before .before .before .before .before .before .units
-          .ensures,
-      units-most (c .before .before .before .before .before .before .before .before .before .before .before .before .before .args .p .cell)
-          (valid (c .before .before .before .before .before .before .before .before .before .before .before .before .before .args .plan .now)
-          (c .before .before .before .before .before .before .before .before .before .before .before .before .before .args .p)
-          (c .before .before .before .before .before .before .before .before .before .before .before .before .before .pre .answer) .cell),
-    )
+cast-t24 : tie.Need-cast-t24 Inv-loop μ-loop
+cast-t24 c =
+    let a = c .before .before .before .before .before .before .before .before .before in
+    let b = a .before .before .before .before in
+    omega (arith, few-units (b .pre) (a .units .ensures) (c .loop-test .taken))
 
 sub-map : tie.Need-sub-map Inv-loop μ-loop
 sub-map c =
-    omega (
-      arith,
-      c .before .loop .inv .0,
-      c .loop-test .taken,
-      c .before .before .before .before .before .before .before .before .before .units
-          .ensures,
-      units-most (c .before .before .before .before .before .before .before .before .before .before .before .before .before .args .p .cell)
-          (valid (c .before .before .before .before .before .before .before .before .before .before .before .before .before .args .plan .now)
-          (c .before .before .before .before .before .before .before .before .before .before .before .before .before .args .p)
-          (c .before .before .before .before .before .before .before .before .before .before .before .before .before .pre .answer) .cell),
-    )
+    let a = c .before .before .before .before .before .before .before .before .before in
+    let b = a .before .before .before .before in
+    omega (arith, few-units (b .pre) (a .units .ensures) (c .loop-test .taken))
 
 part-map-start : tie.Need-part-map-start Inv-loop μ-loop
 part-map-start c =
-    omega (
-      arith,
-      c .before .before .loop .inv .0,
-      c .before .loop-test .taken,
-      c .before .before .before .before .before .before .before .before
-          .before .before .units .ensures,
-      units-most (c .before .before .before .before .before .before .before .before .before .before .before .before
-          .before .before .args .p .cell) (valid
-          (c .before .before .before .before .before .before .before .before .before .before .before .before .before .before .args .plan .now)
-          (c .before .before .before .before .before .before .before .before .before .before .before .before .before .before .args .p)
-          (c .before .before .before .before .before .before .before .before .before .before .before .before .before .before .pre .answer) .cell),
-    )
+    let a = c .before in
+    let b = a .before .before .before .before .before .before .before .before .before in
+    let d = b .before .before .before .before in
+    omega (arith, few-units (d .pre) (b .units .ensures) (a .loop-test .taken))
 
 part-map-end : tie.Need-part-map-end Inv-loop μ-loop
 part-map-end c =
-    omega (
-      arith,
-      c .before .before .loop .inv .0,
-      c .before .loop-test .taken,
-      c .before .before .before .before .before .before .before .before
-          .before .before .units .ensures,
-      units-most (c .before .before .before .before .before .before .before .before .before .before .before .before
-          .before .before .args .p .cell) (valid
-          (c .before .before .before .before .before .before .before .before .before .before .before .before .before .before .args .plan .now)
-          (c .before .before .before .before .before .before .before .before .before .before .before .before .before .before .args .p)
-          (c .before .before .before .before .before .before .before .before .before .before .before .before .before .before .pre .answer) .cell),
-    )
+    let a = c .before in
+    let b = a .before .before .before .before .before .before .before .before .before in
+    let d = b .before .before .before .before in
+    omega (arith, few-units (d .pre) (b .units .ensures) (a .loop-test .taken))
 
 map-requires : tie.Need-map-requires Inv-loop μ-loop
 map-requires c κs =
-    unit-in (c .before .before .before .before .before .before .before .before .before .before .before .before .before .before .before .before .args
-    .plan .now) (c .before .before .before .before .before .before .before .before .before .before .before .before .before .before .before .before
-    .args .p) (c .before .before .before .before .before .before .before .before .before .before .before .before .before .before .before .before .args
-    .payload .now) (c .before .before .before .before .before .before .before .before .before .before .before .before .before .before .before .before
-    .pre) (c .before .before .before .before .loop .inv .1) (c .before .before .before .before .loop .m) (omega (
-      arith,
-      c .before .before .before
-          .loop-test .taken,
-      c .before .before .before .before .before .before .before .before .before .before .before .before .units .ensures,
-    )) (part-in (c
-    .before .before .before .before .before .before .before .before .before .before .before .before .before .before .before .before .args .plan .now)
-    (c .before .before .before .before .before .before .before .before .before .before .before .before .before .before .before .before .args .p) (c
-    .before .before .before .before .before .before .before .before .before .before .before .before .before .before .before .before .args .payload
-    .now) (c .before .before .before .before .before .before .before .before .before .before .before .before .before .before .before .before .pre) (c
-    .before .before .before .before .before .before .before .before .spread-length .ensures) _ _ (c .before .before .before .before .before .before
-    .before .before .before .before .section-bytes .ensures ∙ ap sectionBytes
-    (c .before .before .before .before .before .before .before .before .before .before .before .pbch-bits .ensures)) (c .before .before .before
-    .before .before .before .before .before .before .users-start .ensures) (c .before .before .before .before .before .quad-sums .ensures) (c .before
-    .before .before .before .loop .m) (omega
-    (arith, c .before .before .before .loop-test .taken, c .before .before .before .before .before .before .before .before .before .before .before .before .units .ensures)))
+    let a = c .before .before .before in
+    let b = a .before in
+    let d = b .before in
+    let e = d .before .before .before in
+    let f = e .before in
+    let g = f .before in
+    let h = g .before in
+    let i = h .before in
+    let j = i .before .before .before .before in
+    unit-in (j .pre) (b .loop .inv .1 .size) (b .loop .m) (omega (arith, a .loop-test .taken, i .units .ensures))
+    (part-in (j .pre) (e .spread-length .ensures) _ _ (g .section-bytes .ensures ∙ ap sectionBytes (h .pbch-bits .ensures)) (f .users-start .ensures) (d .quad-sums .ensures)
+    (b .loop .m)
+    (omega (arith, a .loop-test .taken, i .units .ensures)))
 
 add-m : tie.Need-add-m Inv-loop μ-loop
 add-m c =
-    omega (
-      arith,
-      c .before .before .before .before .before .before .before .loop .inv .0,
-      c .before .before .before .before .before .before
-          .loop-test .taken,
-      c .before .before .before .before .before .before .before .before .before .before .before .before .before .before .before
-          .units .ensures,
-      units-most (c .before .before .before .before .before .before .before .before .before .before .before .before .before .before
-          .before .before .before .before .before .args .p .cell) (valid
-          (c .before .before .before .before .before .before .before .before .before .before .before .before .before .before .before .before .before .before .before .args .plan .now)
-          (c .before .before .before .before .before .before .before .before .before .before .before .before .before .before .before .before .before .before .before .args .p)
-          (c .before .before .before .before .before .before .before .before .before .before .before .before .before .before .before .before .before .before .before .pre .answer)
-          .cell),
-    )
+    let a = c .before .before .before .before .before .before in
+    let b = a .before .before .before .before .before .before .before .before .before in
+    let d = b .before .before .before .before in
+    omega (arith, few-units (d .pre) (b .units .ensures) (a .loop-test .taken))
 
 loop-less : tie.Need-loop-less Inv-loop μ-loop
 loop-less c =
-    omega (
-      arith,
-      c .before .before .before .before .before .before .loop-test .taken,
-      c .before .before .before .before .before .before .before
-          .before .before .before .before .before .before .before .before .units .ensures,
-    )
+    let a = c .before .before .before .before .before .before in
+    let b = a .before .before .before .before .before .before .before .before .before in
+    omega (arith, a .loop-test .taken, b .units .ensures)
 
 loop-again : tie.Need-loop-again Inv-loop μ-loop
-loop-again c = (
-  omega (
-    arith,
-    c .before .before .before .before .before .before .loop-test .taken,
-    c .before .before .before .before .before .before .before
-        .before .before .before .before .before .before .before .before .units .ensures,
-  ),
-  units-more (c .before .before .before .before .before .before
-      .before .before .before .before .before .before .before .before .before .before .before .before .before .args .plan .now) (c .before .before
-      .before .before .before .before .before .before .before .before .before .before .before .before .before .before .before .before .before .args .p)
-      (c .before .before .before .before .before .before .before .before .before .before .before .before .before .before .before .before .before .before
-      .before .args .payload .now) (c .before .before .before .before .before .before .before .before .before .before .before .before .before .before
-      .before .before .before .before .before .pre) (c .before .before .before .before .before .before .before .before .before .before .before
-      .spread-length .ensures) _ _ (c .before .before .before .before .before .before .before .before .before .before .before .before .before
-      .section-bytes .ensures ∙ ap sectionBytes
-      (c .before .before .before .before .before .before .before .before .before .before .before .before .before .before .pbch-bits .ensures)) (c
-      .before .before .before .before .before .before .before .before .before .before .before .before .users-start .ensures) (c .before .before .before
-      .before .before .before .before .before .quad-sums .ensures) (c .before .before .before .before .before .before .before .loop .m) (omega
-      (arith, c .before .before .before .before .before .before .loop-test .taken, c .before .before .before .before .before .before .before .before .before .before .before .before .before .before .before .units .ensures))
-      (c .before .before .before .before .before .before .before .loop .inv .1) (c .before .before .map .ensures),
-)
+loop-again c =
+    let a = c .before .before in
+    let b = a .before .before .before .before in
+    let d = b .before in
+    let e = d .before in
+    let f = e .before .before .before in
+    let g = f .before in
+    let h = g .before in
+    let i = h .before in
+    let j = i .before in
+    let k = j .before .before .before .before in (
+      omega (arith, b .loop-test .taken, j .units .ensures),
+      units-more (k .pre) (f .spread-length .ensures) _ _ (h .section-bytes .ensures ∙ ap sectionBytes (i .pbch-bits .ensures)) (g .users-start .ensures) (e .quad-sums .ensures)
+          (d .loop .m)
+          (omega (arith, b .loop-test .taken, j .units .ensures)) (d .loop .inv .1) (a .map .ensures),
+    )
 
 same-length : tie.Need-same-length Inv-loop μ-loop
 same-length c = c .before .loop .inv .1 .size
 
 returns : tie.Need-returns Inv-loop μ-loop
 returns c =
-    units-end (c .before .before .before .before .before .before .before .before .before .before .before .before .before .args .plan .now) (c .before
-    .before .before .before .before .before .before .before .before .before .before .before .before .args .p) (c .before .before .before .before
-    .before .before .before .before .before .before .before .before .before .args .payload .now) (c .before .before .before .before .before .before
-    .before .before .before .before .before .before .before .pre) (c .before .loop .m) _ (c .before .loop .inv .0) (c .loop-test .left) (c .before
-    .before .before .before .before .before .before .before .before .units .ensures) (c .before .loop .inv .1)
+    let a = c .before in
+    let b = a .before .before .before .before .before .before .before .before in
+    let d = b .before .before .before .before in
+    units-end (d .pre) _ _ (a .loop .inv .0) (c .loop-test .left) (b .units .ensures) (a .loop .inv .1)
 
 pub fill-units-spec : {M : Type 1} → statement M
 fill-units-spec =
@@ -282,7 +193,7 @@ fill-units-spec =
     mul-from
     mul-to
     add-to
-    cast-t22
+    cast-t24
     sub-map
     part-map-start
     part-map-end

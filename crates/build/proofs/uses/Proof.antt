@@ -17,16 +17,30 @@ in-slot-requires : tie.Need-in-slot-requires
 in-slot-requires c κs = tt
 
 add-result : tie.Need-add-result
-add-result c = omega (arith, c .before .before .in-slot .ensures, c .before .before .before .wide .ensures, in-slot-le (c .before .before .before .before .before .args .cell) (c .before .before .before .wide .result), c .before .before .before .before .before .fits .s)
+add-result c =
+    let a = c .before .before .before in
+    let b = a .before .before in
+    omega (arith, c .before .before .in-slot .ensures, a .wide .ensures, in-slot-le (b .args .cell) (a .wide .result), b .fits .s)
 
 returns : tie.Need-returns
-returns c = uses-first (c .before .before .before .before .before .args .cell) (c .before .before .before .before .before .args .port) (c .before .before .before .before .before .args .s) _ (c .before .before .in-slot .ensures ∙ ap (inSlot (c .before .before .before .before .before .args .cell)) (c .before .before .before .wide .ensures)) (c .before .if1 .taken) (c .if2 .taken)
+returns c =
+    let a = c .before .before .before in
+    let b = a .before .before in
+    uses-first (b .args .cell) (b .args .port) (b .args .s) _ (c .before .before .in-slot .ensures ∙ ap (inSlot (b .args .cell)) (a .wide .ensures)) (c .before .if1 .taken)
+    (c .if2 .taken)
 
 returns-2 : tie.Need-returns-2
-returns-2 c = uses-third (c .before .before .before .before .before .args .cell) (c .before .before .before .before .before .args .port) (c .before .before .before .before .before .args .s) _ (c .before .before .in-slot .ensures ∙ ap (inSlot (c .before .before .before .before .before .args .cell)) (c .before .before .before .wide .ensures)) _ (c .before .before .before .before .slot-length .ensures) (c .before .if1 .taken) (c .if2 .left)
+returns-2 c =
+    let a = c .before .before .before in
+    let b = a .before in
+    let d = b .before in
+    uses-third (d .args .cell) (d .args .port) (d .args .s) _ (c .before .before .in-slot .ensures ∙ ap (inSlot (d .args .cell)) (a .wide .ensures)) _ (b .slot-length .ensures)
+    (c .before .if1 .taken) (c .if2 .left)
 
 returns-3 : tie.Need-returns-3
-returns-3 c = uses-second (c .before .before .before .before .args .cell) (c .before .before .before .before .args .port) (c .before .before .before .before .args .s) _ (c .before .in-slot .ensures ∙ ap (inSlot (c .before .before .before .before .args .cell)) (c .before .before .wide .ensures)) (c .if1 .left)
+returns-3 c =
+    let a = c .before .before .before .before in
+    uses-second (a .args .cell) (a .args .port) (a .args .s) _ (c .before .in-slot .ensures ∙ ap (inSlot (a .args .cell)) (c .before .before .wide .ensures)) (c .if1 .left)
 
 pub uses-spec : {M : Type 1} → statement M
 uses-spec =

@@ -1,6 +1,7 @@
 -- `channels::filled` meets its contract: a case for each channel. Assumes nothing.
-use Rattle.channels.proofs.Filling.{crs-in, pbch-wide, pbch-in, pcfich-in, phich-in, user-in, of-crs, of-pbch, of-pcfich, of-phich, of-user}
-use Rattle.channels.proofs.Filling.{crs-after, pbch-after, pcfich-after, phich-after, user-after}
+use Rattle.channels.proofs.Filling.{crs-in, pbch-wide, pbch-in, pcfich-in, phich-in, user-in}
+use Rattle.channels.proofs.Filling.{crs-filled, pbch-filled, pcfich-filled, phich-filled, user-filled}
+use mathlib.Core.Path.{refl}
 use borrow.Author.Needs.{needs}
 use Rattle.channels.proofs.filled.Statement.{statement}
 use Rattle.channels.proofs.filled.Tie as tie
@@ -12,22 +13,34 @@ wide-requires : tie.Need-wide-requires
 wide-requires c κs = search needs
 
 fill-crs-requires : tie.Need-fill-crs-requires
-fill-crs-requires c κs = crs-in _ _ _ _ (c .before .before .before .before .before .before .before .before .before .before .pre) _ _ _ (c .before .before .before .ch .given .1) (c .before .wide .ensures)
+fill-crs-requires c κs =
+    let a = c .before in
+    let b = a .before .before in
+    let d = b .before .before .before .before .before .before in
+    crs-in (d .pre) _ _ _ (b .ch .given .1) (a .wide .ensures)
 
 enum-told : tie.Need-enum-told
 enum-told c = search needs
 
 pbch-area-requires : tie.Need-pbch-area-requires
-pbch-area-requires c κs = pbch-wide _ _ _ _ (c .before .before .before .before .before .before .before .pre)
+pbch-area-requires c κs =
+    let a = c .before .before .before .before .before .before in
+    pbch-wide (a .pre)
 
-fill-area-requires : tie.Need-fill-area-requires
-fill-area-requires c κs = pbch-in _ _ _ _ (c .before .before .before .before .before .before .before .before .before .pre) _ (c .before .pbch-area .ensures)
+fill-by-tables-requires : tie.Need-fill-by-tables-requires
+fill-by-tables-requires c κs =
+    let a = c .before in
+    let b = a .before in
+    let d = b .before .before .before .before .before .before in
+    pbch-in (d .pre) _ (b .enum-told .given .1) (a .pbch-area .ensures)
 
 enum-told-2 : tie.Need-enum-told-2
 enum-told-2 c = search needs
 
 fill-pcfich-requires : tie.Need-fill-pcfich-requires
-fill-pcfich-requires c κs = pcfich-in _ _ _ _ (c .before .before .before .before .before .before .before .before .pre)
+fill-pcfich-requires c κs =
+    let a = c .before .before .before .before .before .before .before in
+    pcfich-in (a .pre)
 
 enum-known-ch-2 : tie.Need-enum-known-ch-2
 enum-known-ch-2 c = search needs
@@ -36,7 +49,11 @@ wide-requires-2 : tie.Need-wide-requires-2
 wide-requires-2 c κs = search needs
 
 fill-phich-requires : tie.Need-fill-phich-requires
-fill-phich-requires c κs = phich-in _ _ _ _ (c .before .before .before .before .before .before .before .before .before .before .pre) _ _ (c .before .before .before .ch2 .given .1) (c .before .wide2 .ensures)
+fill-phich-requires c κs =
+    let a = c .before in
+    let b = a .before .before in
+    let d = b .before .before .before .before .before .before in
+    phich-in (d .pre) _ _ (b .ch2 .given .1) (a .wide2 .ensures)
 
 enum-known-ch-3 : tie.Need-enum-known-ch-3
 enum-known-ch-3 c = search needs
@@ -44,66 +61,69 @@ enum-known-ch-3 c = search needs
 user-area-requires : tie.Need-user-area-requires
 user-area-requires c κs = search needs
 
-cast-order : tie.Need-cast-order
-cast-order c = search needs
+cast-fill-by-tables : tie.Need-cast-fill-by-tables
+cast-fill-by-tables c = search needs
 
-unit-requires : tie.Need-unit-requires
-unit-requires c κs = search needs
-
-fill-area-requires-2 : tie.Need-fill-area-requires-2
-fill-area-requires-2 c κs = user-in _ _ _ _ (c .before .before .before .before .before .before .before .before .before .before .before .before .pre) _ _ _ (c .before .before .before .before .before .ch3 .given .1) (c .before .before .before .user-area .ensures) (c .before .unit .ensures)
+fill-by-tables-requires-2 : tie.Need-fill-by-tables-requires-2
+fill-by-tables-requires-2 c κs =
+    let a = c .before .before in
+    let b = a .before .before in
+    let d = b .before .before .before .before .before .before in
+    user-in (d .pre) _ _ _ (b .ch3 .given .1) (a .user-area .ensures) refl
 
 same-length : tie.Need-same-length
 same-length c = search needs
 
 returns : tie.Need-returns
 returns c =
-    let s = c .before .before .before .before .before .before .before .before .before .before .before .before .before in
-    let is = c .before .before .before .before .before .before .ch .given .1 in
-    let h = c .before .before .fill-crs .ensures in
-    (of-crs _ _ _ _ _ _ _ _ _ _ is (c .before .before .before .before .wide .ensures) (h .0), crs-after _ _ _ _ (s .pre) _ _ _ is (h .1))
+    let a = c .before .before in
+    let b = a .before .before in
+    let d = b .before .before in
+    let e = d .before .before .before .before .before .before in
+    crs-filled (e .pre) _ _ _ _ (d .ch .given .1) (b .wide .ensures) (a .fill-crs .ensures)
 
 same-length-2 : tie.Need-same-length-2
 same-length-2 c = search needs
 
 returns-2 : tie.Need-returns-2
 returns-2 c =
-    let s = c .before .before .before .before .before .before .before .before .before .before .before .before in
-    let is = c .before .before .before .before .before .enum-told .given .1 in
-    let a = c .before .before .before .before .pbch-area .ensures in
-    let h = c .before .before .fill-area .ensures in
-    (of-pbch _ _ _ _ _ _ _ _ is a (h .0), pbch-after _ _ _ _ (s .pre) _ _ is a (h .1))
+    let a = c .before .before in
+    let b = a .before .before in
+    let d = b .before in
+    let e = d .before .before .before .before .before .before in
+    pbch-filled (e .pre) _ _ (d .enum-told .given .1) (b .pbch-area .ensures) (a .fill-by-tables .ensures)
 
 same-length-3 : tie.Need-same-length-3
 same-length-3 c = search needs
 
 returns-3 : tie.Need-returns-3
 returns-3 c =
-    let s = c .before .before .before .before .before .before .before .before .before .before .before in
-    let is = c .before .before .before .before .enum-told2 .given .1 in
-    let h = c .before .before .fill-pcfich .ensures in
-    (of-pcfich _ _ _ _ _ _ _ is (h .0), pcfich-after _ _ _ _ (s .pre) _ is (h .1))
+    let a = c .before .before in
+    let b = a .before .before in
+    let d = b .before .before .before .before .before .before in
+    pcfich-filled (d .pre) _ (b .enum-told2 .given .1) (a .fill-pcfich .ensures)
 
 same-length-4 : tie.Need-same-length-4
 same-length-4 c = search needs
 
 returns-4 : tie.Need-returns-4
 returns-4 c =
-    let s = c .before .before .before .before .before .before .before .before .before .before .before .before .before in
-    let is = c .before .before .before .before .before .before .ch2 .given .1 in
-    let h = c .before .before .fill-phich .ensures in
-    (of-phich _ _ _ _ _ _ _ _ _ is (c .before .before .before .before .wide2 .ensures) (h .0), phich-after _ _ _ _ (s .pre) _ _ is (h .1))
+    let a = c .before .before in
+    let b = a .before .before in
+    let d = b .before .before in
+    let e = d .before .before .before .before .before .before in
+    phich-filled (e .pre) _ _ _ (d .ch2 .given .1) (b .wide2 .ensures) (a .fill-phich .ensures)
 
 same-length-5 : tie.Need-same-length-5
 same-length-5 c = search needs
 
 returns-5 : tie.Need-returns-5
 returns-5 c =
-    let s = c .before .before .before .before .before .before .before .before .before .before .before .before .before .before .before in
-    let is = c .before .before .before .before .before .before .before .before .ch3 .given .1 in
-    let a = c .before .before .before .before .before .before .user-area .ensures in
-    let h = c .before .before .fill-area2 .ensures in
-    (of-user _ _ _ _ _ _ _ _ _ _ is a (c .before .before .before .before .unit .ensures) (h .0), user-after _ _ _ _ (s .pre) _ _ _ is a (h .1))
+    let a = c .before .before in
+    let b = a .before .before .before in
+    let d = b .before .before in
+    let e = d .before .before .before .before .before .before in
+    user-filled (e .pre) _ _ _ _ (d .ch3 .given .1) (b .user-area .ensures) refl (a .fill-by-tables2 .ensures)
 
 pub filled-spec : {M : Type 1} → statement M
 filled-spec =
@@ -114,7 +134,7 @@ filled-spec =
     fill-crs-requires
     enum-told
     pbch-area-requires
-    fill-area-requires
+    fill-by-tables-requires
     enum-told-2
     fill-pcfich-requires
     enum-known-ch-2
@@ -122,9 +142,8 @@ filled-spec =
     fill-phich-requires
     enum-known-ch-3
     user-area-requires
-    cast-order
-    unit-requires
-    fill-area-requires-2
+    cast-fill-by-tables
+    fill-by-tables-requires-2
     same-length
     returns
     same-length-2

@@ -129,8 +129,11 @@ quads-apart-requires c κs =
     let a = c .before .before in
     let b = a .before in
     let d = b .before in
-    let e = d .before .before .before in
-    (run-in (e .pre .0) (apart-pairs (form-last (e .pre .0 .form) (d .if1 .left) (b .if2 .left) (a .if3 .left))) (omega arith) (omega arith) (2 * e .args .run .halves) (e .args .run .first) (omega arith) (omega arith), e .pre .1)
+    let e = d .before .before .before in (
+      run-in (e .pre .0) (apart-pairs (form-last (e .pre .0 .form) (d .if1 .left) (b .if2 .left) (a .if3 .left))) (omega arith) (omega arith) (2 * e .args .run .halves)
+          (e .args .run .first) (omega arith) (omega arith),
+      e .pre .1,
+    )
 
 mul-result-4 : tie.Need-mul-result-4
 mul-result-4 c =
@@ -141,7 +144,8 @@ mul-result-4 c =
     omega (
       arith,
       e .pre .0 .index,
-      run-total (e .pre .0) (apart-pairs (form-last (e .pre .0 .form) (d .if1 .left) (b .if2 .left) (a .if3 .left))) (omega arith) (omega arith) (2 * e .args .run .halves) (e .args .run .first) (omega arith) (omega arith),
+      run-total (e .pre .0) (apart-pairs (form-last (e .pre .0 .form) (d .if1 .left) (b .if2 .left) (a .if3 .left))) (omega arith) (omega arith) (2 * e .args .run .halves)
+          (e .args .run .first) (omega arith) (omega arith),
     )
 
 add-result-4 : tie.Need-add-result-4
@@ -153,7 +157,8 @@ add-result-4 c =
     omega (
       arith,
       e .pre .0 .index,
-      run-total (e .pre .0) (apart-pairs (form-last (e .pre .0 .form) (d .if1 .left) (b .if2 .left) (a .if3 .left))) (omega arith) (omega arith) (2 * e .args .run .halves) (e .args .run .first) (omega arith) (omega arith),
+      run-total (e .pre .0) (apart-pairs (form-last (e .pre .0 .form) (d .if1 .left) (b .if2 .left) (a .if3 .left))) (omega arith) (omega arith) (2 * e .args .run .halves)
+          (e .args .run .first) (omega arith) (omega arith),
     )
 
 same-length-4 : tie.Need-same-length-4

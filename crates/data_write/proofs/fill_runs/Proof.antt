@@ -48,8 +48,12 @@ fill-run-requires c κs =
     let e = d .before .before in
     let f = e .before .before in
     let g = f .before in
-    let h = g .before .before .before in
-    (area-run (h .pre) (e .loop .inv) (inside (h .args .a .cell) (g .slot-length .ensures) (d .if1 .taken)) (carriers-are (h .args .a .cell) (f .wide .ensures)) (places-are (h .args .a .cell) (g .slot-length .ensures) (f .wide .ensures)) (b .run-at .ensures .0) (b .run-at .ensures .1), area-sending (h .pre) (e .loop .inv) (inside (h .args .a .cell) (g .slot-length .ensures) (d .if1 .taken)))
+    let h = g .before .before .before in (
+      area-run (h .pre) (e .loop .inv) (inside (h .args .a .cell) (g .slot-length .ensures) (d .if1 .taken)) (carriers-are (h .args .a .cell) (f .wide .ensures))
+          (places-are (h .args .a .cell) (g .slot-length .ensures) (f .wide .ensures)) (b .run-at .ensures .0) (b .run-at .ensures .1),
+      area-sending (h .pre) (e .loop .inv)
+          (inside (h .args .a .cell) (g .slot-length .ensures) (d .if1 .taken)),
+    )
 
 next-requires : tie.Need-next-requires Inv-loop μ-loop
 next-requires c κs =

@@ -1,5 +1,6 @@
 -- `data_write::round_apart` meets its contract, as `round`. Assumes nothing.
 use Rattle.data_write.proofs.Source.{from-table}
+use Rattle.data_write.proofs.Rounds.{round-made}
 use borrow.Author.Needs.{needs}
 use Rattle.data_write.proofs.round_apart.Statement.{statement}
 use Rattle.data_write.proofs.round_apart.Tie as tie
@@ -65,7 +66,8 @@ returns c =
     let j = i .before in
     let k = j .before in
     let m = k .before in
-    record { word = m .take .result; takes = m .take .ensures; own = g .joint .result; other = f .partners .result; own-next = d .joint2 .result; other-next = b .partners2 .result; first = from-table (k .number .ensures .0) (j .number2 .ensures .0) (g .joint .ensures) (f .partners .ensures); second = from-table (i .number3 .ensures .0) (h .number4 .ensures .0) (d .joint2 .ensures) (b .partners2 .ensures); middle = _; put = e .put-pair-apart .ensures; put-next = a .put-pair-apart2 .ensures }
+    round-made (m .take .ensures) (from-table (k .number .ensures .0) (j .number2 .ensures .0) (g .joint .ensures) (f .partners .ensures))
+    (from-table (i .number3 .ensures .0) (h .number4 .ensures .0) (d .joint2 .ensures) (b .partners2 .ensures)) (e .put-pair-apart .ensures) (a .put-pair-apart2 .ensures)
 
 pub round-apart-spec : {M : Type 1} → statement M
 round-apart-spec =

@@ -1,0 +1,61 @@
+-- `data_write::first_round` meets its contract. Assumes nothing.
+use mathlib.Core.Path.{refl}
+use native.Mathlib.Omega.{arith}
+use Rattle.walk.proofs.Addresses.{offsets-small}
+use Rattle.data_write.proofs.first_round.Statement.{statement}
+use Rattle.data_write.proofs.first_round.Tie as tie
+
+port-offsets-requires : tie.Need-port-offsets-requires
+port-offsets-requires c κs = c .pre .inside .room .fits
+
+add-t7 : tie.Need-add-t7
+add-t7 c =
+    let a = c .before in
+    let b = a .before in
+    omega (arith, offsets-small (b .pre .inside) (a .port-offsets .ensures))
+
+mul-t8 : tie.Need-mul-t8
+mul-t8 c =
+    let a = c .before in
+    let b = a .before in
+    omega (arith, offsets-small (b .pre .inside) (a .port-offsets .ensures))
+
+add-t9 : tie.Need-add-t9
+add-t9 c =
+    let a = c .before .before in
+    let b = a .before in
+    omega (arith, offsets-small (b .pre .inside) (a .port-offsets .ensures))
+
+add-t10 : tie.Need-add-t10
+add-t10 c =
+    let a = c .before .before in
+    let b = a .before in
+    omega (arith, offsets-small (b .pre .inside) (a .port-offsets .ensures))
+
+mul-t11 : tie.Need-mul-t11
+mul-t11 c =
+    let a = c .before .before in
+    let b = a .before in
+    omega (arith, offsets-small (b .pre .inside) (a .port-offsets .ensures))
+
+mul-t12 : tie.Need-mul-t12
+mul-t12 c =
+    let a = c .before .before .before in
+    let b = a .before in
+    omega (arith, offsets-small (b .pre .inside) (a .port-offsets .ensures))
+
+returns : tie.Need-returns
+returns c = record { offsets = c .before .before .before .port-offsets .result; ports = c .before .before .before .port-offsets .ensures; at = refl; next = refl; across = refl }
+
+pub first-round-spec : {M : Type 1} → statement M
+first-round-spec =
+    tie.close
+    (tie.spec
+    port-offsets-requires
+    add-t7
+    mul-t8
+    add-t9
+    add-t10
+    mul-t11
+    mul-t12
+    returns)
