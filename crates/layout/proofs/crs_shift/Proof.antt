@@ -13,7 +13,10 @@ mul-result : tie.Need-mul-result
 mul-result c = search needs
 
 returns : tie.Need-returns
-returns c = rw (shift-is _ _ (c .before .before .before .args .s) (c .before .before .before .pre), lt-ltb _ _ (c .before .before .if1 .taken), ← c .before .in-slot .ensures, eq-eqb _ _ (c .if2 .taken)) refl
+returns c =
+    let c2 = c .before .before in
+    let c3 = c .before .before .before in
+    rw (shift-is _ _ (c3 .args .s) (c3 .pre), lt-ltb _ _ (c2 .if1 .taken), ← c .before .in-slot .ensures, eq-eqb _ _ (c .if2 .taken)) refl
 
 sub-result : tie.Need-sub-result
 sub-result c = search needs
@@ -22,7 +25,10 @@ mul-result-2 : tie.Need-mul-result-2
 mul-result-2 c = search needs
 
 returns-2 : tie.Need-returns-2
-returns-2 c = rw (shift-is _ _ (c .before .before .before .args .s) (c .before .before .before .pre), lt-ltb _ _ (c .before .before .if1 .taken), ← c .before .in-slot .ensures, ne-eqb _ _ (c .if2 .left)) refl
+returns-2 c =
+    let c2 = c .before .before in
+    let c3 = c .before .before .before in
+    rw (shift-is _ _ (c3 .args .s) (c3 .pre), lt-ltb _ _ (c2 .if1 .taken), ← c .before .in-slot .ensures, ne-eqb _ _ (c .if2 .left)) refl
 
 slot-length-requires : tie.Need-slot-length-requires
 slot-length-requires c κs = search needs
@@ -37,10 +43,16 @@ mul-result-4 : tie.Need-mul-result-4
 mul-result-4 c = search needs
 
 returns-3 : tie.Need-returns-3
-returns-3 c = rw (shift-is _ _ (c .before .before .before .args .s) (c .before .before .before .pre), le-ltb _ _ (c .before .before .if1 .left), ← c .before .slot-length .ensures, lt-ltb _ _ (c .if3 .taken)) refl
+returns-3 c =
+    let c2 = c .before .before in
+    let c3 = c .before .before .before in
+    rw (shift-is _ _ (c3 .args .s) (c3 .pre), le-ltb _ _ (c2 .if1 .left), ← c .before .slot-length .ensures, lt-ltb _ _ (c .if3 .taken)) refl
 
 returns-4 : tie.Need-returns-4
-returns-4 c = rw (shift-is _ _ (c .before .before .before .args .s) (c .before .before .before .pre), le-ltb _ _ (c .before .before .if1 .left), ← c .before .slot-length .ensures, le-ltb _ _ (c .if3 .left)) refl
+returns-4 c =
+    let c2 = c .before .before in
+    let c3 = c .before .before .before in
+    rw (shift-is _ _ (c3 .args .s) (c3 .pre), le-ltb _ _ (c2 .if1 .left), ← c .before .slot-length .ensures, le-ltb _ _ (c .if3 .left)) refl
 
 pub crs-shift-spec : {M : Type 1} → statement M
 crs-shift-spec =

@@ -24,7 +24,12 @@ returns c = rw (← c .before .before .in-slot .ensures, lt-ltb _ _ (c .before .
 
 returns-2 : tie.Need-returns-2
 unfolding crsSymbol
-returns-2 c = rw (← c .before .before .before .in-slot .ensures, lt-ltb _ _ (c .before .before .if1 .taken), ne-eqb _ _ (c .before .if2 .left), c .slot-length .ensures) (third-is (c .before .before .before .before .args .cell) (c .before .before .before .in-slot .result))
+returns-2 c =
+    let c2 = c .before .before in
+    let c3 = c .before .before .before in
+    let c4 = c .before .before .before .before in
+    rw (← c3 .in-slot .ensures, lt-ltb _ _ (c2 .if1 .taken), ne-eqb _ _ (c .before .if2 .left), c .slot-length .ensures) (third-is (c4 .args .cell)
+    (c3 .in-slot .result))
 
 returns-3 : tie.Need-returns-3
 unfolding crsSymbol

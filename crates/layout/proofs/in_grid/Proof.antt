@@ -17,7 +17,11 @@ cast-result c = search needs
 
 returns : tie.Need-returns
 unfolding inGrid
-returns c = rw (← c .before .before .before .before .symbols .ensures .0, lt-ltb _ _ (c .before .before .before .if1 .taken), ← c .before .before .carriers .ensures, lt-ltb _ _ (c .before .if2 .taken)) refl
+returns c =
+    let c2 = c .before .before in
+    let c3 = c .before .before .before in
+    let c4 = c .before .before .before .before in
+    rw (← c4 .symbols .ensures .0, lt-ltb _ _ (c3 .if1 .taken), ← c2 .carriers .ensures, lt-ltb _ _ (c .before .if2 .taken)) refl
 
 returns-2 : tie.Need-returns-2
 unfolding inGrid

@@ -23,7 +23,11 @@ pilot-of-requires-2 c κs = search needs
 
 returns-2 : tie.Need-returns-2
 unfolding pilot
-returns-2 c = rw (← c .before .before .before .before .crs-uses .ensures, ← c .before .before .crs-uses2 .ensures, c .before .before .before .if1 .left, c .before .if2 .taken) (c .pilot-of2 .ensures)
+returns-2 c =
+    let c2 = c .before .before in
+    let c3 = c .before .before .before in
+    let c4 = c .before .before .before .before in
+    rw (← c4 .crs-uses .ensures, ← c2 .crs-uses2 .ensures, c3 .if1 .left, c .before .if2 .taken) (c .pilot-of2 .ensures)
 
 returns-3 : tie.Need-returns-3
 unfolding pilot
