@@ -208,7 +208,8 @@ fn sync_count(frame: Frame) -> usize
     0
 }
 
-fn pbch_count(cell: Cell, frame: Frame) -> usize
+// PBCH's count.
+pub fn pbch_count(cell: Cell, frame: Frame) -> usize
     ensures { λ r. ⌜ r ≡ pbchElements cell frame ⌝ }
 {
     if frame.subframe == 0 {

@@ -9,11 +9,15 @@ use Rattle.base.proofs.Tests.{by-test, clash}
 use Rattle.plan.specs.declared.Cell.{Cell}
 use Rattle.layout.specs.Rules.{slotLength, inSlot, crsSymbol, crsShift, standsAt, crsOf, crsBelow}
 use Rattle.base.specs.Choice.{if_then_else_}
+use Rattle.layout.specs.Owners.{symbols}
 use Rattle.layout.specs.Chain.{pilotOf, pilot}
 
 pub slot-length : (c : Cell) → (6 ≤ slotLength c) × (slotLength c ≤ 7)
 unfolding slotLength
 slot-length c = by-test (eqb (c .prefix) 1) (λ t. rw t (omega arith, omega arith)) (λ t. rw t (omega arith, omega arith))
+
+pub symbols-most : (c : Cell) → symbols c ≤ 14
+symbols-most c = omega (arith, slot-length c)
 
 -- which of four ports stands, where S says that 0 and 1 use the symbol, T that 2 and 3 do
 abbrev picked : Bool → Bool → Bool → Bool → Bool → Bool → ℕ

@@ -2,7 +2,7 @@
 use native.Mathlib.Omega.{arith}
 use borrow.Author.Needs.{needs}
 use Rattle.legend.proofs.Showing.{shown-owner, shown-late, shown-wide}
-use Rattle.payload.proofs.Lengths.{symbols-most}
+use Rattle.layout.proofs.Pilot.{symbols-most}
 use Rattle.legend.proofs.number_at.Statement.{statement}
 use Rattle.legend.proofs.number_at.Tie as tie
 
