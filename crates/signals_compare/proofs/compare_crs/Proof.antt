@@ -10,11 +10,11 @@ use Rattle.signals_compare.proofs.compare_crs.Tie as tie
 row-at-requires : tie.Need-row-at-requires
 row-at-requires c κs = omega (arith, symbols-most (c .before .args .cell), c .before .pre .symbol)
 
-first-carrier-requires : tie.Need-first-carrier-requires
-first-carrier-requires c κs = omega (arith, few-ports (c .before .before .args .cell .ports) (c .before .before .pre .cell .ports), c .before .before .pre .port)
+crs-first-requires : tie.Need-crs-first-requires
+crs-first-requires c κs = omega (arith, few-ports (c .before .before .args .cell .ports) (c .before .before .pre .cell .ports), c .before .before .pre .port)
 
 add-first : tie.Need-add-first
-add-first c = omega (arith, row-at-most (c .before .before .before .args .cell) (c .before .before .before .args .s) (c .before .before .before .args .port) (omega arith) (omega arith) (omega (arith, symbols-most (c .before .before .before .args .cell), c .before .before .before .pre .symbol)), c .before .row-at .ensures, c .first-carrier .ensures)
+add-first c = omega (arith, row-at-most (c .before .before .before .args .cell) (c .before .before .before .args .s) (c .before .before .before .args .port) (omega arith) (omega arith) (omega (arith, symbols-most (c .before .before .before .args .cell), c .before .before .before .pre .symbol)), c .before .row-at .ensures, c .crs-first .ensures)
 
 wide-requires : tie.Need-wide-requires
 wide-requires c κs = tt
@@ -23,17 +23,17 @@ mul-compare-values : tie.Need-mul-compare-values
 mul-compare-values c = omega arith
 
 compare-values-requires : tie.Need-compare-values-requires
-compare-values-requires c κs = (crs-inside (c .before .before .before .before .args .cell) (c .before .before .before .before .args .s) (c .before .before .before .before .args .port) (c .before .before .row-at .ensures) (c .before .first-carrier .ensures) (c .wide .ensures) (c .before .before .before .before .pre), widest (c .before .before .before .before .pre .room))
+compare-values-requires c κs = (crs-inside (c .before .before .before .before .args .cell) (c .before .before .before .before .args .s) (c .before .before .before .before .args .port) (c .before .before .row-at .ensures) (c .before .crs-first .ensures) (c .wide .ensures) (c .before .before .before .before .pre), widest (c .before .before .before .before .pre .room))
 
 returns : tie.Need-returns
-returns c = crs-compared (c .before .before .before .before .before .args .cell) (c .before .before .before .before .before .args .s) (c .before .before .before .before .before .args .port) (c .before .before .before .row-at .ensures) (c .before .before .first-carrier .ensures) (c .before .wide .ensures) (c .before .before .before .before .before .args .r) (c .before .before .before .before .before .pre) (c .compare-values .ensures)
+returns c = crs-compared (c .before .before .before .before .before .args .cell) (c .before .before .before .before .before .args .s) (c .before .before .before .before .before .args .port) (c .before .before .before .row-at .ensures) (c .before .before .crs-first .ensures) (c .before .wide .ensures) (c .before .before .before .before .before .args .r) (c .before .before .before .before .before .pre) (c .compare-values .ensures)
 
 pub compare-crs-spec : {M : Type 1} → statement M
 compare-crs-spec =
     tie.close
     (tie.spec
     row-at-requires
-    first-carrier-requires
+    crs-first-requires
     add-first
     wide-requires
     mul-compare-values
