@@ -1,7 +1,6 @@
 // build: the grid of a plan and a payload, channel by channel (document 01).
 use channels::Channel;
 use channels::map;
-use plan::Cell;
 use plan::Checked;
 use plan::Plan;
 use plan::Refusal;
@@ -12,7 +11,6 @@ ghost use Prim.Native.Nat.{ℕ, _<_};
 ghost use lib.ListN.{length};
 ghost use Rattle.plan.specs.Rows.{usersOf};
 ghost use Rattle.plan.specs.Fields.{unitsOf};
-ghost use Rattle.layout.specs.Rules.{crsSymbol};
 ghost use Rattle.layout.specs.Owners.{symbols};
 ghost use Rattle.grid.specs.Writing.{Written};
 ghost use Rattle.subframe.specs.Grid.{elementNumbered, gridOf};
@@ -25,18 +23,6 @@ pub enum Built {
     Refused(Refusal),
 }
 
-// Whether the port's reference signal uses symbol s.
-pub fn uses(cell: Cell, port: u8, s: u8) -> bool
-    ensures { λ r. ⌜ r ≡ crsSymbol cell port s ⌝ }
-{
-    let slot = layout::slot_length(cell);
-    let l = layout::in_slot(cell, base::wide(s));
-    if port < 2 {
-        return l == 0 || l + 3 == slot;
-    }
-    l == 1
-}
-
 // The reference signals of all ports in symbol s.
 fn fill_crs_row(plan: &[u8], p: Plan, payload: &[u8], s: u8, grid: &mut [u8])
     requires { ⌜ Ready (now plan) p (now payload) (now grid) × (s < symbols (p .cell)) ⌝ }
@@ -44,7 +30,7 @@ fn fill_crs_row(plan: &[u8], p: Plan, payload: &[u8], s: u8, grid: &mut [u8])
 {
     let mut q: u8 = 0;
     while q < p.cell.ports {
-        if uses(p.cell, q, s) {
+        if layout::crs_uses(p.cell, q, base::wide(s)) {
             map(p, Channel::Crs(s, q), plan, payload, grid);
         }
         q += 1;

@@ -1,8 +1,9 @@
 -- `build::fill_crs_row` meets its contract: port after port. Assumes nothing.
 use Prim.Native.Nat.{_-_, _≤_}
-use mathlib.Core.Path.{sym, _∙_}
+use mathlib.Core.Path.{sym, ap, _∙_}
 use mathlib.Core.Logic.{⊎-elim}
 use native.Mathlib.Omega.{arith}
+use Rattle.layout.specs.Rules.{crsSymbol}
 use Rattle.grid.specs.Writing.{Written}
 use Rattle.subframe.specs.Grid.{elementNumbered}
 use Rattle.build.specs.Senders.{crsPorts}
@@ -19,20 +20,23 @@ abbrev μ-loop : tie.MeasureT-loop
 loop-holds : tie.Need-loop-holds Inv-loop μ-loop
 loop-holds c = (omega arith, crs-none (c .before .before .before .args .plan .now) (c .before .before .before .args .p) (c .before .before .before .args .payload .now) (c .before .before .before .pre .0) (c .before .before .before .args .s))
 
-uses-requires : tie.Need-uses-requires Inv-loop μ-loop
-uses-requires c κs = tt
+wide-requires : tie.Need-wide-requires Inv-loop μ-loop
+wide-requires c κs = tt
+
+crs-uses-requires : tie.Need-crs-uses-requires Inv-loop μ-loop
+crs-uses-requires c κs = tt
 
 map-requires : tie.Need-map-requires Inv-loop μ-loop
-map-requires c κs = crs-in (c .before .before .before .before .before .before .before .before .before .args .plan .now) (c .before .before .before .before .before .before .before .before .before .args .p) (c .before .before .before .before .before .before .before .before .before .args .payload .now) (c .before .before .before .before .before .before .before .before .before .pre .0) (c .before .before .before .before .before .loop .inv .1) (c .before .before .before .before .before .before .before .before .before .args .s) (c .before .before .before .before .before .loop .q) (c .before .before .before .before .before .before .before .before .before .pre .1) (c .before .before .before .if1 .taken)
+map-requires c κs = crs-in (c .before .before .before .before .before .before .before .before .before .before .args .plan .now) (c .before .before .before .before .before .before .before .before .before .before .args .p) (c .before .before .before .before .before .before .before .before .before .before .args .payload .now) (c .before .before .before .before .before .before .before .before .before .before .pre .0) (c .before .before .before .before .before .before .loop .inv .1) (c .before .before .before .before .before .before .before .before .before .before .args .s) (c .before .before .before .before .before .before .loop .q) (c .before .before .before .before .before .before .before .before .before .before .pre .1) (c .before .before .before .before .if1 .taken)
 
 add-q : tie.Need-add-q Inv-loop μ-loop
-add-q c = omega (arith, c .before .before .if1 .taken, c .before .before .before .before .before .before .before .before .pre .0 .room .most)
+add-q c = omega (arith, c .before .before .before .if1 .taken, c .before .before .before .before .before .before .before .before .before .pre .0 .room .most)
 
 loop-less : tie.Need-loop-less Inv-loop μ-loop
-loop-less c = omega (arith, c .before .before .if1 .taken)
+loop-less c = omega (arith, c .before .before .before .if1 .taken)
 
 loop-again : tie.Need-loop-again Inv-loop μ-loop
-loop-again c = (omega (arith, c .before .before .if1 .taken), ⊎-elim (λ x. rw (x .5) (crs-more (c .before .before .before .before .before .before .before .before .args .plan .now) (c .before .before .before .before .before .before .before .before .args .p) (c .before .before .before .before .before .before .before .before .args .payload .now) (c .before .before .before .before .before .before .before .before .pre .0) (c .before .before .before .before .before .before .before .before .args .s) (c .before .before .before .before .loop .q) (c .before .before .before .before .loop .inv .1) (c .before .before .before .before .before .before .before .before .args .payload .now) (sym (c .before .uses .ensures) ∙ x .0 .taken) (c .before .before .if1 .taken) (x .2 .ensures))) (λ x. rw (x .1) (crs-pass (c .before .before .before .before .before .before .before .before .args .plan .now) (c .before .before .before .before .before .before .before .before .args .p) (c .before .before .before .before .before .before .before .before .args .payload .now) (c .before .before .before .before .before .before .before .before .pre .0) (c .before .before .before .before .before .before .before .before .args .s) (c .before .before .before .before .loop .q) (c .before .before .before .before .loop .inv .1) (sym (c .before .uses .ensures) ∙ x .0 .left))) (c .if2 .came))
+loop-again c = let u = c .before .crs-uses .ensures ∙ ap (crsSymbol (c .before .before .before .before .before .before .before .before .before .args .p .cell) (c .before .before .before .before .before .loop .q)) (c .before .before .wide .ensures) in (omega (arith, c .before .before .before .if1 .taken), ⊎-elim (λ x. rw (x .5) (crs-more (c .before .before .before .before .before .before .before .before .before .args .plan .now) (c .before .before .before .before .before .before .before .before .before .args .p) (c .before .before .before .before .before .before .before .before .before .args .payload .now) (c .before .before .before .before .before .before .before .before .before .pre .0) (c .before .before .before .before .before .before .before .before .before .args .s) (c .before .before .before .before .before .loop .q) (c .before .before .before .before .before .loop .inv .1) (c .before .before .before .before .before .before .before .before .before .args .payload .now) (sym u ∙ x .0 .taken) (c .before .before .before .if1 .taken) (x .2 .ensures))) (λ x. rw (x .1) (crs-pass (c .before .before .before .before .before .before .before .before .before .args .plan .now) (c .before .before .before .before .before .before .before .before .before .args .p) (c .before .before .before .before .before .before .before .before .before .args .payload .now) (c .before .before .before .before .before .before .before .before .before .pre .0) (c .before .before .before .before .before .before .before .before .before .args .s) (c .before .before .before .before .before .loop .q) (c .before .before .before .before .before .loop .inv .1) (sym u ∙ x .0 .left))) (c .if2 .came))
 
 same-length : tie.Need-same-length Inv-loop μ-loop
 same-length c = c .before .before .loop .inv .1 .size
@@ -47,7 +51,8 @@ fill-crs-row-spec =
     Inv-loop
     μ-loop
     loop-holds
-    uses-requires
+    wide-requires
+    crs-uses-requires
     map-requires
     add-q
     loop-less
