@@ -2,21 +2,20 @@
 -- Assumes a slot of six symbols or more.
 use Prim.Native.Nat.{ℕ, zero, suc, _+_, _-_, _*_, _/_, _%_, _^_, _≤_, _<_}
 use mathlib.Core.Path.{_≡_, refl, sym, ap, ap₂, _∙_}
-use mathlib.Core.Logic.{inl, inr}
 use mathlib.Core.Bool.{Bool, true, false, not, cond, _&&_, _||_, and-assoc, and-false, and-true}
 use native.Mathlib.Nat.{div-le-self}
 use native.Mathlib.Decide.{decLe, ℕ-discrete}
 use native.Mathlib.Omega.{arith}
 use lib.Dec.{leb, ltb, eqb, eqb→eq, T}
-use borrow.Author.Tests.{le-leb, lt-leb, lt-ltb, le-ltb, eq-eqb, ne-eqb, leb-true}
+use borrow.Author.Tests.{le-leb, lt-leb, lt-ltb, le-ltb, leb-true}
 use Rattle.base.proofs.Computed.{allBelow, below-at}
 use Rattle.plan.specs.declared.Cell.{Cell}
 use Rattle.plan.specs.declared.Frame.{Frame}
 use Rattle.base.specs.Choice.{one}
-use Rattle.layout.specs.Rules.{inSyncArea, slotLength, slotOf, inSlot, crsShift, marked, middle, inPbchArea}
+use Rattle.layout.specs.Rules.{inSyncArea, crsSymbol, slotLength, marked, middle, inPbchArea}
 use Rattle.counts.specs.Users.{taken as takenRow}
 use Rattle.places.specs.Halves.{without, takenHalf}
-use Rattle.places.proofs.Halves.{first-at, last-at, none-at, not-second}
+use Rattle.layout.proofs.Pilot.{firstOf, hits, first-pair, second-pair, no-pair}
 use Rattle.walk.specs.Forms.{PairForm, all-six, pairs-left, pairs-right, pairs-apart, SingleForm, paired, hole-0, hole-1, hole-2, hole-3, hole-4, hole-5}
 use Rattle.areas.specs.declared.Area.{Area}
 use Rattle.areas.specs.Masks.{bitIf, maskBut, Masks, centreOut, leavesRow}
@@ -38,7 +37,7 @@ one-same true false e = absurd (omega arith)
 one-same false true e = absurd (omega arith)
 
 abbrev butTest : ℕ → Bool → Bool → ℕ → Bool
-butTest v a b r = not (a && eqb (r % 6) v || b && eqb (r % 6) ((v + 3) % 6))
+butTest v a b r = not (hits a b v (r % 6))
 
 abbrev Right : Bool → Bool → ℕ → Bool
 Right a b v = allBelow (λ (r : ℕ). eqb (one (bitOf (63 - cond a (32 / 2 ^ (5 - v)) 0 - cond b (32 / 2 ^ (5 - (v + 3) % 6)) 0) r)) (one (butTest v a b r))) 6
@@ -106,15 +105,6 @@ module _ (v x P : ℕ) (h : v < 6) where
 
 -- ---- a row's mask
 module _ (c : Cell) (P s : ℕ) where
-  abbrev l : ℕ
-  l = inSlot c s
-
-  abbrev L : ℕ
-  L = slotLength c
-
-  abbrev C : ℕ
-  C = c .identity
-
   -- by the tests of its six bits
   but-mask :
       (v x : ℕ) → v < 6 → (2 ≤ P → (P ≡ 3 → ⊥) → P ≡ suc x → ⊥)
@@ -126,47 +116,25 @@ module _ (c : Cell) (P s : ℕ) where
         pairs = λ m n. form-pairs v x P h (ports m n);
       }
 
-  pub mask-first : l ≡ 0 → Masks c P s (maskBut (C % 6) (ltb 0 P) (ltb 1 P))
-  unfolding crsShift
-  mask-first e =
-      let t = eq-eqb l 0 e in
-      let k : (0 + C) % 6 ≡ C % 6 = omega arith in
-      but-mask (C % 6) 0 (omega arith) (λ m n q. omega arith) (λ r. first-at c P s (rw t refl) (not-second c P s (inl t)) r ∙ (rw (t, k) refl))
+  pub mask-first : crsSymbol c 0 s ≡ true → Masks c P s (maskBut (firstOf c 0 s) (ltb 0 P) (ltb 1 P))
+  unfolding without
+  mask-first e = but-mask (firstOf c 0 s) 0 (omega arith) (λ m n q. omega arith) (λ r. ap not (first-pair c s P r e))
 
-  pub mask-third : (l ≡ 0 → ⊥) → l + 3 ≡ L → Masks c P s (maskBut ((C + 3) % 6) (ltb 0 P) (ltb 1 P))
-  unfolding crsShift
-  mask-third n e =
-      let t = eq-eqb (l + 3) L e in
-      let f = ne-eqb l 0 n in
-      let k : (3 + C) % 6 ≡ (C + 3) % 6 = omega arith in
-      but-mask ((C + 3) % 6) 0 (omega arith) (λ m n q. omega arith) (λ r. first-at c P s (rw (f, t) refl) (not-second c P s (inr t)) r ∙ (rw (f, k) refl))
+  pub mask-second : crsSymbol c 2 s ≡ true → Masks c P s (maskBut (firstOf c 2 s) (ltb 2 P) (ltb 3 P))
+  unfolding without
+  mask-second e = but-mask (firstOf c 2 s) 2 (omega arith) (λ m n. n) (λ r. ap not (second-pair c s P r e))
 
-  module _ (n : l ≡ 0 → ⊥) (m : l + 3 ≡ L → ⊥) where
-    neither : eqb l 0 || eqb (l + 3) L ≡ false
-    neither = rw (ne-eqb l 0 n, ne-eqb (l + 3) L m) refl
-
-    pub mask-second : l ≡ 1 → s < L → Masks c P s (maskBut (C % 6) (ltb 2 P) (ltb 3 P))
-    unfolding crsShift slotOf
-    mask-second e f =
-        let k : (0 + C) % 6 ≡ C % 6 = omega arith in
-        but-mask (C % 6) 2 (omega arith) (λ m n. n) (λ r. last-at c P s neither (eq-eqb l 1 e) r ∙ (rw (lt-ltb s L f, k) refl))
-
-    pub mask-other : l ≡ 1 → L ≤ s → Masks c P s (maskBut ((C + 3) % 6) (ltb 2 P) (ltb 3 P))
-    unfolding crsShift slotOf
-    mask-other e f =
-        let k : (3 + C) % 6 ≡ (C + 3) % 6 = omega arith in
-        but-mask ((C + 3) % 6) 2 (omega arith) (λ m n. n) (λ r. last-at c P s neither (eq-eqb l 1 e) r ∙ (rw (le-ltb s L f, k) refl))
-
-    pub mask-none : (l ≡ 1 → ⊥) → Masks c P s 63
-    mask-none e =
-        record {
-          bits = λ r h. full r h ∙ sym (none-at c P s neither (ne-eqb l 1 e) r);
-          single = paired all-six;
-          pairs = λ m n. all-six;
-        }
-      where
-        full : (r : ℕ) → r < 6 → bitOf 63 r ≡ true
-        full r h = one-same (bitOf 63 r) true (eqb→eq _ _ (below-at (λ (r : ℕ). eqb (one (bitOf 63 r)) 1) 6 tt r h))
+  pub mask-none : crsSymbol c 0 s ≡ false → crsSymbol c 2 s ≡ false → Masks c P s 63
+  unfolding without
+  mask-none e d =
+      record {
+        bits = λ r h. full r h ∙ sym (ap not (no-pair c s P r e d));
+        single = paired all-six;
+        pairs = λ m n. all-six;
+      }
+    where
+      full : (r : ℕ) → r < 6 → bitOf 63 r ≡ true
+      full r h = one-same (bitOf 63 r) true (eqb→eq _ _ (below-at (λ (r : ℕ). eqb (one (bitOf 63 r)) 1) 6 tt r h))
 
 -- ---- the centre's half blocks
 joined : (m x z p q c : Bool) → m && x && c || z && p && q && c ≡ (m && x || z && p && q) && c

@@ -65,7 +65,7 @@ pub fn user_area(cell: Cell, frame: Frame, u: User) -> Area
         cell: cell,
         frame: frame,
         first: layout::control_symbols(cell, frame),
-        last: 2 * layout::slot_length(cell),
+        last: layout::symbols(cell),
         from: 2 * first,
         to: 2 * (first + count),
         signals: cell.ports,
@@ -89,26 +89,15 @@ fn mask_but(v: usize, a: bool, b: bool) -> u8
     63 - bit_if(a, v) - bit_if(b, (v + 3) % 6)
 }
 
-// The subcarriers of six in symbol s that have no reference signal of the ports below `signals`: ports 0 and 1 use l = 0 and the
-// third symbol from the slot's end, ports 2 and 3 use l = 1.
+// The subcarriers of six in symbol s that have no reference signal of the ports below `signals`.
 pub fn row_mask(cell: Cell, signals: u8, s: usize) -> u8
-    requires { ⌜ s < 14 ⌝ }
     ensures { λ r. ⌜ Masks cell signals s r ⌝ }
 {
-    let slot = layout::slot_length(cell);
-    let identity = cell.identity as usize;
-    let l = layout::in_slot(cell, s);
-    if l == 0 {
-        return mask_but(identity % 6, 0 < signals, 1 < signals);
+    if layout::crs_uses(cell, 0, s) {
+        return mask_but(layout::crs_first(cell, 0, s), 0 < signals, 1 < signals);
     }
-    if l + 3 == slot {
-        return mask_but((identity + 3) % 6, 0 < signals, 1 < signals);
-    }
-    if l == 1 {
-        if s < slot {
-            return mask_but(identity % 6, 2 < signals, 3 < signals);
-        }
-        return mask_but((identity + 3) % 6, 2 < signals, 3 < signals);
+    if layout::crs_uses(cell, 2, s) {
+        return mask_but(layout::crs_first(cell, 2, s), 2 < signals, 3 < signals);
     }
     63
 }

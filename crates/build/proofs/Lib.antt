@@ -1,6 +1,5 @@
 -- Laws that the proofs cite. For the crates above: Answers (the ways to an answer, and its numbers), Apart (theorem C of two calls).
 pub mod Some
-mod Pilots
 pub mod Numbered
 pub mod DataValues
 pub mod SignalValues

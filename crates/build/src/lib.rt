@@ -2,7 +2,6 @@
 use channels::Channel;
 use channels::map;
 use data_write::set_table;
-use plan::Cell;
 use plan::Checked;
 use plan::Plan;
 use plan::Refusal;
@@ -14,7 +13,6 @@ ghost use lib.ListN.{length};
 ghost use Rattle.modulation.specs.Symbols.{Order};
 ghost use Rattle.plan.specs.Rows.{usersOf};
 ghost use Rattle.plan.specs.Fields.{unitsOf};
-ghost use Rattle.layout.specs.Rules.{crsSymbol};
 ghost use Rattle.layout.specs.Owners.{symbols};
 ghost use Rattle.grid.specs.Writing.{Written};
 ghost use Rattle.subframe.specs.Grid.{elementNumbered, gridOf};
@@ -25,18 +23,6 @@ ghost use Rattle.build.specs.Build.{builtOf, gridAfter, builtAnswer};
 pub enum Built {
     Elements(usize),
     Refused(Refusal),
-}
-
-// Whether the port's reference signal uses symbol s.
-pub fn uses(cell: Cell, port: u8, s: u8) -> bool
-    ensures { λ r. ⌜ r ≡ crsSymbol cell port s ⌝ }
-{
-    let slot = layout::slot_length(cell);
-    let l = layout::in_slot(cell, base::wide(s));
-    if port < 2 {
-        return l == 0 || l + 3 == slot;
-    }
-    l == 1
 }
 
 // The reference signals of all ports in symbol s.
@@ -54,7 +40,7 @@ fn fill_crs_row(
 {
     let mut q: u8 = 0;
     while q < p.cell.ports {
-        if uses(p.cell, q, s) {
+        if layout::crs_uses(p.cell, q, base::wide(s)) {
             map(p, Channel::Crs(s, q), t, masks, payload, grid);
         }
         q += 1;

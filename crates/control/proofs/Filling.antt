@@ -28,6 +28,15 @@ upTo P T own index turn j e = sentBy P T own index turn e && ltb (index (e % T))
 abbrev pub valueBy : ℕ → ℕ → (ℕ → ℕ) → (ℕ → ℕ) → (ℕ → Pair) → ℕ → Element
 valueBy P T index turn d e = placed P (turn (index (e % T))) 2 d (index (e % T)) (e / T)
 
+-- the symbols x and y of the indices 2n and 2n + 1 stand at the places a and b, on the ports of turn τ
+pub record PairAt (at turn : ℕ → ℕ) (d : ℕ → Pair) (n τ a b : ℕ) (x y : Pair) : Type 0 where
+  pub turn-one : turn (2 * n) ≡ τ
+  pub turn-two : turn (2 * n + 1) ≡ τ
+  pub one : at (2 * n) ≡ a
+  pub two : at (2 * n + 1) ≡ b
+  pub first : x ≡ d (2 * n)
+  pub second : y ≡ d (2 * n + 1)
+
 -- ---- tests
 off : (a : Bool) → a && false ≡ false
 off true = refl
@@ -112,17 +121,17 @@ module _ (P T : ℕ) {m : ℕ} {own : ℕ → Bool} {at index : ℕ → ℕ} (tu
 
   -- the places 2n and 2n + 1 are
   pub pair-more :
-      (n τ a b : ℕ) (x y : Pair) {g₀ g₁ g₂ : List ℕ} → 2 * n + 1 < m → turn (2 * n) ≡ τ → turn (2 * n + 1) ≡ τ → at (2 * n) ≡ a → at (2 * n + 1) ≡ b
-      → x ≡ d (2 * n) → y ≡ d (2 * n + 1)
+      {n τ a b : ℕ} {x y : Pair} {g₀ g₁ g₂ : List ℕ} → 2 * n + 1 < m → PairAt at turn d n τ a b x y
       → Written (upTo P T own index turn (2 * n)) (valueBy P T index turn d) g₀ g₁ → PairWritten P T τ a b x y g₁ g₂
       → Written (upTo P T own index turn (2 * (n + 1))) (valueBy P T index turn d) g₀ g₂
-  pair-more n τ a b x y {g₁ = g₁} {g₂ = g₂} in-n t u p q f s w v =
+  pair-more {n = n} {x = x} {y = y} {g₁ = g₁} {g₂ = g₂} in-n s w v =
       let z : 0 ≡ 2 * n % 2 = omega arith in
       let o : 1 ≡ (2 * n + 1) % 2 = omega arith in
       let i : 2 * n + 1 ≡ beside (2 * n) = omega arith in
       let k : 2 * n ≡ beside (2 * n + 1) = omega arith in
       let last : 2 * n + 1 + 1 ≡ 2 * (n + 1) = omega arith in
-      let one : Written (sentAt P T (turn (2 * n)) (at (2 * n))) (λ (e : ℕ). onPort P (turn (2 * n)) 2 0 x y (e / T)) g₁ (v .between) = rw (t, p) (v .one) in
-      let two : Written (sentAt P T (turn (2 * n + 1)) (at (2 * n + 1))) (λ (e : ℕ). onPort P (turn (2 * n + 1)) 2 1 y x (e / T)) (v .between) g₂ = rw (u, q) (v .two) in
-      let half = one-more (2 * n) (omega arith) 0 x y z f (s ∙ ap d i) w one in
-      rw last at (one-more (2 * n + 1) in-n 1 y x o s (f ∙ ap d k) half two)
+      let one : Written (sentAt P T (turn (2 * n)) (at (2 * n))) (λ (e : ℕ). onPort P (turn (2 * n)) 2 0 x y (e / T)) g₁ (v .between) = rw (s .turn-one, s .one) (v .one) in
+      let two : Written (sentAt P T (turn (2 * n + 1)) (at (2 * n + 1))) (λ (e : ℕ). onPort P (turn (2 * n + 1)) 2 1 y x (e / T)) (v .between) g₂ =
+      rw (s .turn-two, s .two) (v .two) in
+      let half = one-more (2 * n) (omega arith) 0 x y z (s .first) (s .second ∙ ap d i) w one in
+      rw last at (one-more (2 * n + 1) in-n 1 y x o (s .second) (s .first ∙ ap d k) half two)

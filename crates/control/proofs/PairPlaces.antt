@@ -1,34 +1,18 @@
--- The two places that `put_pair` writes, and how many places a port has. Assumes nothing.
+-- The two places that `put_pair` writes. Assumes nothing.
 use Prim.Native.Nat.{ℕ, _+_, _*_, _/_, _≤_, _<_}
-use mathlib.Core.Path.{_≡_, ap₂}
+use mathlib.Core.Path.{_≡_}
 use mathlib.Core.List.{List}
-use native.Mathlib.Nat.{mul-le-mul}
 use native.Mathlib.Omega.{arith}
 use Rattle.base.specs.declared.Pair.{Pair}
 use Rattle.base.specs.Pairs.{Small}
 use Rattle.precoding.specs.Places.{onPort}
 use Rattle.plan.specs.declared.Cell.{Cell}
-use Rattle.layout.specs.Rules.{slotLength}
-use Rattle.layout.proofs.Pilot.{slot-length}
 use Rattle.places.specs.Places.{placesOf}
 use Rattle.places.specs.Quads.{quadPlace}
 use Rattle.grid.specs.Writing.{sentAt, Written, Room}
 use Rattle.grid.proofs.Writing.{room-kept}
 use Rattle.control.specs.Filling.{PairIn, PairWritten}
 use Rattle.control.proofs.Listings.{place-inside}
-
-pub slot-few : (l : ℕ) (c : Cell) → l ≡ slotLength c → l ≤ 7
-slot-few l c e = omega (arith, slot-length c)
-
--- a port's places are few
-pub places-fit : (l : ℕ) (c : Cell) (n b : ℕ) → l ≡ slotLength c → n ≡ b → b < 256 → 2 * l * (12 * n) ≤ 42840
-places-fit l c n b e f h =
-    let two : 2 * l ≤ 14 = omega (arith, e, slot-length c) in
-    let all : 12 * n ≤ 3060 = omega arith in
-    mul-le-mul two all
-
-pub places-are : (c : Cell) (l n : ℕ) → l ≡ slotLength c → n ≡ c .blocks → 2 * l * (12 * n) ≡ placesOf c
-places-are c l n e f = ap₂ (λ (x y : ℕ). 2 * x * (12 * y)) e f
 
 module _ {c : Cell} {g i : ℕ} {d e : Pair} {grid : List ℕ} (ok : PairIn c g i d e grid) where
   -- what `put_place` requires

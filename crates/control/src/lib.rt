@@ -46,20 +46,13 @@ pub fn cfi_word(cfi: u8, i: usize) -> u32
     ((a * 2 + b) * 2 + c) * 2 + d
 }
 
-// The number of places on a port.
-pub fn places_of(cell: Cell) -> usize
-    ensures { λ r. ⌜ r ≡ placesOf cell ⌝ }
-{
-    2 * layout::slot_length(cell) * (12 * base::wide(cell.blocks))
-}
-
 // Two symbols at places 2i and 2i + 1 of group g, each beside the other. Callers take the group from the quads of a cell that the
 // plan check accepted, and have compared the grid's length.
 fn put_pair(cell: Cell, g: usize, i: usize, turn: u8, d: Pair, e: Pair, grid: &mut [u8])
     requires { ⌜ PairIn cell g i d e (now grid) ⌝ }
     ensures { λ _. ⌜ PairWritten (cell .ports) (placesOf cell) turn (quadPlace cell 0 g (2 * i)) (quadPlace cell 0 g (2 * i + 1)) d e (now (grid .entry)) (now (grid .exit)) ⌝ }
 {
-    let places = places_of(cell);
+    let places = layout::places(cell);
     let a = places::quad_place(cell, g, 2 * i);
     grid::put_place(grid, cell.ports, places, a, turn, 2, 0, d, e);
     let b = places::quad_place(cell, g, 2 * i + 1);
@@ -134,7 +127,7 @@ fn read_quad(cell: Cell, m: usize, grid: &[u8], first: &mut [u8; 200])
 {
     let g = places::unit_group(cell, m, 0);
     let port = precoding::own_port(cell.ports, (m % 2) as u8);
-    let own = base::wide(port) * places_of(cell);
+    let own = base::wide(port) * layout::places(cell);
     let mut i: usize = 0;
     while i < 4 {
         let e = grid::get(grid, own + places::quad_place(cell, g, i));

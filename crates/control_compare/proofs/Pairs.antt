@@ -16,7 +16,7 @@ use Rattle.compare.specs.declared.Seen.{Seen}
 use Rattle.compare.specs.declared.Seen.the-variants.{Weight}
 use Rattle.compare.specs.Comparing.{Compared, bothOf}
 use Rattle.compare.proofs.Comparing.{none, same, over}
-use Rattle.control.proofs.Filling.{sentBy, upTo, valueBy, sent-none, sent-all, grows, value-at}
+use Rattle.control.proofs.Filling.{sentBy, upTo, valueBy, PairAt, sent-none, sent-all, grows, value-at}
 use Rattle.control_compare.specs.Pairs.{pairSends, pairSent}
 
 -- ---- tests
@@ -89,37 +89,36 @@ module _ (P T : ℕ) {m : ℕ} {own : ℕ → Bool} {at index : ℕ → ℕ} (tu
 
     -- the places 2n and 2n + 1 are compared: those below 2n + 2 are
     pub pair-more :
-        (τ a b : ℕ) (x y : Pair) {g : List ℕ} {r s : Seen} → turn (2 * n) ≡ τ → turn (2 * n + 1) ≡ τ → at (2 * n) ≡ a → at (2 * n + 1) ≡ b
-        → x ≡ d (2 * n) → y ≡ d (2 * n + 1)
+        {τ a b : ℕ} {x y : Pair} {g : List ℕ} {r s : Seen} → PairAt at turn d n τ a b x y
         → Compared (upTo P T own index turn (2 * n)) (valueBy P T index turn d) g r → Compared (pairSends P T τ a b) (pairSent P T τ a x y) g s
         → Compared (upTo P T own index turn (2 * (n + 1))) (valueBy P T index turn d) g (bothOf r s)
     unfolding pairSends
-    pair-more τ a b x y t u p q f s c k = over disjoint c k value (λ e. grown e ∙ is e)
+    pair-more {τ = τ} {a = a} {b = b} {x = x} {y = y} z c k = over disjoint c k value (λ e. grown e ∙ is e)
       where
         first : (e : ℕ) → sentAt P T τ a e ≡ true → sentAt P T (turn (2 * n)) (at (2 * n)) e ≡ true
-        first e h = rw (t, p) h
+        first e h = rw (z .turn-one, z .one) h
 
         second : (e : ℕ) → sentAt P T τ b e ≡ true → sentAt P T (turn (2 * n + 1)) (at (2 * n + 1)) e ≡ true
-        second e h = rw (u, q) h
+        second e h = rw (z .turn-two, z .two) h
 
         disjoint : (e : ℕ) → upTo P T own index turn (2 * n) e ≡ true → sentAt P T τ b e || sentAt P T τ a e ≡ true → ⊥
         disjoint e h =
             either (sentAt P T τ b e) (sentAt P T τ a e)
-            (λ z. omega (arith, below e h, index-second e (second e z)))
-            (λ z. omega (arith, below e h, index-first e (first e z)))
+            (λ i. omega (arith, below e h, index-second e (second e i)))
+            (λ i. omega (arith, below e h, index-first e (first e i)))
 
         apart : a ≡ b → ⊥
-        apart z = places-apart (p ∙ z ∙ sym q)
+        apart e = places-apart (z .one ∙ e ∙ sym (z .two))
 
         value : (e : ℕ) → sentAt P T τ b e || sentAt P T τ a e ≡ true → pairSent P T τ a x y e ≡ valueBy P T index turn d e
         value e =
-            let z : 0 ≡ 2 * n % 2 = omega arith in
+            let l : 0 ≡ 2 * n % 2 = omega arith in
             let o : 1 ≡ (2 * n + 1) % 2 = omega arith in
             let i : 2 * n + 1 ≡ beside (2 * n) = omega arith in
             let j : 2 * n ≡ beside (2 * n + 1) = omega arith in
             either (sentAt P T τ b e) (sentAt P T τ a e)
-            (λ h. sym (value-second P T τ a b apart x y e h) ∙ ap (λ (v : ℕ). onPort P v 2 1 y x (e / T)) (sym u) ∙ value-at P T turn d some L (2 * n + 1) in-n 1 y x o s (f ∙ ap d j) e (second e h))
-            (λ h. sym (value-first P T τ a b apart x y e h) ∙ ap (λ (v : ℕ). onPort P v 2 0 x y (e / T)) (sym t) ∙ value-at P T turn d some L (2 * n) (omega arith) 0 x y z f (s ∙ ap d i) e (first e h))
+            (λ h. sym (value-second P T τ a b apart x y e h) ∙ ap (λ (v : ℕ). onPort P v 2 1 y x (e / T)) (sym (z .turn-two)) ∙ value-at P T turn d some L (2 * n + 1) in-n 1 y x o (z .second) (z .first ∙ ap d j) e (second e h))
+            (λ h. sym (value-first P T τ a b apart x y e h) ∙ ap (λ (v : ℕ). onPort P v 2 0 x y (e / T)) (sym (z .turn-one)) ∙ value-at P T turn d some L (2 * n) (omega arith) 0 x y l (z .first) (z .second ∙ ap d i) e (first e h))
 
         is : (e : ℕ) → (sentAt P T (turn (2 * n + 1)) (at (2 * n + 1)) e || sentAt P T (turn (2 * n)) (at (2 * n)) e) || upTo P T own index turn (2 * n) e ≡ (sentAt P T τ b e || sentAt P T τ a e) || upTo P T own index turn (2 * n) e
-        is e = rw (t, u, p, q) refl
+        is e = rw (z .turn-one, z .turn-two, z .one, z .two) refl

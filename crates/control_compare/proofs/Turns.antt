@@ -12,27 +12,24 @@ use Rattle.base.specs.Pairs.{nil, Small}
 use Rattle.gold.specs.declared.Registers.{Registers}
 use Rattle.gold.specs.Sequence.{binary}
 use Rattle.gold.specs.Steps.{after}
-use Rattle.gold.proofs.Laws.{after-none, after-after}
 use Rattle.modulation.specs.Symbols.{symbolOf as symbolFor}
 use Rattle.codeword.specs.Codewords.{scrambled, dataSymbol, cfiBit}
 use Rattle.codeword.specs.Streams.{outputs}
 use Rattle.precoding.specs.Places.{onPort}
 use Rattle.plan.specs.declared.Cell.{Cell}
-use Rattle.layout.specs.Rules.{unitGroup, formatGroup, pcfich, phich}
+use Rattle.layout.specs.Rules.{unitGroup, formatGroup}
 use Rattle.places.specs.Quads.{quadPlace, quadIndex}
-use Rattle.places.specs.Places.{symbolAt, carrierAt, placesOf}
+use Rattle.places.specs.Places.{placesOf}
 use Rattle.places.proofs.Quads.{place-index}
 use Rattle.grid.specs.Writing.{sentAt, Room}
 use Rattle.compare.specs.declared.Seen.{Seen}
 use Rattle.compare.specs.declared.Seen.the-variants.{Weight}
 use Rattle.compare.specs.Comparing.{Compared, bothOf, Few}
 use Rattle.compare.proofs.Comparing.{few}
-use Rattle.control.specs.Control.{pcfichIndex, pcfichSends, pcfichSent, phichIndex, phichSends, unitSent}
+use Rattle.control.specs.Control.{pcfichSends, pcfichSent, phichSends, unitSent}
 use Rattle.control.specs.Filling.{PcfichIn, UnitIn, PairIn}
-use Rattle.control.proofs.Filling.{upTo, valueBy}
-use Rattle.control.proofs.Listings.{place-at, place-inside, some-places, pcfich-listed, phich-listed}
-use Rattle.control.proofs.Turns.{half-in}
-use Rattle.control.proofs.Words.{first-symbol, second-symbol}
+use Rattle.control.proofs.Listings.{place-inside, some-places, pcfich-listed, phich-listed}
+use Rattle.control.proofs.Turns.{byTwo, FormatTurn, format-first, format-last, format-step, format-at, byQuad, UnitTurn, unit-last, half-at, half-in}
 use Rattle.control_compare.specs.Pairs.{pairSends, pairSent}
 use Rattle.control_compare.proofs.Pairs as pairs
 use Rattle.control_compare.proofs.Pairs.{pair-compared}
@@ -64,107 +61,65 @@ module _ {c : Cell} {g i : ℕ} {d e : Pair} {grid : List ℕ} (ok : PairIn c g 
       pair-seen z = rw (z, ← t, ← p, ← q) (pair-compared (c .ports) T turn a b (rw (p, q) apart) d e one two)
 
 -- ---- PCFICH
-abbrev pcfichHas : Cell → ℕ → Bool
-pcfichHas c t = pcfich c (symbolAt c t) (carrierAt c t)
-
-abbrev byTwo : ℕ → ℕ
-byTwo j = j / 2 % 2
-
-pub record FormatTurn (c : Cell) (cfi : ℕ) (r s : Registers) (n : ℕ) (g : List ℕ) (seen : Seen) : Type 0 where
-  pub most : n ≤ 8
-  pub pair : s ≡ after r (4 * n)
-  pub compared :
-      Compared (upTo (c .ports) (placesOf c) (pcfichHas c) (pcfichIndex c) byTwo (2 * n))
-      (valueBy (c .ports) (placesOf c) (pcfichIndex c) byTwo (dataSymbol 2 (cfiBit cfi) (outputs r))) g seen
+abbrev pub FormatSeen : Cell → ℕ → Registers → Registers → ℕ → List ℕ → Seen → Type 0
+FormatSeen c cfi r s n g seen = FormatTurn (λ (D : ℕ → Bool) (W : ℕ → Element). Compared D W g seen) c cfi r s n
 
 module _ (c : Cell) (cfi : ℕ) (r : Registers) (g : List ℕ) (ok : PcfichIn c cfi g) where
-  pub format-start : FormatTurn c cfi r r 0 g (Weight 0)
-  format-start =
-      record {
-        most = omega arith;
-        pair = sym (after-none r);
-        compared = pairs.start (c .ports) (placesOf c) byTwo (dataSymbol 2 (cfiBit cfi) (outputs r)) (some-places c (ok .cell)) (pcfich-listed c (ok .cell)) g;
-      }
+  pub format-start : FormatSeen c cfi r r 0 g (Weight 0)
+  format-start = format-first c cfi r (pairs.start (c .ports) (placesOf c) byTwo (dataSymbol 2 (cfiBit cfi) (outputs r)) (some-places c (ok .cell)) (pcfich-listed c (ok .cell)) g)
 
   -- what `both` requires
-  pub format-few : {s : Registers} {n : ℕ} {seen x : Seen} {D : ℕ → Bool} {W : ℕ → Element} → FormatTurn c cfi r s n g seen → Compared D W g x → Few seen × Few x
-  format-few t p = (few {P = c .ports} {T = placesOf c} (ok .room) (t .compared), few {P = c .ports} {T = placesOf c} (ok .room) p)
+  pub format-few : {s : Registers} {n : ℕ} {seen x : Seen} {D : ℕ → Bool} {W : ℕ → Element} → FormatSeen c cfi r s n g seen → Compared D W g x → Few seen × Few x
+  format-few t p = (few {P = c .ports} {T = placesOf c} (ok .room) (t .done), few {P = c .ports} {T = placesOf c} (ok .room) p)
 
-  module _ {s : Registers} {n : ℕ} {seen : Seen} (t : FormatTurn c cfi r s n g seen) (in-n : n < 8) where
+  module _ {s : Registers} {n : ℕ} {seen : Seen} (t : FormatSeen c cfi r s n g seen) (in-n : n < 8) where
     pub format-next :
         {s′ : Registers} {k : ℕ} {d e : Pair} {x y : Seen} (w : ℕ) → w ≡ binary (scrambled (cfiBit cfi) (outputs r)) (4 * n) 4
         → k ≡ formatGroup c (n / 2) → d ≡ symbolFor 2 (w / 4) → e ≡ symbolFor 2 (w % 4)
         → Compared (pairSends (c .ports) (placesOf c) (n % 2) (quadPlace c 0 k (2 * (n % 2))) (quadPlace c 0 k (2 * (n % 2) + 1))) (pairSent (c .ports) (placesOf c) (n % 2) (quadPlace c 0 k (2 * (n % 2))) d e) g x
-        → y ≡ bothOf seen x → s′ ≡ after s 4 → FormatTurn c cfi r s′ (n + 1) g y
-    format-next {d = d} {e = e} w h q f k p b z =
-        let group : ℕ → ℕ = formatGroup c in
-        let i : ℕ = 2 * (n % 2) in
-        let one = place-at c group (2 * n) (n / 2) i (omega arith) (omega arith) ∙ ap (λ (y : ℕ). quadPlace c 0 y i) (sym q) in
-        let two = place-at c group (2 * n + 1) (n / 2) (i + 1) (omega arith) (omega arith) ∙ ap (λ (y : ℕ). quadPlace c 0 y (i + 1)) (sym q) in
-        let sum : 4 * n + 4 ≡ 4 * (n + 1) = omega arith in
-        record {
-          most = omega arith;
-          pair = z ∙ ap (λ (y : Registers). after y 4) (t .pair) ∙ after-after r (4 * n) 4 ∙ ap (after r) sum;
-          compared =
-              rw b
-              (pairs.pair-more (c .ports) (placesOf c) byTwo (dataSymbol 2 (cfiBit cfi) (outputs r)) (some-places c (ok .cell)) (pcfich-listed c (ok .cell)) n (omega arith) (n % 2) _ _ d e (omega arith) (omega arith) one two
-              (f ∙ first-symbol (cfiBit cfi) (outputs r) n w h) (k ∙ second-symbol (cfiBit cfi) (outputs r) n w h) (t .compared) p);
-        }
+        → y ≡ bothOf seen x → s′ ≡ after s 4 → FormatSeen c cfi r s′ (n + 1) g y
+    format-next w h q f k p b z =
+        format-step c cfi r t in-n z
+        (rw b
+        (pairs.pair-more (c .ports) (placesOf c) byTwo (dataSymbol 2 (cfiBit cfi) (outputs r)) (some-places c (ok .cell)) (pcfich-listed c (ok .cell))
+        n (omega arith) (format-at c cfi r n w h q f k) (t .done) p))
 
-  pub format-finish : {s : Registers} {n : ℕ} {seen : Seen} → FormatTurn c cfi r s n g seen → 8 ≤ n → Compared (pcfichSends c) (pcfichSent c cfi r) g seen
+  pub format-finish : {s : Registers} {n : ℕ} {seen : Seen} → FormatSeen c cfi r s n g seen → 8 ≤ n → Compared (pcfichSends c) (pcfichSent c cfi r) g seen
   unfolding pcfichSends pcfichSent
-  format-finish {n = n} t last =
-      let e : 2 * n ≡ 16 = omega (arith, t .most, last) in
-      pairs.finish (c .ports) (placesOf c) byTwo (dataSymbol 2 (cfiBit cfi) (outputs r)) (some-places c (ok .cell)) (pcfich-listed c (ok .cell)) (rw e at (t .compared))
+  format-finish t last =
+      pairs.finish (c .ports) (placesOf c) byTwo (dataSymbol 2 (cfiBit cfi) (outputs r)) (some-places c (ok .cell)) (pcfich-listed c (ok .cell)) (format-last c cfi r t last .0)
 
 -- ---- a PHICH unit
-abbrev phichHas : Cell → ℕ → ℕ → Bool
-phichHas c m t = phich c m (symbolAt c t) (carrierAt c t)
-
-abbrev byQuad : ℕ → ℕ → ℕ
-byQuad m j = (j / 4 + m) % 2
-
-pub record UnitTurn (c : Cell) (m : ℕ) (sums : List Pair) (p : ℕ) (g : List ℕ) (seen : Seen) : Type 0 where
-  pub most : p ≤ 6
-  pub compared :
-      Compared (upTo (c .ports) (placesOf c) (phichHas c m) (phichIndex c m) (byQuad m) (2 * p))
-      (valueBy (c .ports) (placesOf c) (phichIndex c m) (byQuad m) (λ (i : ℕ). getD sums i nil)) g seen
+abbrev pub UnitSeen : Cell → ℕ → List Pair → ℕ → List ℕ → Seen → Type 0
+UnitSeen c m sums p g seen = UnitTurn (λ (D : ℕ → Bool) (W : ℕ → Element). Compared D W g seen) c m sums p
 
 module _ (c : Cell) (m : ℕ) (sums : List Pair) (g : List ℕ) (ok : UnitIn c m sums g) where
-  pub unit-start : UnitTurn c m sums 0 g (Weight 0)
+  pub unit-start : UnitSeen c m sums 0 g (Weight 0)
   unit-start =
       record {
         most = omega arith;
-        compared = pairs.start (c .ports) (placesOf c) (byQuad m) (λ (i : ℕ). getD sums i nil) (some-places c (ok .cell)) (phich-listed c (ok .cell) m (ok .unit)) g;
+        done = pairs.start (c .ports) (placesOf c) (byQuad m) (λ (i : ℕ). getD sums i nil) (some-places c (ok .cell)) (phich-listed c (ok .cell) m (ok .unit)) g;
       }
 
-  pub unit-small : {n : ℕ} {seen x : Seen} {D : ℕ → Bool} {W : ℕ → Element} → UnitTurn c m sums n g seen → Compared D W g x → Few seen × Few x
-  unit-small t p = (few {P = c .ports} {T = placesOf c} (ok .room) (t .compared), few {P = c .ports} {T = placesOf c} (ok .room) p)
+  pub unit-small : {n : ℕ} {seen x : Seen} {D : ℕ → Bool} {W : ℕ → Element} → UnitSeen c m sums n g seen → Compared D W g x → Few seen × Few x
+  unit-small t p = (few {P = c .ports} {T = placesOf c} (ok .room) (t .done), few {P = c .ports} {T = placesOf c} (ok .room) p)
 
   -- pair p of the places, half i of quad n, is compared
   half-next :
-      {p n i k x y : ℕ} {seen r s : Seen} → UnitTurn c m sums p g seen → p ≡ 2 * n + i → i < 2 → n < 3 → k ≡ unitGroup c m n → x ≡ 4 * n + 2 * i → y ≡ 4 * n + 2 * i + 1
+      {p n i k x y : ℕ} {seen r s : Seen} → UnitSeen c m sums p g seen → p ≡ 2 * n + i → i < 2 → n < 3 → k ≡ unitGroup c m n → x ≡ 4 * n + 2 * i → y ≡ 4 * n + 2 * i + 1
       → Compared (pairSends (c .ports) (placesOf c) ((n + m) % 2) (quadPlace c 0 k (2 * i)) (quadPlace c 0 k (2 * i + 1))) (pairSent (c .ports) (placesOf c) ((n + m) % 2) (quadPlace c 0 k (2 * i)) (getD sums x nil) (getD sums y nil)) g r
-      → s ≡ bothOf seen r → UnitTurn c m sums (p + 1) g s
-  half-next {p = p} {n = n} {i = i} {x = x} {y = y} t ep in-i in-n q ex ey w b =
-      let group : ℕ → ℕ = unitGroup c m in
-      let one = place-at c group (2 * p) n (2 * i) (omega arith) (omega arith) ∙ ap (λ (z : ℕ). quadPlace c 0 z (2 * i)) (sym q) in
-      let two = place-at c group (2 * p + 1) n (2 * i + 1) (omega arith) (omega arith) ∙ ap (λ (z : ℕ). quadPlace c 0 z (2 * i + 1)) (sym q) in
-      let u : 2 * p / 4 ≡ n = omega arith in
-      let v : (2 * p + 1) / 4 ≡ n = omega arith in
-      let dx : x ≡ 2 * p = omega arith in
-      let dy : y ≡ 2 * p + 1 = omega arith in
+      → s ≡ bothOf seen r → UnitSeen c m sums (p + 1) g s
+  half-next {p = p} {n = n} {i = i} t ep in-i in-n q ex ey w b =
       record {
         most = omega arith;
-        compared =
+        done =
             rw b
-            (pairs.pair-more (c .ports) (placesOf c) (byQuad m) (λ (z : ℕ). getD sums z nil) (some-places c (ok .cell)) (phich-listed c (ok .cell) m (ok .unit)) p (omega arith) ((n + m) % 2) _ _
-            (getD sums x nil) (getD sums y nil) (ap (λ (z : ℕ). (z + m) % 2) u) (ap (λ (z : ℕ). (z + m) % 2) v) one two
-            (ap (λ (z : ℕ). getD sums z nil) dx) (ap (λ (z : ℕ). getD sums z nil) dy) (t .compared) w);
+            (pairs.pair-more (c .ports) (placesOf c) (byQuad m) (λ (z : ℕ). getD sums z nil) (some-places c (ok .cell)) (phich-listed c (ok .cell) m (ok .unit))
+            p (omega arith) (half-at c m sums n i ep in-i q ex ey) (t .done) w);
       }
 
   -- the quad n is compared
-  module _ {n : ℕ} {seen : Seen} (t : UnitTurn c m sums (2 * n) g seen) (in-n : n < 3) {k : ℕ} (q : k ≡ unitGroup c m n) where
+  module _ {n : ℕ} {seen : Seen} (t : UnitSeen c m sums (2 * n) g seen) (in-n : n < 3) {k : ℕ} (q : k ≡ unitGroup c m n) where
     -- what `compare_pair` requires for both halves
     pub first-in : PairIn c k 0 (getD sums (4 * n) nil) (getD sums (4 * n + 1) nil) g
     first-in = half-in {sums = sums} ok {n = n} {i = 0} in-n (omega arith) q (omega arith) (omega arith)
@@ -175,19 +130,18 @@ module _ (c : Cell) (m : ℕ) (sums : List Pair) (g : List ℕ) (ok : UnitIn c m
     module _ {r s : Seen}
         (one : Compared (pairSends (c .ports) (placesOf c) ((n + m) % 2) (quadPlace c 0 k 0) (quadPlace c 0 k 1)) (pairSent (c .ports) (placesOf c) ((n + m) % 2) (quadPlace c 0 k 0) (getD sums (4 * n) nil) (getD sums (4 * n + 1) nil)) g r)
         (es : s ≡ bothOf seen r) where
-      pub half-done : UnitTurn c m sums (2 * n + 1) g s
+      pub half-done : UnitSeen c m sums (2 * n + 1) g s
       half-done = half-next {p = 2 * n} {n = n} {i = 0} t (omega arith) (omega arith) in-n q (omega arith) (omega arith) one es
 
       pub quad-next :
           {x y : Seen}
           → Compared (pairSends (c .ports) (placesOf c) ((n + m) % 2) (quadPlace c 0 k 2) (quadPlace c 0 k 3)) (pairSent (c .ports) (placesOf c) ((n + m) % 2) (quadPlace c 0 k 2) (getD sums (4 * n + 2) nil) (getD sums (4 * n + 3) nil)) g x
-          → y ≡ bothOf s x → UnitTurn c m sums (2 * (n + 1)) g y
+          → y ≡ bothOf s x → UnitSeen c m sums (2 * (n + 1)) g y
       quad-next two ey =
           let e : 2 * n + 1 + 1 ≡ 2 * (n + 1) = omega arith in
           rw e at (half-next {p = 2 * n + 1} {n = n} {i = 1} half-done refl (omega arith) in-n q (omega arith) (omega arith) two ey)
 
-  pub unit-finish : {n : ℕ} {seen : Seen} → UnitTurn c m sums (2 * n) g seen → 3 ≤ n → Compared (phichSends c m) (unitSent c m sums) g seen
+  pub unit-finish : {n : ℕ} {seen : Seen} → UnitSeen c m sums (2 * n) g seen → 3 ≤ n → Compared (phichSends c m) (unitSent c m sums) g seen
   unfolding phichSends unitSent
-  unit-finish {n = n} t last =
-      let e : 2 * (2 * n) ≡ 12 = omega (arith, t .most, last) in
-      pairs.finish (c .ports) (placesOf c) (byQuad m) (λ (i : ℕ). getD sums i nil) (some-places c (ok .cell)) (phich-listed c (ok .cell) m (ok .unit)) (rw e at (t .compared))
+  unit-finish t last =
+      pairs.finish (c .ports) (placesOf c) (byQuad m) (λ (i : ℕ). getD sums i nil) (some-places c (ok .cell)) (phich-listed c (ok .cell) m (ok .unit)) (unit-last c m sums t last)

@@ -1,1 +1,2 @@
 pub mod Gridcount
+pub mod Framing

@@ -3,6 +3,7 @@ ghost use mathlib.Core.Path.{_≡_};
 ghost use Rattle.plan.specs.Check.{refusalNumber, checkOf};
 ghost use Rattle.plan.specs.declared.Checked.the-variants.{Plan as accepted};
 ghost use Rattle.counted.specs.Gridcount.{refusedWith, acceptedWith, countedOf, gridcountOf};
+ghost use Rattle.counted.specs.Framing.{PlanEnd};
 use base::wide;
 use plan::Checked;
 use plan::Plan;
@@ -50,15 +51,26 @@ fn with_plan(plan: &[u8], payload: &[u8]) -> Counted
     }
 }
 
+// Where the plan ends in an input of a two-byte plan length, the plan and more; 0 for an input that is cut off (refusal 1).
+pub fn plan_end(input: &[u8]) -> usize
+    ensures { λ r. ⌜ PlanEnd (now (input .entry)) r ⌝ }
+{
+    if input.len() < 2 {
+        return 0;
+    }
+    let end = 2 + (wide(input[0]) * 256 + wide(input[1]));
+    if input.len() < end {
+        return 0;
+    }
+    end
+}
+
 // The whole input: a two-byte plan length, the plan, the payload.
 pub fn gridcount(input: &[u8]) -> Counted
     ensures { λ r. ⌜ r ≡ gridcountOf (now (input .entry)) ⌝ }
 {
-    if input.len() < 2 {
-        return refused(Refusal::Unreadable);
-    }
-    let end = 2 + (wide(input[0]) * 256 + wide(input[1]));
-    if input.len() < end {
+    let end = plan_end(input);
+    if end < 2 {
         return refused(Refusal::Unreadable);
     }
     with_plan(&input[2..end], &input[end..])

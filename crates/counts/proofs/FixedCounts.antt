@@ -2,7 +2,6 @@
 -- Assumes nothing but that the plan check answers with the plan.
 use Prim.Native.Nat.{ℕ, zero, suc, _+_, _-_, _*_, _/_, _%_, _≤_, _<_}
 use mathlib.Core.Path.{_≡_, refl, ap, _∙_}
-use mathlib.Core.Logic.{inl, inr}
 use mathlib.Core.Bool.{Bool, not, _&&_}
 use mathlib.Core.List.{List}
 use native.Mathlib.Nat.{not-suc-le-zero}
@@ -11,8 +10,7 @@ use lib.Dec.{T, leb, ltb, eqb, eqb→eq}
 use borrow.Author.Tests.{ne-eqb, lt-ltb}
 use Rattle.base.proofs.Tests.{by-test}
 use Rattle.base.proofs.Computed.{allBelow, below-at}
-use Rattle.plan.specs.Lists.{Among}
-use Rattle.plan.specs.Fields.{unitsOf, portCounts}
+use Rattle.plan.specs.Fields.{unitsOf}
 use Rattle.plan.specs.Check.{checkOf}
 use Rattle.plan.specs.declared.Plan.{Plan}
 use Rattle.plan.specs.declared.Checked.the-variants.{Plan as accepted}
@@ -22,7 +20,7 @@ use Rattle.plan.specs.declared.Frame.{Frame}
 use Rattle.layout.specs.Rules.{slotLength, inSlot, crsSymbol, crsBelow, centre, inPbchArea, pbch, groupOf, inGroup, isFormat, pcfich, unitHas, phich}
 use Rattle.layout.specs.Owners.{symbols, carriers, fixedRule, owns}
 use Rattle.layout.proofs.Few.{blocks-least, sixths-most}
-use Rattle.layout.proofs.Pilot.{slot-length}
+use Rattle.layout.proofs.Pilot.{slot-length, hits}
 use Rattle.layout.proofs.Units.{units-fit}
 use Rattle.layout.specs.declared.Owner.the-variants.{Pbch, Pcfich, Phich}
 use Rattle.counts.specs.Sums.{sumTo}
@@ -30,7 +28,7 @@ use Rattle.counts.specs.Counts.{countOf}
 use Rattle.counts.specs.Users.{signals}
 use Rattle.counts.proofs.Logic.{everyWay, by-table}
 use Rattle.counts.proofs.Sums.{six, by-six, sum-same, sum-none, sum-times}
-use Rattle.counts.proofs.Signals.{hits, refs, half-left}
+use Rattle.counts.proofs.Signals.{refs, half-left}
 use Rattle.counts.proofs.Halves.{central, centre-half, twelve}
 use Rattle.counts.proofs.Groups.{four-formats, three-groups}
 
@@ -67,20 +65,20 @@ group-places c G =
     ∙ rw z (group-row (c .identity) (2 * c .blocks) G)
 
 -- ---- PBCH: what the reference signals of P ports leave of the centre in a symbol
-pub open-row : (c : Cell) (P s : ℕ) → 6 ≤ c .blocks → Among P portCounts
+pub open-row : (c : Cell) (P s : ℕ) → 6 ≤ c .blocks
     → sumTo (carriers c) (λ k. one (centre c k && not (crsBelow c P s k))) ≡ 12 * (6 - signals c P s)
-open-row c P s wide ports =
+open-row c P s wide =
     let N = c .blocks in
-    let q = refs c P s ports in
+    let q = refs c P s in
     let z : carriers c ≡ 6 * (2 * N) = omega arith in
     let v = 6 - signals c P s in
     rw z
-    (by-six (2 * N) _ (λ b r. one (central c b && not (hits (q .0) (q .1) c r)))
+    (by-six (2 * N) _ (λ b r. one (central c b && not (hits (q .u) (q .v) (q .x) r)))
     (λ b r k i j e.
     let x : k / 6 ≡ b = omega arith in
     let y : k % 6 ≡ r = omega arith in
-    rw (centre-half c k, q .2 k, x, y) refl)
-    ∙ sum-same (2 * N) _ (λ b. one (central c b) * v) (λ b i. half-left (central c b) (q .0) (q .1) c ∙ ap (λ (x : ℕ). one (central c b) * (6 - x)) (q .3))
+    rw (centre-half c k, q .held k, x, y) refl)
+    ∙ sum-same (2 * N) _ (λ b. one (central c b) * v) (λ b i. half-left (central c b) (q .u) (q .v) (q .small) ∙ ap (λ (x : ℕ). one (central c b) * (6 - x)) (q .sum))
     ∙ sum-times (2 * N) v (λ b. one (central c b)) ∙ ap (λ (x : ℕ). x * v) (twelve c wide))
 
 module _ (c : Cell) (f : Frame) (wide : 6 ≤ c .blocks) where
@@ -92,7 +90,7 @@ module _ (c : Cell) (f : Frame) (wide : 6 ≤ c .blocks) where
   unfolding pbch inPbchArea
   pbch-row s =
       by-test (inArea s)
-      (λ e. rw e (open-row c 4 s wide (inr (inr (inl refl)))))
+      (λ e. rw e (open-row c 4 s wide))
       (λ e. rw e (sum-none (carriers c) _ (λ k l. refl)))
 
   pbch-rows : sumTo (symbols c) (λ s. if inArea s then 12 * (6 - signals c 4 s) else 0) ≡ (if eqb (f .subframe) 0 then (if eqb (c .prefix) 1 then 216 else 240) else 0)

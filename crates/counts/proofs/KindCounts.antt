@@ -157,10 +157,10 @@ module _ (c : Cell) (f : Frame) (wide : 6 ≤ c .blocks) (ports : Among (c .port
     holes-row : sumTo (carriers c) (λ k. one (centre c k && crsOfFour c s k && not (crsAny c s k))) ≡ each (c .ports) s - each 4 s
     holes-row =
         away _ _ _
-        (ap (λ (x : ℕ). sumTo (carriers c) (λ k. one (centre c k && crsOfFour c s k && not (crsAny c s k))) + x) (sym (open-row c 4 s wide (inr (inr (inl refl)))))
+        (ap (λ (x : ℕ). sumTo (carriers c) (λ k. one (centre c k && crsOfFour c s k && not (crsAny c s k))) + x) (sym (open-row c 4 s wide))
         ∙ sum-add (carriers c) _ _
         ∙ sum-same (carriers c) _ (λ k. one (centre c k && not (crsAny c s k))) (λ k m. three-parts (centre c k) (crsAny c s k) (crsOfFour c s k) (skipped k))
-        ∙ open-row c (c .ports) s wide ports)
+        ∙ open-row c (c .ports) s wide)
 
     before : marks s ≡ true → area s ≡ false
     before h =

@@ -16,7 +16,6 @@ use Rattle.plan.specs.declared.Plan.{Plan}
 use Rattle.plan.specs.declared.Checked.the-variants.{Plan as accepted}
 use Rattle.plan.proofs.Valid.{valid}
 use Rattle.base.specs.Choice.{if_then_else_}
-use Rattle.layout.specs.Rules.{slotLength, marked}
 use Rattle.layout.specs.Owners.{symbols, carriers}
 use Rattle.layout.proofs.Pilot.{slot-length}
 use Rattle.counts.specs.Sums.{sumTo}
@@ -90,28 +89,9 @@ module _ (c : Cell) where
     unfolding heldElements
     held-none n m = rw (ne-eqb (f .subframe) 0 n, ne-eqb (f .subframe) 5 m) refl
 
-module _ (f : Frame) where
-  pub sync-first : f .subframe ≡ 0 → 62 ≡ syncElements f
-  unfolding syncElements marked
-  sync-first e = rw (eq-eqb (f .subframe) 0 e) refl
-
-  pub sync-sixth : (f .subframe ≡ 0 → ⊥) → f .subframe ≡ 5 → 62 ≡ syncElements f
-  unfolding syncElements marked
-  sync-sixth n e = rw (ne-eqb (f .subframe) 0 n, eq-eqb (f .subframe) 5 e) refl
-
-  pub sync-none : (f .subframe ≡ 0 → ⊥) → (f .subframe ≡ 5 → ⊥) → 0 ≡ syncElements f
-  unfolding syncElements marked
-  sync-none n m = rw (ne-eqb (f .subframe) 0 n, ne-eqb (f .subframe) 5 m) refl
-
 -- ---- the grid's places
-pub places-most : (n S : ℕ) → n ≤ 255 → S ≤ 14 → 12 * n * S ≤ 42840
+places-most : (n S : ℕ) → n ≤ 255 → S ≤ 14 → 12 * n * S ≤ 42840
 places-most n S l m = le-trans (mul-le-mul-left (12 * n) m) (let z : 12 * n * 14 ≤ 42840 = omega arith in z)
-
-pub slot-places : (c : Cell) (L : ℕ) → L ≡ slotLength c → c .blocks ≤ 255 → 12 * c .blocks * (2 * L) ≤ 42840
-slot-places c L e l = let z = slot-length c in places-most (c .blocks) (2 * L) l (omega arith)
-
-pub all-places : (c : Cell) (L : ℕ) → L ≡ slotLength c → 12 * c .blocks * (2 * L) ≡ carriers c * symbols c
-all-places c L e = ap (λ (x : ℕ). 12 * c .blocks * (2 * x)) e
 
 -- ---- the nine counts
 pub units-few : (w : List ℕ) (p : Plan) → checkOf w ≡ accepted p → (units : ℕ) → units ≡ unitsOf (p .cell) → units ≤ 1000

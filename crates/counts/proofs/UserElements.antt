@@ -35,7 +35,8 @@ use Rattle.counts.specs.Users.{signals, taken, rowElements, userElements
 use Rattle.counts.proofs.Logic.{by-table, agree, agreed}
 use Rattle.counts.proofs.Sums.{sum-same, sum-none, sum-times, by-six}
 use Rattle.layout.proofs.Fixed.{used-centre}
-use Rattle.counts.proofs.Signals.{hits, refs, half-left}
+use Rattle.layout.proofs.Pilot.{hits}
+use Rattle.counts.proofs.Signals.{Refs, refs, half-left}
 use Rattle.counts.proofs.Halves.{within, central, blocks-half, centre-half, halves-are}
 
 -- ---- which places no owner above the users has, after symbol 0
@@ -128,25 +129,25 @@ module _ (w : List ℕ) (p : Plan) (ok : Valid w p) (d : User) (i : ℕ) (li : i
       (sum-none (carriers (p .cell)) _ (λ k m. rw (lt-leb (controlSymbols (p .cell) (p .frame)) s l, and-false) refl))
 
   module _ (late : controlSymbols (p .cell) (p .frame) ≤ s) (some : 0 < s) where
-    at-place : (a b : Bool) → ((k : ℕ) → crsAny (p .cell) s k ≡ hits a b (p .cell) (k % 6)) → (h r k : ℕ) → r < 6 → k ≡ 6 * h + r
-        → one (userRule w p i s k) ≡ one (has h && not (hits a b (p .cell) r))
+    at-place : (q : Refs (p .cell) (p .cell .ports) s) (h r k : ℕ) → r < 6 → k ≡ 6 * h + r
+        → one (userRule w p i s k) ≡ one (has h && not (hits (q .u) (q .v) (q .x) r))
     unfolding userRule
-    at-place a b e h r k l z =
+    at-place q h r k l z =
         let x : k / 6 ≡ h = omega arith in
         let y : k % 6 ≡ r = omega arith in
         let n = slotOf (p .cell) s in
-        rw (has-at d (usersOf w p) i n k li, blocks-half u n k, le-leb (controlSymbols (p .cell) (p .frame)) s late, late-free (p .cell) (p .frame) s k some, e k, centre-half (p .cell) k, x, y)
-        (ap one (shuffle (within (2 * u .first) (2 * (u .first + u .count)) h) (hits a b (p .cell) r) (taken (p .cell) (p .frame) s && central (p .cell) h)))
+        rw (has-at d (usersOf w p) i n k li, blocks-half u n k, le-leb (controlSymbols (p .cell) (p .frame)) s late, late-free (p .cell) (p .frame) s k some, q .held k, centre-half (p .cell) k, x, y)
+        (ap one (shuffle (within (2 * u .first) (2 * (u .first + u .count)) h) (hits (q .u) (q .v) (q .x) r) (taken (p .cell) (p .frame) s && central (p .cell) h)))
 
     late-row : Row ≡ rowElements (p .cell) (p .frame) (u .first) (u .count) s
     unfolding rowElements
     late-row =
-        let q = refs (p .cell) (p .cell .ports) s (ok .cell .ports) in
+        let q = refs (p .cell) (p .cell .ports) s in
         let z : 12 * N ≡ 6 * (2 * N) = omega arith in
         let v = 6 - signals (p .cell) (p .cell .ports) s in
         rw (z, le-ltb s (controlSymbols (p .cell) (p .frame)) late)
-        (by-six (2 * N) _ (λ h r. one (has h && not (hits (q .0) (q .1) (p .cell) r))) (λ h r k m l e. at-place (q .0) (q .1) (q .2) h r k l e)
-        ∙ sum-same (2 * N) _ (λ h. one (has h) * v) (λ h m. half-left (has h) (q .0) (q .1) (p .cell) ∙ ap (λ (x : ℕ). one (has h) * (6 - x)) (q .3))
+        (by-six (2 * N) _ (λ h r. one (has h && not (hits (q .u) (q .v) (q .x) r))) (λ h r k m l e. at-place q h r k l e)
+        ∙ sum-same (2 * N) _ (λ h. one (has h) * v) (λ h m. half-left (has h) (q .u) (q .v) (q .small) ∙ ap (λ (x : ℕ). one (has h) * (6 - x)) (q .sum))
         ∙ sum-times (2 * N) v (λ h. one (has h))
         ∙ ap (λ (x : ℕ). x * v) (halves-are (p .cell) (u .first) (u .count) (taken (p .cell) (p .frame) s) (every-at (UserIn (p .cell)) d (usersOf w p) i (ok .users) li .last))
         ∙ mul-comm _ _)

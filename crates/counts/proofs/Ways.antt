@@ -1,31 +1,14 @@
 -- One law for each way out of the code's functions. Assumes nothing.
 use Prim.Native.Nat.{ℕ, _+_, _-_, _*_, _≤_, _<_, min, max}
-use mathlib.Core.Path.{_≡_, refl, sym, ap, _∙_}
-use mathlib.Core.Logic.{inl, inr}
-use mathlib.Core.Bool.{Bool, true, false, _&&_, _||_, and-false}
+use mathlib.Core.Path.{_≡_, refl, _∙_}
+use mathlib.Core.Bool.{Bool, true, false, _||_, and-true, and-false, or-false}
 use native.Mathlib.Omega.{arith}
 use lib.Dec.{ltb, eqb}
 use borrow.Author.Tests.{eq-eqb, ne-eqb, le-leb, lt-leb}
 use Rattle.plan.specs.declared.Cell.{Cell}
 use Rattle.plan.specs.declared.Frame.{Frame}
-use Rattle.layout.specs.Rules.{slotLength, inSlot, marked}
-use Rattle.counts.specs.Users.{signals, taken}
-use Rattle.counts.proofs.Signals.{signals-outer, signals-second, signals-other}
-
--- ---- half_places: L symbols of a slot, l the symbol's number in it
-module _ (c : Cell) (s l : ℕ) (el : l ≡ inSlot c s) where
-  pub places-first : l ≡ 0 → (x : ℕ) → x ≡ min (c .ports) 2 → 6 - x ≡ 6 - signals c (c .ports) s
-  places-first h x e = ap (λ (y : ℕ). 6 - y) (e ∙ sym (signals-outer c (c .ports) s (inl (sym el ∙ h))))
-
-  module _ (L : ℕ) (eL : L ≡ slotLength c) where
-    pub places-late : l + 3 ≡ L → (x : ℕ) → x ≡ min (c .ports) 2 → 6 - x ≡ 6 - signals c (c .ports) s
-    places-late h x e = ap (λ (y : ℕ). 6 - y) (e ∙ sym (signals-outer c (c .ports) s (inr (ap (λ (y : ℕ). y + 3) (sym el) ∙ h ∙ eL))))
-
-    pub places-other : ((l ≡ 0) → ⊥) → ((l + 3 ≡ L) → ⊥) → ((l ≡ 1) → ⊥) → 6 ≡ 6 - signals c (c .ports) s
-    places-other n0 n3 n1 = ap (λ (y : ℕ). 6 - y) (sym (signals-other c (c .ports) s (λ h. n0 (el ∙ h)) (λ h. n3 (ap (λ (y : ℕ). y + 3) el ∙ h ∙ sym eL)) (λ h. n1 (el ∙ h))))
-
-  pub places-second : l ≡ 1 → (x y : ℕ) → x ≡ max (c .ports) 2 → y ≡ min x 4 → 6 - (y - 2) ≡ 6 - signals c (c .ports) s
-  places-second h x y e d = ap (λ (z : ℕ). 6 - z) (ap (λ (z : ℕ). z - 2) (d ∙ ap (λ (z : ℕ). min z 4) e) ∙ sym (signals-second c (c .ports) s (sym el ∙ h)))
+use Rattle.layout.specs.Rules.{slotLength, marked}
+use Rattle.counts.specs.Users.{taken}
 
 -- ---- taken
 module _ (c : Cell) (f : Frame) (s L : ℕ) (eL : L ≡ slotLength c) where
@@ -40,17 +23,9 @@ module _ (c : Cell) (f : Frame) (s L : ℕ) (eL : L ≡ slotLength c) where
       pick true e = refl
       pick false e = eq-eqb (s + 2) L (omega (arith, borrow.Author.Tests.eqb-false (s + 1) L e))
 
-  pub marks-first : s < L → L ≤ s + 2 → f .subframe ≡ 0 → true ≡ taken c f s
-  unfolding taken marked
-  marks-first l m e = rw (← eL, in-marks l m, eq-eqb (f .subframe) 0 e) refl
-
-  pub marks-other : s < L → L ≤ s + 2 → (f .subframe ≡ 0 → ⊥) → eqb (f .subframe) 5 ≡ taken c f s
-  unfolding taken marked
-  marks-other l m e = rw (← eL, in-marks l m, ne-eqb (f .subframe) 0 e) (pick (eqb (f .subframe) 5))
-    where
-      pick : (t : Bool) → t ≡ (t && true || false)
-      pick true = refl
-      pick false = refl
+  pub in-centre : s < L → L ≤ s + 2 → marked f ≡ taken c f s
+  unfolding taken
+  in-centre l m = rw (← eL, in-marks l m, lt-leb L s l) (simp (and-true, and-false, or-false))
 
   pub after-first : L ≤ s → f .subframe ≡ 0 → ltb s (L + 4) ≡ taken c f s
   unfolding taken marked

@@ -3,9 +3,10 @@
 ghost use mathlib.Core.Path.{_≡_};
 ghost use Prim.Native.Nat.{ℕ, _+_, _-_, _*_, _≤_, _<_, min, max};
 ghost use mathlib.Core.Bool.{Bool};
+ghost use lib.Dec.{ltb};
+ghost use Rattle.base.specs.Choice.{one};
 ghost use Rattle.plan.specs.Check.{checkOf};
 ghost use Rattle.plan.specs.declared.Checked.the-variants.{Plan as accepted};
-ghost use Rattle.layout.specs.Owners.{symbols, carriers};
 ghost use Rattle.counts.specs.Users.{signals, taken as takenAt, centreHalves};
 ghost use Rattle.counts.specs.Shape.{rowPlaces, centrePlaces, slotShape, shapeOf, slotCount, countBy, SlotIn, ShapeIn};
 ghost use Rattle.counts.specs.Counts.{kinds, kindCount};
@@ -41,22 +42,24 @@ fn larger(a: usize, b: usize) -> usize
     if a < b { b } else { a }
 }
 
-// The places of six subcarriers in symbol s that no reference signal has: ports 0 and 1 use l = 0 and the third symbol from the
-// slot's end, ports 2 and 3 use l = 1.
+// The places of six subcarriers that the reference signals of the ports p and p + 1, of n, leave.
+fn pair_places(n: usize, p: usize) -> usize
+    requires { ⌜ p < 4 ⌝ }
+    ensures { λ r. ⌜ r ≡ 6 - (one (ltb p n) + one (ltb (p + 1) n)) ⌝ }
+{
+    6 - (base::one_below(p, n) + base::one_below(p + 1, n))
+}
+
+// The places of six subcarriers in symbol s that no reference signal has: a port that uses the symbol has one of the six.
 fn half_places(cell: Cell, s: usize) -> usize
-    requires { ⌜ s < 14 ⌝ }
     ensures { λ r. ⌜ r ≡ 6 - signals cell (cell .ports) s ⌝ }
 {
-    let n = cell.ports as usize;
-    let l = layout::in_slot(cell, s);
-    if l == 0 {
-        return 6 - smaller(n, 2);
+    let n = base::wide(cell.ports);
+    if layout::crs_uses(cell, 0, s) {
+        return pair_places(n, 0);
     }
-    if l + 3 == slot_length(cell) {
-        return 6 - smaller(n, 2);
-    }
-    if l == 1 {
-        return 6 - (smaller(larger(n, 2), 4) - 2);
+    if layout::crs_uses(cell, 2, s) {
+        return pair_places(n, 2);
     }
     6
 }
@@ -71,10 +74,7 @@ pub fn taken(cell: Cell, frame: Frame, s: usize) -> bool
         if s + 2 < length {
             return false;
         }
-        if frame.subframe == 0 {
-            return true;
-        }
-        return frame.subframe == 5;
+        return layout::is_marked(frame);
     }
     if frame.subframe == 0 {
         return s < length + 4;
@@ -98,7 +98,6 @@ fn centre_halves(cell: Cell, first: u8, count: u8) -> usize
 
 // The places of six subcarriers in symbol s that users can have: none in the control region.
 fn row_places(cell: Cell, frame: Frame, s: usize) -> usize
-    requires { ⌜ s < 14 ⌝ }
     ensures { λ r. ⌜ r ≡ rowPlaces cell frame s ⌝ }
 {
     if s < layout::control_symbols(cell, frame) {
@@ -203,16 +202,14 @@ fn crs_count(cell: Cell) -> usize
 fn sync_count(frame: Frame) -> usize
     ensures { λ r. ⌜ r ≡ syncElements frame ⌝ }
 {
-    if frame.subframe == 0 {
-        return 62;
-    }
-    if frame.subframe == 5 {
+    if layout::is_marked(frame) {
         return 62;
     }
     0
 }
 
-fn pbch_count(cell: Cell, frame: Frame) -> usize
+// PBCH's count.
+pub fn pbch_count(cell: Cell, frame: Frame) -> usize
     ensures { λ r. ⌜ r ≡ pbchElements cell frame ⌝ }
 {
     if frame.subframe == 0 {
@@ -252,13 +249,6 @@ fn held_count(cell: Cell, frame: Frame) -> usize
     0
 }
 
-// The number of the grid's places, 12N×S.
-pub fn places(cell: Cell) -> usize
-    ensures { λ r. ⌜ r ≡ carriers cell * symbols cell ⌝ }
-{
-    12 * (cell.blocks as usize) * (2 * slot_length(cell))
-}
-
 // The counts of the nine kinds, in the order of gridcount's lines; idle's is what the others leave. The caller has the plan from the
 // plan check.
 pub fn kind_counts(plan: &[u8], p: Plan) -> [usize; 9]
@@ -272,6 +262,6 @@ pub fn kind_counts(plan: &[u8], p: Plan) -> [usize; 9]
     let users = users_count(plan, p);
     let held = held_count(p.cell, p.frame);
     let owned = crs + sync + sync + pbch + 16 + phich + users + held;
-    let idle = places(p.cell) - owned;
+    let idle = layout::places(p.cell) - owned;
     [crs, sync, sync, pbch, 16, phich, users, held, idle]
 }

@@ -1,22 +1,18 @@
 -- The rows of an area: what is computed once for each. Assumes nothing.
-use Prim.Native.Nat.{ℕ, _+_, _*_, _≤_, _<_}
-use mathlib.Core.Path.{_≡_, sym, ap, ap₂, _∙_}
+use Prim.Native.Nat.{ℕ, _*_, _≤_, _<_}
+use mathlib.Core.Path.{_≡_, sym, ap, _∙_}
 use mathlib.Core.Bool.{Bool}
 use mathlib.Core.List.{List}
 use native.Mathlib.Omega.{arith}
 use Rattle.base.proofs.Rows.{row-inside}
 use Rattle.plan.specs.Valid.{CellIn}
 use Rattle.plan.proofs.Counts.{blocks-least, blocks-most}
-use Rattle.plan.specs.declared.Cell.{Cell}
-use Rattle.layout.specs.Rules.{slotLength}
 use Rattle.layout.specs.Owners.{symbols, carriers}
-use Rattle.layout.proofs.Pilot.{slot-length}
 use Rattle.places.specs.Places.{placesOf}
 use Rattle.places.proofs.Numbers.{symbols-most}
 use Rattle.areas.specs.declared.Area.{Area}
 use Rattle.areas.specs.Areas.{AreaIn}
 use Rattle.areas.specs.Masks.{Masks, centreOut, leavesRow}
-use Rattle.data.specs.declared.Row.{Row}
 use Rattle.data.specs.Rows.{RowIn}
 
 pub some : (a : Area) → CellIn (a .cell) → 0 < carriers (a .cell)
@@ -26,28 +22,13 @@ module _ (a : Area) (s : ℕ) (rows : s < a .last) (inside : a .last ≤ symbols
   pub row-number : s < 14
   row-number = omega (arith, symbols-most (a .cell))
 
-  pub row-base : (n : ℕ) → n < 256 → s * (12 * n) ≤ 42840
-  row-base n h = omega (arith, row-inside s 14 (12 * n) 0 row-number (omega arith))
-
-pub slot-fits : (slot : ℕ) (c : Cell) → slot ≡ slotLength c → slot ≤ 7
-slot-fits slot c e = omega (arith, slot-length c)
-
-pub grid-size : (slot : ℕ) (c : Cell) (n : ℕ) → slot ≡ slotLength c → n < 256 → 2 * slot * (12 * n) ≤ 45900
-grid-size slot c n e h = omega (arith, row-inside (2 * slot) 15 (12 * n) 0 (omega (arith, slot-fits slot c e)) (omega arith))
+  pub row-base : (n : ℕ) → n ≡ carriers (a .cell) → a .cell .blocks < 256 → s * n ≤ 42840
+  row-base n e h = omega (arith, row-inside s 14 n 0 row-number (omega arith))
 
 pub row-made :
-    (a : Area) (s slot n mask : ℕ) (out : Bool) → a .first ≤ s → s < a .last → slot ≡ slotLength (a .cell) → n ≡ a .cell .blocks
-    → Masks (a .cell) (a .signals) s mask → out ≡ leavesRow a s
-    → RowIn a s (record { base = s * (12 * n); places = 2 * slot * (12 * n); mask = mask; out = out })
-row-made a s slot n mask out f l e d m o =
-    record {
-      first = f;
-      last = l;
-      base = ap (λ (x : ℕ). s * (12 * x)) d;
-      places = ap₂ (λ (x y : ℕ). 2 * x * (12 * y)) e d;
-      mask = m;
-      out = o;
-    }
+    (a : Area) (s n places mask : ℕ) (out : Bool) → a .first ≤ s → s < a .last → n ≡ carriers (a .cell) → places ≡ placesOf (a .cell)
+    → Masks (a .cell) (a .signals) s mask → out ≡ leavesRow a s → RowIn a s (record { base = s * n; places = places; mask = mask; out = out })
+row-made a s n places mask out f l e d m o = record { first = f; last = l; base = ap (λ (x : ℕ). s * x) e; places = d; mask = m; out = o }
 
 pub halves-few : {a : Area} {q unit : ℕ} {g : List ℕ} → AreaIn a q unit g → (a .cell .blocks ≤ 100) × (a .to ≤ 200)
 halves-few {a} i = let h = blocks-most (a .cell) (i .cell) in (h, omega (arith, i .halves))

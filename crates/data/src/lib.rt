@@ -33,11 +33,9 @@ pub fn row_of(a: Area, s: usize) -> Row
     requires { ⌜ (a .first ≤ s) × (s < a .last) × (a .last ≤ symbols (a .cell)) ⌝ }
     ensures { λ r. ⌜ RowIn a s r ⌝ }
 {
-    let slot = layout::slot_length(a.cell);
-    let carriers = 12 * base::wide(a.cell.blocks);
     Row {
-        base: s * carriers,
-        places: 2 * slot * carriers,
+        base: s * layout::carriers(a.cell),
+        places: layout::places(a.cell),
         mask: areas::row_mask(a.cell, a.signals, s),
         out: areas::leaves_row(a, s),
     }

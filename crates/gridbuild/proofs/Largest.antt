@@ -16,7 +16,7 @@ use Rattle.plan.proofs.Valid.{valid}
 use Rattle.plan.proofs.Counts.{blocks-most, ports-most}
 use Rattle.layout.specs.Owners.{symbols}
 use Rattle.payload.specs.Payload.{gridLength}
-use Rattle.payload.proofs.Lengths.{symbols-most}
+use Rattle.layout.proofs.Pilot.{symbols-most}
 use Rattle.mapper.specs.Calls.{answerWith, numberAnswer, gridLengthOf}
 use Rattle.mapper.specs.declared.Number.{Number}
 use Rattle.mapper.specs.declared.Number.the-variants.{Is}

@@ -300,7 +300,7 @@ fn answer(plan: &[u8]) {
 }
 
 fn start(input: &[u8]) {
-    let end = words::plan_end(input);
+    let end = counted::plan_end(input);
     if end < 2 {
         return words::refused(1);
     }

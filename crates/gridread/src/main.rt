@@ -23,7 +23,7 @@ fn lend(plan: &[u8], grid: &[u8], buffer: &mut [u8])
 }
 
 fn answer(input: &[u8]) {
-    let end = words::plan_end(input);
+    let end = counted::plan_end(input);
     if end < 2 {
         words::refused(1);
         return;

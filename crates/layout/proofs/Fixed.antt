@@ -9,10 +9,10 @@ use lib.Dec.{leb, ltb, eqb}
 use borrow.Author.Tests.{eq-eqb, ne-eqb, lt-ltb, le-ltb, le-leb, eqb-true, eqb-false, ltb-true, ltb-false, leb-true, not-true}
 use Rattle.base.proofs.Tests.{clash, both, or-cases, or-left, or-right, is-not, on-if}
 use Rattle.base.specs.Choice.{if_then_else_}
-use Rattle.layout.specs.Rules.{slotLength, inSlot, standsAt, crsOf, crs, crsOfFour, crsAny, marked, middle, centre, used, pss, sss, inSyncArea, heldBySync, inPbchArea, pbch, heldByPbch, held}
+use Rattle.layout.specs.Rules.{slotLength, inSlot, crsSymbol, crsShift, standsAt, crsOf, crs, crsOfFour, crsAny, marked, middle, centre, used, pss, sss, inSyncArea, heldBySync, inPbchArea, pbch, heldByPbch, held}
 use Rattle.layout.specs.Rules.{inGroup, groupOf, isFormat, pcfich, isLeft, unitHas, phich}
 use Rattle.layout.specs.Owners.{fixedRule}
-use Rattle.layout.specs.Chain.{pilot, number, takes, groupAt, controlAt, fixedAt, isIdle}
+use Rattle.layout.specs.Chain.{pilotOf, pilot, number, takes, groupAt, controlAt, fixedAt, isIdle}
 use Rattle.plan.specs.Fields.{unitsOf}
 use Rattle.plan.specs.declared.Cell.{Cell}
 use Rattle.plan.specs.declared.Frame.{Frame}
@@ -27,14 +27,14 @@ use Rattle.layout.proofs.Units.{units-fit, unit-has, unit-at, unit-soun
 
 -- no reference signal in the last two symbols of a slot, nor in the four places of a control group
 pilot-late : (c : Cell) (s k : ℕ) → s < slotLength c → slotLength c ≤ s + 2 → pilot c s k ≡ 4
-unfolding pilot inSlot
+unfolding pilot crsSymbol inSlot
 pilot-late c s k l m =
     let L = slotLength c in
     let h = slot-length c in
     rw (lt-ltb s L l, ne-eqb s 0 (λ e. omega arith), ne-eqb (s + 3) L (λ e. omega arith), ne-eqb s 1 (λ e. omega arith)) refl
 
 pilot-quad : (c : Cell) (s k : ℕ) → s ≡ 0 → eqb (k % 3) (c .identity % 3) ≡ false → pilot c s k ≡ 4
-unfolding pilot inSlot standsAt
+unfolding pilot pilotOf crsSymbol crsShift inSlot standsAt
 pilot-quad c s k e d =
     let C = c .identity in
     let h = slot-length c in

@@ -8,7 +8,7 @@ use native.Mathlib.Nat.{not-suc-le-zero}
 use native.Mathlib.Numerals.{sub-one}
 use lib.Dec.{leb, ltb, eqb}
 use lib.ListN.{drop}
-use borrow.Author.Tests.{eq-eqb, ne-eqb, lt-ltb, le-ltb, le-leb, lt-leb, ltb-true, leb-true}
+use borrow.Author.Tests.{eq-eqb, ne-eqb, lt-ltb, le-ltb, le-leb, lt-leb, ltb-true, leb-true, eqb-true}
 use types.Run.{OneOf}
 use denote.Enum.Declared.{tagOf}
 use Rattle.base.proofs.Some.{some-in}
@@ -23,14 +23,16 @@ use Rattle.plan.specs.declared.Plan.{Plan}
 use Rattle.plan.proofs.OneOf.{not-in}
 use Rattle.plan.proofs.Listed.{and-left, and-right}
 use Rattle.plan.proofs.RowLaws.{row-next}
-use Rattle.base.specs.Choice.{one}
-use Rattle.layout.specs.Rules.{slotLength, slotOf, inSlot, middle, centre, used, marked, inSyncArea, inPbchArea, formatGroup, isFormat}
+use Rattle.base.specs.Choice.{if_then_else_, one}
+use Rattle.base.proofs.Tests.{by-test, same-test}
+use Rattle.layout.specs.Rules.{slotLength, slotOf, inSlot, crsShift, middle, centre, used, marked, inSyncArea, inPbchArea, formatGroup, isFormat}
 use Rattle.layout.specs.Owners.{controlSymbols, blocksHave}
 use Rattle.layout.specs.Chain.{pilot, number, unitAt, groupAt, controlAt, fixedAt, userFrom, isIdle, ownerAt}
 use Rattle.layout.specs.declared.Mark.the-variants.{Primary, Secondary}
 use Rattle.layout.specs.declared.Owner.{Owner}
 use Rattle.layout.specs.declared.Owner.the-variants.{Crs, Sync, Pbch, Pcfich, Phich, User as UserOf, Held, Idle}
 use Rattle.layout.proofs.Owner.{the-type}
+use Rattle.layout.proofs.Pilot.{slot-length}
 use Rattle.layout.proofs.Groups.{below, number-is}
 
 -- ---- a symbol in its slot of L symbols
@@ -42,6 +44,26 @@ module _ (c : Cell) (s L : ℕ) (eL : L ≡ slotLength c) where
   pub slot-second : L ≤ s → s - L ≡ inSlot c s
   unfolding inSlot
   slot-second l = rw (← eL, le-ltb s L l) refl
+
+-- the shift of a reference signal, by the code's tests
+pub shift-is :
+    (c : Cell) (q s : ℕ) → q < 4
+    → crsShift c q s ≡ (if ltb q 2 then (if eqb (inSlot c s) 0 then 3 * q else 3 * (1 - q)) else if ltb s (slotLength c) then 3 * (q - 2) else 3 * (q - 1))
+unfolding crsShift slotOf
+shift-is c zero s h = refl
+shift-is c (suc zero) s h = refl
+shift-is c (suc (suc zero)) s h = by-test (ltb s (slotLength c)) (λ e. rw e refl) (λ e. rw e refl)
+shift-is c (suc (suc (suc zero))) s h = by-test (ltb s (slotLength c)) (λ e. rw e refl) (λ e. rw e refl)
+shift-is c (suc (suc (suc (suc q)))) s h = absurd (omega arith)
+
+-- the third symbol from the slot's end
+pub third-is : (c : Cell) (l : ℕ) → eqb l (slotLength c - 3) ≡ eqb (l + 3) (slotLength c)
+third-is c l =
+    let L = slotLength c in
+    let big = slot-length c in
+    same-test (eqb l (L - 3)) (eqb (l + 3) L)
+    (λ e. let z : l ≡ L - 3 = eqb-true _ _ e in eq-eqb (l + 3) L (omega arith))
+    (λ e. let z : l + 3 ≡ L = eqb-true _ _ e in eq-eqb l (L - 3) (omega arith))
 
 -- ---- the centre, and the areas of the marks and of PBCH there
 module _ (c : Cell) (d k : ℕ) where

@@ -16,25 +16,19 @@ use Rattle.plan.specs.declared.Checked.{Checked}
 use Rattle.plan.specs.declared.Checked.the-variants.{Plan as accepted, Refused as refused}
 use Rattle.base.specs.Choice.{if_then_else_}
 use Rattle.base.specs.Counts.{cnt}
-use Rattle.layout.specs.Rules.{slotLength, slotOf, inSlot, standsAt, used, inSyncArea, inPbchArea, isFormat, groupsLeft, isLeft, unitNumber}
+use Rattle.layout.specs.Rules.{slotLength, slotOf, crsSymbol, crsShift, standsAt, used, inSyncArea, inPbchArea, isFormat, groupsLeft, isLeft, unitNumber}
 use Rattle.layout.specs.Owners.{controlSymbols, blocksHave}
 use Rattle.layout.specs.declared.Mark.the-variants.{Primary, Secondary}
 use Rattle.layout.specs.declared.Owner.{Owner}
 use Rattle.layout.specs.declared.Owner.the-variants.{Crs, Sync, Pbch, Pcfich, Phich, User as UserOf, Held, Idle}
 
--- the port below 4 whose reference signal a four-port cell has at the place, 4 for none
-abbrev pub pickPort : Bool → Bool → ℕ → ℕ → ℕ
-pickPort a b p q = if a then p else if b then q else 4
+-- of the ports p and p + 1 the one whose reference signal, in a symbol that both use, stands at the place, 4 for none
+unfoldable pub pilotOf : Cell → ℕ → ℕ → ℕ → ℕ
+pilotOf c p s k = if standsAt c (crsShift c p s) k then p else if standsAt c (crsShift c (p + 1) s) k then p + 1 else 4
 
+-- the port below 4 whose reference signal a four-port cell has at the place, 4 for none
 unfoldable pub pilot : Cell → ℕ → ℕ → ℕ
-pilot c s k =
-    let l = inSlot c s in
-    let a = standsAt c 0 k in
-    let b = standsAt c 3 k in
-    if eqb l 0 then pickPort a b 0 1
-    else if eqb (l + 3) (slotLength c) then pickPort b a 0 1
-    else if eqb l 1 then (if eqb (slotOf c s) 0 then pickPort a b 2 3 else pickPort b a 2 3)
-    else 4
+pilot c s k = if crsSymbol c 0 s then pilotOf c 0 s k else if crsSymbol c 2 s then pilotOf c 2 s k else 4
 
 -- a group left's number: how many groups left stand below it; and whether unit m takes number n
 abbrev pub number : Cell → ℕ → ℕ

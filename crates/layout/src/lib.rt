@@ -7,9 +7,9 @@ ghost use lib.Dec.{leb, ltb};
 ghost use Rattle.plan.specs.Check.{checkOf};
 ghost use Rattle.plan.specs.Rows.{usersFrom};
 ghost use Rattle.plan.specs.declared.Checked.the-variants.{Plan as accepted};
-ghost use Rattle.layout.specs.Rules.{slotLength, inSlot, middle, marked, inSyncArea, inPbchArea, standsAt, formatGroup, groupsLeft};
-ghost use Rattle.layout.specs.Owners.{ownerNumber, gridPlace, controlSymbols, blocksHave, ownerOf};
-ghost use Rattle.layout.specs.Chain.{pickPort, pilot, unitAt, groupAt, controlAt, fixedAt, userFrom, refusalOf};
+ghost use Rattle.layout.specs.Rules.{slotLength, inSlot, crsSymbol, crsShift, middle, marked, inSyncArea, inPbchArea, formatGroup, groupsLeft};
+ghost use Rattle.layout.specs.Owners.{ownerNumber, symbols as symbolsOf, carriers as carriersOf, gridPlace, controlSymbols, blocksHave, ownerOf};
+ghost use Rattle.layout.specs.Chain.{pilotOf, pilot, unitAt, groupAt, controlAt, fixedAt, userFrom, refusalOf};
 ghost use Rattle.layout.specs.Query.{inGrid, ownerQueryOf};
 use plan::Cell;
 use plan::Checked;
@@ -76,42 +76,87 @@ pub fn in_slot(cell: Cell, s: usize) -> usize
     if s < slot { s } else { s - slot }
 }
 
-fn stands_at(cell: Cell, v: usize, k: usize) -> bool
-    requires { ⌜ v ≤ 3 ⌝ }
-    ensures { λ r. ⌜ r ≡ standsAt cell v k ⌝ }
+// The symbols of a subframe.
+pub fn symbols(cell: Cell) -> usize
+    ensures { λ r. ⌜ (r ≡ symbolsOf cell) × (r ≤ 14) ⌝ }
 {
-    k % 6 == (v + (cell.identity as usize)) % 6
+    2 * slot_length(cell)
 }
 
-fn pick_port(a: bool, b: bool, p: usize, q: usize) -> usize
-    ensures { λ r. ⌜ r ≡ pickPort a b p q ⌝ }
+// The subcarriers.
+pub fn carriers(cell: Cell) -> usize
+    ensures { λ r. ⌜ r ≡ carriersOf cell ⌝ }
 {
-    if a {
+    12 * base::wide(cell.blocks)
+}
+
+// The places of the grid.
+pub fn places(cell: Cell) -> usize
+    ensures { λ r. ⌜ r ≡ symbolsOf cell * carriersOf cell ⌝ }
+{
+    symbols(cell) * carriers(cell)
+}
+
+// Whether the port's reference signal uses symbol s.
+pub fn crs_uses(cell: Cell, port: u8, s: usize) -> bool
+    ensures { λ r. ⌜ r ≡ crsSymbol cell port s ⌝ }
+{
+    let l = in_slot(cell, s);
+    if port < 2 {
+        return l == 0 || l == slot_length(cell) - 3;
+    }
+    l == 1
+}
+
+// The shift v of the port's reference signal in symbol s. No cell has more than four ports.
+fn crs_shift(cell: Cell, port: u8, s: usize) -> u8
+    requires { ⌜ port < 4 ⌝ }
+    ensures { λ r. ⌜ r ≡ crsShift cell port s ⌝ }
+{
+    if port < 2 {
+        if in_slot(cell, s) == 0 {
+            return 3 * port;
+        }
+        return 3 * (1 - port);
+    }
+    if s < slot_length(cell) {
+        3 * (port - 2)
+    } else {
+        3 * (port - 1)
+    }
+}
+
+// The first subcarrier of the port's reference signal in symbol s.
+pub fn crs_first(cell: Cell, port: u8, s: usize) -> usize
+    requires { ⌜ port < 4 ⌝ }
+    ensures { λ r. ⌜ r ≡ (crsShift cell port s + cell .identity) % 6 ⌝ }
+{
+    (base::wide(crs_shift(cell, port, s)) + (cell.identity as usize)) % 6
+}
+
+// Of the ports p and p + 1 the one whose reference signal, in a symbol that both use, stands at the place, 4 for none.
+fn pilot_of(cell: Cell, p: u8, s: usize, k: usize) -> u8
+    requires { ⌜ p < 3 ⌝ }
+    ensures { λ r. ⌜ r ≡ pilotOf cell p s k ⌝ }
+{
+    if k % 6 == crs_first(cell, p, s) {
         return p;
     }
-    if b { q } else { 4 }
+    if k % 6 == crs_first(cell, p + 1, s) {
+        return p + 1;
+    }
+    4
 }
 
 // The port below 4 whose reference signal a four-port cell has at the place, 4 for none.
-fn pilot_at(cell: Cell, s: usize, k: usize) -> usize
-    requires { ⌜ s < 14 ⌝ }
+fn pilot_at(cell: Cell, s: usize, k: usize) -> u8
     ensures { λ r. ⌜ r ≡ pilot cell s k ⌝ }
 {
-    let slot = slot_length(cell);
-    let l = in_slot(cell, s);
-    let a = stands_at(cell, 0, k);
-    let b = stands_at(cell, 3, k);
-    if l == 0 {
-        return pick_port(a, b, 0, 1);
+    if crs_uses(cell, 0, s) {
+        return pilot_of(cell, 0, s, k);
     }
-    if l + 3 == slot {
-        return pick_port(b, a, 0, 1);
-    }
-    if l == 1 {
-        if s < slot {
-            return pick_port(a, b, 2, 3);
-        }
-        return pick_port(b, a, 2, 3);
+    if crs_uses(cell, 2, s) {
+        return pilot_of(cell, 2, s, k);
     }
     4
 }
@@ -258,8 +303,8 @@ fn fixed_at(cell: Cell, frame: Frame, s: usize, k: usize) -> Owner
     ensures { λ r. ⌜ r ≡ fixedAt cell frame s k ⌝ }
 {
     let q = pilot_at(cell, s, k);
-    if q < (cell.ports as usize) {
-        return Owner::Crs(q as u8);
+    if q < cell.ports {
+        return Owner::Crs(q);
     }
     if s == 0 {
         return control_at(cell, k);
@@ -338,8 +383,8 @@ pub fn owner_at(plan: &[u8], p: Plan, s: usize, k: usize) -> Owner
 fn in_grid(cell: Cell, s: usize, k: usize, port: usize) -> bool
     ensures { λ r. ⌜ r ≡ inGrid cell s k port ⌝ }
 {
-    if s < 2 * slot_length(cell) {
-        if k < 12 * (cell.blocks as usize) {
+    if s < symbols(cell) {
+        if k < carriers(cell) {
             port < (cell.ports as usize)
         } else {
             false

@@ -28,8 +28,8 @@ fn number_at(plan: &[u8], p: Plan, s: usize, k: usize) -> u16
     ensures { λ r. ⌜ r ≡ shownAt (now (plan .entry)) s k ⌝ }
 {
     let cell = p.cell;
-    if s < 2 * layout::slot_length(cell) {
-        if k < 12 * (cell.blocks as usize) {
+    if s < layout::symbols(cell) {
+        if k < layout::carriers(cell) {
             return layout::owner_number(layout::owner_at(plan, p, s, k));
         }
     }

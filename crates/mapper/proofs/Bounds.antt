@@ -26,7 +26,8 @@ use Rattle.counts.specs.Counts.{kinds, kindCount}
 use Rattle.counts.proofs.AddUp.{kinds-add-up}
 use Rattle.counts.proofs.Sums.{sum-part}
 use Rattle.payload.specs.Payload.{gridLength, payloadLength, spareClear, unlessLengths, unlessBuffers}
-use Rattle.payload.proofs.Lengths.{symbols-most, grid-most, length-room, length-found}
+use Rattle.layout.proofs.Pilot.{symbols-most}
+use Rattle.payload.proofs.Lengths.{grid-most, length-room, length-found}
 use Rattle.build.specs.Build.{pdschElements, builtOf, builtAnswer}
 use Rattle.build.specs.declared.Built.{Built}
 use Rattle.build.specs.declared.Built.the-variants.{Elements as builtElements}

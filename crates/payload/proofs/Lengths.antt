@@ -1,14 +1,13 @@
 -- The lengths, as the code finds them. Assumes nothing.
 use Prim.Native.Nat.{ℕ, zero, suc, _+_, _-_, _*_, _/_, _≤_, _<_}
 use mathlib.Core.Path.{_≡_, refl, sym, ap, _∙_}
-use mathlib.Core.Bool.{Bool, true, false}
 use mathlib.Core.List.{List, [], _∷_}
 use native.Mathlib.Nat.{mul-le-mul, not-suc-le-zero}
 use native.Mathlib.Numerals.{sub-one}
 use native.Mathlib.Omega.{arith}
 use lib.Dec.{eqb, leb, leb→le}
 use lib.ListN.{length, drop}
-use borrow.Author.Tests.{eq-eqb, ne-eqb}
+use borrow.Author.Tests.{ne-eqb}
 use Rattle.plan.specs.Lists.{Every}
 use Rattle.plan.specs.Fields.{orders}
 use Rattle.plan.specs.Commands.{userOf}
@@ -24,8 +23,9 @@ use Rattle.plan.proofs.OneOf.{among-holds}
 use Rattle.plan.proofs.Valid.{valid}
 use Rattle.plan.proofs.RowLaws.{row-next, row-zero}
 use Rattle.base.specs.Choice.{if_then_else_}
-use Rattle.layout.specs.Rules.{slotLength}
+use Rattle.base.proofs.Tests.{by-test, on-if}
 use Rattle.layout.specs.Owners.{symbols}
+use Rattle.counts.specs.Kinds.{pbchElements}
 use Rattle.counts.specs.Sums.{sumOf}
 use Rattle.counts.specs.Users.{userElements, allElements}
 use Rattle.counts.specs.declared.Shape.{Shape}
@@ -37,35 +37,23 @@ use Rattle.payload.specs.Payload.{pbchBits, heads, payloadLength, usersS
 use Rattle.payload.specs.Loops.{computedBits, computedSections}
 use Rattle.payload.proofs.Sections.{length-is, users-computed}
 
--- ---- PBCH, symbols, the grid
+-- ---- PBCH, the grid
 module _ (c : Cell) (f : Frame) where
   pub pbch-none : (f .subframe ≡ 0 → ⊥) → 0 ≡ pbchBits c f
   unfolding pbchBits
   pbch-none n = rw (ne-eqb (f .subframe) 0 n) refl
 
-  pub pbch-extended : f .subframe ≡ 0 → c .prefix ≡ 1 → 432 ≡ pbchBits c f
+  pub pbch-most : pbchBits c f ≤ 480
   unfolding pbchBits
-  pbch-extended e x = rw (eq-eqb (f .subframe) 0 e, eq-eqb (c .prefix) 1 x) refl
+  pbch-most =
+      on-if (λ (n : ℕ). n ≤ 480) (eqb (f .subframe) 0)
+      (λ e. on-if (λ (n : ℕ). n ≤ 480) (eqb (c .prefix) 1) (λ d. omega arith) (λ d. omega arith))
+      (λ e. omega arith)
 
-  pub pbch-normal : f .subframe ≡ 0 → (c .prefix ≡ 1 → ⊥) → 480 ≡ pbchBits c f
-  unfolding pbchBits
-  pbch-normal e x = rw (eq-eqb (f .subframe) 0 e, ne-eqb (c .prefix) 1 x) refl
-
-pub symbols-extended : (c : Cell) → c .prefix ≡ 1 → 12 ≡ symbols c
-unfolding slotLength
-symbols-extended c x = rw (eq-eqb (c .prefix) 1 x) refl
-
-pub symbols-normal : (c : Cell) → (c .prefix ≡ 1 → ⊥) → 14 ≡ symbols c
-unfolding slotLength
-symbols-normal c x = rw (ne-eqb (c .prefix) 1 x) refl
-
-pub symbols-most : (c : Cell) → symbols c ≤ 14
-unfolding slotLength
-symbols-most c = pick (eqb (c .prefix) 1)
-  where
-    pick : (t : Bool) → 2 * (if t then 6 else 7) ≤ 14
-    pick true = omega arith
-    pick false = omega arith
+  -- two bits for each place
+  pub pbch-twice : 2 * pbchElements c f ≡ pbchBits c f
+  unfolding pbchBits pbchElements
+  pbch-twice = by-test (eqb (f .subframe) 0) (λ e. by-test (eqb (c .prefix) 1) (λ d. rw (e, d) refl) (λ d. rw (e, d) refl)) (λ e. rw e refl)
 
 pub rows-most : (n s : ℕ) → n < 256 → s ≤ 14 → 36 * n * s ≤ 128520
 rows-most n s h k = mul-le-mul {n₂ = 9180} {m₂ = 14} (omega arith) k
@@ -122,15 +110,6 @@ module _ (p : Plan) (a : ℕ) (ea : a ≡ pbchBits (p .cell) (p .frame)) where
   pub start-is : (x y : ℕ) → x ≡ sectionBytes a → y ≡ sectionBytes (p .his .count) → x + y ≡ usersStart p
   unfolding usersStart heads bytesOf
   start-is x y ex ey = rw (← ea) (omega arith)
-
-pbch-most : (c : Cell) (f : Frame) → pbchBits c f ≤ 480
-unfolding pbchBits
-pbch-most c f = pick (eqb (f .subframe) 0) (eqb (c .prefix) 1)
-  where
-    pick : (t u : Bool) → (if t then (if u then 432 else 480) else 0) ≤ 480
-    pick true true = omega arith
-    pick true false = omega arith
-    pick false u = omega arith
 
 start-most : (w : List ℕ) (p : Plan) → Valid w p → usersStart p ≤ 61 + length w / 24
 unfolding usersStart heads bytesOf

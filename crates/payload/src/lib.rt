@@ -5,7 +5,6 @@ ghost use lib.ListN.{length, drop};
 ghost use Rattle.plan.specs.Check.{checkOf};
 ghost use Rattle.plan.specs.Rows.{usersFrom};
 ghost use Rattle.plan.specs.declared.Checked.the-variants.{Plan as accepted};
-ghost use Rattle.layout.specs.Owners.{symbols};
 ghost use Rattle.counts.specs.Shape.{countBy, ShapeIn};
 ghost use Rattle.payload.specs.Sections.{sectionBytes, bytesOf, spareAt, sparesFrom};
 ghost use Rattle.payload.specs.Payload.{pbchBits, heads, payloadLength, usersStart, gridLength, noneSet, spareClear};
@@ -28,14 +27,11 @@ pub fn section_bytes(bits: usize) -> usize
     bits / 8 + (bits % 8 + 7) / 8
 }
 
-// The bits of the PBCH section: 0 where the subframe has none.
+// The bits of the PBCH section, two for each place: 0 where the subframe has none.
 pub fn pbch_bits(c: Cell, f: Frame) -> usize
     ensures { λ r. ⌜ r ≡ pbchBits c f ⌝ }
 {
-    if f.subframe != 0 {
-        return 0;
-    }
-    if c.prefix == 1 { 432 } else { 480 }
+    2 * counts::pbch_count(c, f)
 }
 
 // The bits of a user's section. Whoever calls has the shape from shape_of.
@@ -46,19 +42,12 @@ pub fn user_bits(c: Cell, shape: Shape, u: User) -> usize
     wide(u.order) * user_count(c, shape, u)
 }
 
-// The symbols of a subframe.
-fn symbols_of(c: Cell) -> usize
-    ensures { λ r. ⌜ r ≡ symbols c ⌝ }
-{
-    if c.prefix == 1 { 12 } else { 14 }
-}
-
 // The bytes of a plan's grid.
 pub fn grid_length(p: Plan) -> usize
     ensures { λ r. ⌜ r ≡ gridLength p ⌝ }
 {
     let c = p.cell;
-    36 * wide(c.blocks) * symbols_of(c) * wide(c.ports)
+    36 * wide(c.blocks) * layout::symbols(c) * wide(c.ports)
 }
 
 // The byte at which the first user's section starts.

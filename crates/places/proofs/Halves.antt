@@ -1,12 +1,11 @@
 -- Half blocks: which of six subcarriers of a row an owner has. Assumes a control region of one symbol or more.
 use Prim.Native.Nat.{ℕ, zero, suc, _+_, _*_, _%_, _≤_, _<_}
-use mathlib.Core.Path.{_≡_, refl, ap, ap₂, _∙_}
-use mathlib.Core.Logic.{_⊎_, inl, inr}
-use mathlib.Core.Bool.{Bool, true, false, not, _&&_, _||_, and-false, or-false}
+use mathlib.Core.Path.{_≡_, refl, ap₂, _∙_}
+use mathlib.Core.Bool.{Bool, true, false, not, _&&_, and-false}
 use mathlib.Core.List.{List, [], _∷_}
 use native.Mathlib.Omega.{arith}
-use lib.Dec.{leb, ltb, eqb}
-use borrow.Author.Tests.{le-leb, ne-eqb, leb-true, eqb-true}
+use lib.Dec.{leb}
+use borrow.Author.Tests.{le-leb, leb-true}
 use Rattle.base.proofs.Tests.{by-test, same-test}
 use Rattle.plan.specs.Check.{checkOf}
 use Rattle.plan.specs.Rows.{usersOf}
@@ -16,10 +15,9 @@ use Rattle.plan.specs.declared.User.{User}
 use Rattle.plan.specs.declared.Plan.{Plan}
 use Rattle.plan.specs.declared.Checked.the-variants.{Plan as accepted}
 use Rattle.plan.proofs.Valid.{valid}
-use Rattle.layout.specs.Rules.{slotLength, slotOf, inSlot, crsSymbol, crsShift, standsAt, crsOf, crsBelow, crsAny, middle, centre, inSyncArea, inPbchArea, pbch}
+use Rattle.layout.specs.Rules.{slotOf, standsAt, crsOf, crsBelow, crsAny, middle, centre, inSyncArea, inPbchArea, pbch}
 use Rattle.layout.specs.Owners.{controlSymbols, blocksHave, userHas, userRule, free, fixedRule, owns}
 use Rattle.layout.specs.declared.Owner.the-variants.{Pbch, User as UserOf}
-use Rattle.layout.proofs.Pilot.{slot-length}
 use Rattle.counts.proofs.UserElements.{area-free}
 use Rattle.places.specs.Halves.{without, openPlace, openOfFour, inPbch, takenHalf, openTo}
 
@@ -63,60 +61,6 @@ module _ (b r : ℕ) (in-r : r < 6) where
 
   below-six : (c : Cell) (P s : ℕ) → crsBelow c P s (6 * b + r) ≡ crsBelow c P s r
   below-six c P s = below-same c P s (6 * b + r) r (omega arith)
-
--- ---- which of six have no reference signal of the ports below P
-first-two : (p q a b c d : Bool) → not (p && a || q && b || c && false || d && false) ≡ not (p && a || q && b)
-first-two p q a b c d = simp (and-false, or-false)
-
-last-two : (p q a b c d : Bool) → not (c && false || d && false || p && a || q && b) ≡ not (p && a || q && b)
-last-two p q a b c d = simp and-false
-
-no-one : (a b c d : Bool) → not (a && false || b && false || c && false || d && false) ≡ true
-no-one a b c d = simp and-false
-
-module _ (c : Cell) (P s : ℕ) where
-  abbrev l : ℕ
-  l = inSlot c s
-
-  abbrev L : ℕ
-  L = slotLength c
-
-  abbrev v : ℕ → ℕ
-  v p = (crsShift c p s + c .identity) % 6
-
-  first-turn : v 1 ≡ (v 0 + 3) % 6
-  unfolding crsShift
-  first-turn = by-test (eqb l 0) (λ e. rw e (omega arith)) (λ e. rw e (omega arith))
-
-  last-turn : v 3 ≡ (v 2 + 3) % 6
-  unfolding crsShift
-  last-turn = omega arith
-
-  pub first-at :
-      eqb l 0 || eqb (l + 3) L ≡ true → eqb l 1 ≡ false → (r : ℕ)
-      → without c P s r ≡ not (ltb 0 P && eqb (r % 6) (v 0) || ltb 1 P && eqb (r % 6) ((v 0 + 3) % 6))
-  unfolding without crsBelow crsOf crsSymbol standsAt
-  first-at e d r =
-      rw (e, d)
-      (first-two (ltb 0 P) (ltb 1 P) (eqb (r % 6) (v 0)) (eqb (r % 6) (v 1)) (ltb 2 P) (ltb 3 P)
-      ∙ ap (λ (x : ℕ). not (ltb 0 P && eqb (r % 6) (v 0) || ltb 1 P && eqb (r % 6) x)) first-turn)
-
-  pub last-at :
-      eqb l 0 || eqb (l + 3) L ≡ false → eqb l 1 ≡ true → (r : ℕ)
-      → without c P s r ≡ not (ltb 2 P && eqb (r % 6) (v 2) || ltb 3 P && eqb (r % 6) ((v 2 + 3) % 6))
-  unfolding without crsBelow crsOf crsSymbol standsAt
-  last-at e d r =
-      rw (e, d)
-      (last-two (ltb 2 P) (ltb 3 P) (eqb (r % 6) (v 2)) (eqb (r % 6) (v 3)) (ltb 0 P) (ltb 1 P)
-      ∙ ap (λ (x : ℕ). not (ltb 2 P && eqb (r % 6) (v 2) || ltb 3 P && eqb (r % 6) x)) last-turn)
-
-  pub none-at : eqb l 0 || eqb (l + 3) L ≡ false → eqb l 1 ≡ false → (r : ℕ) → without c P s r ≡ true
-  unfolding without crsBelow crsOf crsSymbol standsAt
-  none-at e d r = rw (e, d) (no-one (ltb 0 P) (ltb 1 P) (ltb 2 P) (ltb 3 P))
-
-  pub not-second : (eqb l 0 ≡ true) ⊎ (eqb (l + 3) L ≡ true) → eqb l 1 ≡ false
-  not-second (inl e) = let z : l ≡ 0 = eqb-true l 0 e in ne-eqb l 1 (λ d. omega arith)
-  not-second (inr e) = let z : l + 3 ≡ L = eqb-true (l + 3) L e in ne-eqb l 1 (λ d. omega (arith, slot-length c))
 
 -- ---- an owner's places in a half block
 order : (x n t : Bool) → x && true && (n && t) ≡ x && true && t && n

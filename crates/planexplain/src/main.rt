@@ -281,7 +281,7 @@ fn main() {
     let mut buffer = [0u8; 65537];
     let n = io::read_full(0, &mut buffer);
     let input = &buffer[..n];
-    let end = words::plan_end(input);
+    let end = counted::plan_end(input);
     if end < 2 {
         cut_off(n);
         return;

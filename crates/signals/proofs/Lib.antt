@@ -4,5 +4,4 @@ pub mod Stretches
 pub mod Values
 mod Turns
 pub mod Numbers
-mod Shifts
 pub mod SignalOwners

@@ -36,21 +36,21 @@ use Rattle.signals.specs.Rows.{MarkIn, SignalIn, everySixth, pairSent, i
 use Rattle.signals.proofs.Stretches.{sixth-is, sixth-of, row-is as in-row, row-of}
 
 -- ---- the first element of a symbol
-pub rows-most : (q L s : ℕ) → q < 256 → L ≤ 7 → s < 14 → q * (2 * L) + s ≤ 3583
-rows-most q L s a b d = let h : q * (2 * L) ≤ 255 * 14 = mul-le-mul {n₁ = q} {m₁ = 2 * L} {n₂ = 255} {m₂ = 14} (omega arith) (omega arith) in omega arith
+pub rows-most : (q S s : ℕ) → q < 256 → S ≤ 14 → s < 14 → q * S + s ≤ 3583
+rows-most q S s a b d = let h : q * S ≤ 255 * 14 = mul-le-mul {n₁ = q} {m₁ = S} {n₂ = 255} {m₂ = 14} (omega arith) b in omega arith
 
 pub row-most : (x y : ℕ) → x ≤ 3583 → y ≤ 3060 → x * y ≤ 10963980
 row-most x y a b = mul-le-mul {n₁ = x} {m₁ = y} {n₂ = 3583} {m₂ = 3060} a b
 
-pub row-is : (c : Cell) (s q : ℕ) {x L N : ℕ} → x ≡ q → L ≡ slotLength c → N ≡ c .blocks → (x * (2 * L) + s) * (12 * N) ≡ q * placesOf c + s * carriers c
-row-is c s q {x} {L} {N} ex eL eN =
-    (λ i. (ex i * (2 * eL i) + s) * (12 * eN i))
+pub row-is : (c : Cell) (s q : ℕ) {x S W : ℕ} → x ≡ q → S ≡ symbols c → W ≡ carriers c → (x * S + s) * W ≡ q * placesOf c + s * carriers c
+row-is c s q ex eS eW =
+    (λ i. (ex i * eS i + s) * eW i)
     ∙ add-mul (q * symbols c) s (carriers c)
     ∙ ap (λ (z : ℕ). z + s * carriers c) (mul-assoc q (symbols c) (carriers c))
 
 pub row-at-most : (c : Cell) (s q : ℕ) → c .blocks < 256 → q < 256 → s < 14 → q * placesOf c + s * carriers c ≤ 10963980
 row-at-most c s q n l m =
-    let h = rows-most q (slotLength c) s l (omega (arith, slot-length c)) m in
+    let h = rows-most q (symbols c) s l (omega (arith, slot-length c)) m in
     omega (arith, row-is c s q refl refl refl, row-most (q * symbols c + s) (carriers c) h (omega arith))
 
 -- the first element of a mark

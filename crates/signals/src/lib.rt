@@ -6,11 +6,11 @@ use plan::Cell;
 use plan::Frame;
 use sync::Sss;
 ghost use mathlib.Core.Path.{_≡_};
-ghost use Prim.Native.Nat.{_+_, _-_, _*_, _%_, _≤_, _<_};
+ghost use Prim.Native.Nat.{_+_, _-_, _*_, _≤_, _<_};
 ghost use lib.ListN.{length};
 ghost use Rattle.gold.specs.Steps.{after};
 ghost use Rattle.plan.specs.Valid.{CellIn};
-ghost use Rattle.layout.specs.Rules.{slotLength, slotOf, crsShift};
+ghost use Rattle.layout.specs.Rules.{slotLength};
 ghost use Rattle.layout.specs.Owners.{carriers};
 ghost use Rattle.places.specs.Places.{placesOf};
 ghost use Rattle.grid.specs.Writing.{Written};
@@ -22,38 +22,8 @@ pub fn row_at(cell: Cell, s: usize, port: u8) -> usize
     requires { ⌜ s < 14 ⌝ }
     ensures { λ r. ⌜ r ≡ port * placesOf cell + s * carriers cell ⌝ }
 {
-    let rows = base::wide(port) * (2 * layout::slot_length(cell)) + s;
-    rows * (12 * base::wide(cell.blocks))
-}
-
-// 0 for the first slot, 1 for the second.
-fn slot_number(cell: Cell, s: usize) -> usize
-    ensures { λ r. ⌜ (r ≡ slotOf cell s) × (r ≤ 1) ⌝ }
-{
-    if s < layout::slot_length(cell) { 0 } else { 1 }
-}
-
-// The shift v of a port's reference signal in symbol s. No cell has more than four ports.
-fn shift(cell: Cell, port: usize, s: usize) -> usize
-    requires { ⌜ port < 4 ⌝ }
-    ensures { λ r. ⌜ (r ≡ crsShift cell port s) × (r ≤ 6) ⌝ }
-{
-    if port < 2 {
-        if layout::in_slot(cell, s) == 0 {
-            return 3 * port;
-        }
-        return 3 * (1 - port);
-    }
-    3 * (port - 2 + slot_number(cell, s))
-}
-
-// The first subcarrier of a port's reference signal in symbol s.
-pub fn first_carrier(cell: Cell, s: usize, port: u8) -> usize
-    requires { ⌜ port < 4 ⌝ }
-    ensures { λ r. ⌜ r ≡ (crsShift cell port s + cell .identity) % 6 ⌝ }
-{
-    let v = shift(cell, base::wide(port), s);
-    (v + (cell.identity as usize)) % 6
+    let rows = base::wide(port) * layout::symbols(cell) + s;
+    rows * layout::carriers(cell)
 }
 
 // The n values of a word of 2n bits, at every sixth element. Callers take n from `at_once`, and the last element lies in the grid.
@@ -101,7 +71,7 @@ pub fn fill_crs(r: Registers, cell: Cell, s: usize, port: u8, grid: &mut [u8]) -
     requires { ⌜ SignalIn cell s port (now grid) ⌝ }
     ensures { λ result. ⌜ Written (crsSends cell s port) (crsSent cell r) (now (grid .entry)) (now (grid .exit)) × (result ≡ after r (4 * cell .blocks)) ⌝ }
 {
-    let first = row_at(cell, s, port) + first_carrier(cell, s, port);
+    let first = row_at(cell, s, port) + layout::crs_first(cell, port, s);
     fill_values(r, 2 * base::wide(cell.blocks), first, grid)
 }
 

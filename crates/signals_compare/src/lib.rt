@@ -69,7 +69,7 @@ pub fn compare_crs(r: Registers, cell: Cell, s: usize, port: u8, grid: &[u8]) ->
     requires { ⌜ SignalIn cell s port (now grid) ⌝ }
     ensures { λ seen. ⌜ Compared (crsSends cell s port) (crsSent cell r) (now (grid .entry)) seen ⌝ }
 {
-    let first = signals::row_at(cell, s, port) + signals::first_carrier(cell, s, port);
+    let first = signals::row_at(cell, s, port) + layout::crs_first(cell, port, s);
     compare_values(r, 2 * base::wide(cell.blocks), first, grid)
 }
 

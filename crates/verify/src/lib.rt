@@ -23,7 +23,7 @@ fn see_crs_row(plan: &[u8], p: Plan, s: u8, grid: &[u8]) -> Seen
     let mut seen = Seen::Weight(0);
     let mut q: u8 = 0;
     while q < p.cell.ports {
-        if build::uses(p.cell, q, s) {
+        if layout::crs_uses(p.cell, q, base::wide(s)) {
             let r = channels::started(p, Channel::Crs(s, q));
             seen = both(
                 seen,

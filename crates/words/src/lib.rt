@@ -1,8 +1,6 @@
-// What the programs for engineers share: refusals in words, and where the plan of an input ends.
+// What the programs for engineers share: refusals in words.
 use libc::STDERR_FILENO;
 use libc::STDOUT_FILENO;
-ghost use Prim.Native.Nat.{_≤_, _<_};
-ghost use lib.ListN.{length};
 
 fn say(fd: i32, sentence: &[u8]) {
     io::write_all(fd, sentence);
@@ -45,25 +43,4 @@ pub fn output(bytes: &[u8]) {
     if !io::write_all(STDOUT_FILENO, bytes) {
         say(STDERR_FILENO, b"standard output is cut off\n");
     }
-}
-
-// A big-endian number of two bytes.
-fn two_bytes(high: u8, low: u8) -> usize
-    ensures { λ r. ⌜ r < 65536 ⌝ }
-{
-    high as usize * 256 + low as usize
-}
-
-// Where the plan ends in an input of a two-byte plan length, the plan and more; 0 for an input that is cut off (refusal 1).
-pub fn plan_end(input: &[u8]) -> usize
-    ensures { λ r. ⌜ r ≤ length (now (input .entry)) ⌝ }
-{
-    if input.len() < 2 {
-        return 0;
-    }
-    let end = 2 + two_bytes(input[0], input[1]);
-    if input.len() < end {
-        return 0;
-    }
-    end
 }

@@ -1,9 +1,7 @@
 -- A user's area is the one that the specs name.
-use native.Mathlib.Omega.{arith}
 use Rattle.areas.proofs.Made.{user-made}
 use borrow.Author.Needs.{needs}
 use Rattle.areas.proofs.user_area.Statement.{statement}
-use Rattle.layout.proofs.Pilot.{slot-length}
 use Rattle.areas.proofs.user_area.Tie as tie
 
 wide-requires : tie.Need-wide-requires
@@ -15,28 +13,24 @@ wide-requires-2 c κs = search needs
 control-symbols-requires : tie.Need-control-symbols-requires
 control-symbols-requires c κs = search needs
 
-slot-length-requires : tie.Need-slot-length-requires
-slot-length-requires c κs = search needs
+symbols-requires : tie.Need-symbols-requires
+symbols-requires c κs = search needs
 
 mul-t8 : tie.Need-mul-t8
-mul-t8 c = omega (arith, c .slot-length .ensures, slot-length (c .before .before .before .before .args .cell))
+mul-t8 c = search needs
 
-mul-t9 : tie.Need-mul-t9
-mul-t9 c = search needs
+add-t9 : tie.Need-add-t9
+add-t9 c = search needs
 
-add-t10 : tie.Need-add-t10
-add-t10 c = search needs
-
-mul-t11 : tie.Need-mul-t11
-mul-t11 c = search needs
+mul-t10 : tie.Need-mul-t10
+mul-t10 c = search needs
 
 returns : tie.Need-returns
 returns c =
+    let a = c .before .before .before .before .args in
     let c2 = c .before .before in
     let c3 = c .before .before .before in
-    let c4 = c .before .before .before .before in
-    user-made (c4 .args .cell) (c4 .args .frame) (c .slot-length .result) (c .slot-length .ensures) (c4 .args .u) (c .before .control-symbols .result)
-    (c3 .wide .result) (c2 .wide2 .result) (c .before .control-symbols .ensures) (c3 .wide .ensures) (c2 .wide2 .ensures)
+    user-made (a .cell) (a .frame) (c .symbols .ensures .0) (a .u) _ _ _ (c .before .control-symbols .ensures) (c3 .wide .ensures) (c2 .wide2 .ensures)
 
 pub user-area-spec : {M : Type 1} → statement M
 user-area-spec =
@@ -45,9 +39,8 @@ user-area-spec =
     wide-requires
     wide-requires-2
     control-symbols-requires
-    slot-length-requires
+    symbols-requires
     mul-t8
-    mul-t9
-    add-t10
-    mul-t11
+    add-t9
+    mul-t10
     returns)

@@ -1,8 +1,9 @@
 -- `build::fill_crs_row` meets its contract: port after port. Assumes nothing.
 use Prim.Native.Nat.{_-_, _≤_}
-use mathlib.Core.Path.{sym, _∙_}
+use mathlib.Core.Path.{sym, ap, _∙_}
 use mathlib.Core.Logic.{⊎-elim}
 use native.Mathlib.Omega.{arith}
+use Rattle.layout.specs.Rules.{crsSymbol}
 use Rattle.grid.specs.Writing.{Written}
 use Rattle.subframe.specs.Grid.{elementNumbered}
 use Rattle.build.specs.Senders.{crsPorts}
@@ -19,35 +20,39 @@ abbrev μ-loop : tie.MeasureT-loop
 loop-holds : tie.Need-loop-holds Inv-loop μ-loop
 loop-holds c = (omega arith, crs-none (c .before .before .before .pre .0) (c .before .before .before .args .s))
 
-uses-requires : tie.Need-uses-requires Inv-loop μ-loop
-uses-requires c κs = tt
+wide-requires : tie.Need-wide-requires Inv-loop μ-loop
+wide-requires c κs = tt
+
+crs-uses-requires : tie.Need-crs-uses-requires Inv-loop μ-loop
+crs-uses-requires c κs = tt
 
 map-requires : tie.Need-map-requires Inv-loop μ-loop
 map-requires c κs =
-    let a = c .before .before .before in
+    let a = c .before .before .before .before in
     let b = a .before .before in
     let d = b .before .before .before .before in
     crs-in (d .pre .0) (b .loop .inv .1 .size) _ _ (d .pre .1) (a .if1 .taken)
 
 add-q : tie.Need-add-q Inv-loop μ-loop
 add-q c =
-    let a = c .before .before in
+    let a = c .before .before .before in
     let b = a .before .before .before .before .before .before in
     omega (arith, a .if1 .taken, b .pre .0 .room .most)
 
 loop-less : tie.Need-loop-less Inv-loop μ-loop
-loop-less c = omega (arith, c .before .before .if1 .taken)
+loop-less c = omega (arith, c .before .before .before .if1 .taken)
 
 loop-again : tie.Need-loop-again Inv-loop μ-loop
 loop-again c =
     let a = c .before in
-    let b = a .before in
+    let b = a .before .before in
     let d = b .before .before in
-    let e = d .before .before .before .before in (
+    let e = d .before .before .before .before in
+    let u = a .crs-uses .ensures ∙ ap (crsSymbol (e .args .p .cell) (d .loop .q)) (a .before .wide .ensures) in (
       omega (arith, b .if1 .taken),
       ⊎-elim
-          (λ x. rw (x .5) (crs-more (e .pre .0) (e .args .s) (d .loop .q) (d .loop .inv .1) (e .args .payload .now) (sym (a .uses .ensures) ∙ x .0 .taken) (b .if1 .taken) (x .2 .ensures)))
-          (λ x. rw (x .1) (crs-pass (e .pre .0) (e .args .s) (d .loop .q) (d .loop .inv .1) (sym (a .uses .ensures) ∙ x .0 .left)))
+          (λ x. rw (x .5) (crs-more (e .pre .0) (e .args .s) (d .loop .q) (d .loop .inv .1) (e .args .payload .now) (sym u ∙ x .0 .taken) (b .if1 .taken) (x .2 .ensures)))
+          (λ x. rw (x .1) (crs-pass (e .pre .0) (e .args .s) (d .loop .q) (d .loop .inv .1) (sym u ∙ x .0 .left)))
           (c .if2 .came),
     )
 
@@ -67,7 +72,8 @@ fill-crs-row-spec =
     Inv-loop
     μ-loop
     loop-holds
-    uses-requires
+    wide-requires
+    crs-uses-requires
     map-requires
     add-q
     loop-less

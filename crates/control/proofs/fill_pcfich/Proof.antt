@@ -5,12 +5,12 @@ use mathlib.Core.Path.{refl}
 use lib.Bits.{bitXor}
 use Rattle.control.proofs.Listings.{six}
 use Rattle.control.proofs.Words.{scrambled-word}
-use Rattle.control.proofs.Turns.{FormatTurn, format-start, format-pair, format-next, format-finish}
+use Rattle.control.proofs.Turns.{FormatFilled, format-start, format-pair, format-next, format-finish}
 use Rattle.control.proofs.fill_pcfich.Statement.{statement}
 use Rattle.control.proofs.fill_pcfich.Tie as tie
 
 abbrev Inv-loop : tie.InvT-loop
-Inv-loop cell cfi grid₀ s₀ n₀ grid s n = FormatTurn cell cfi s₀ s n grid₀ grid
+Inv-loop cell cfi grid₀ s₀ n₀ grid s n = FormatFilled cell cfi s₀ s n grid₀ grid
 
 abbrev μ-loop : tie.MeasureT-loop
 μ-loop cell cfi grid₀ s₀ n₀ grid s n = 8 - n
@@ -65,7 +65,7 @@ loop-again c =
     format-next (s .args .cell) (s .args .cfi) (s .args .r) (s .args .grid .now) (s .pre) (l .inv) (c .before .before .before .before .before .before .before .before .before .before .loop-test .taken) (bitXor (u .result) (v .result)) w (c .before .before .before .before .before .format-group .ensures) (c .before .before .before .before .before .before .before .symbol .ensures) (c .before .before .before .before .before .before .symbol2 .ensures) (c .before .before .before .put-pair .ensures) (c .advance .ensures)
 
 same-length : tie.Need-same-length Inv-loop μ-loop
-same-length c = c .before .loop .inv .written .size
+same-length c = c .before .loop .inv .done .size
 
 returns : tie.Need-returns Inv-loop μ-loop
 returns c =

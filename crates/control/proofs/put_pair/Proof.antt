@@ -6,8 +6,8 @@ use borrow.Author.Needs.{needs}
 use Rattle.control.proofs.put_pair.Statement.{statement}
 use Rattle.control.proofs.put_pair.Tie as tie
 
-places-of-requires : tie.Need-places-of-requires
-places-of-requires c κs = search needs
+places-requires : tie.Need-places-requires
+places-requires c κs = search needs
 
 mul-quad-place : tie.Need-mul-quad-place
 mul-quad-place c = omega (arith, c .before .before .pre .half)
@@ -16,7 +16,7 @@ quad-place-requires : tie.Need-quad-place-requires
 quad-place-requires c κs = (c .before .before .pre .group, omega (arith, c .before .before .pre .half))
 
 put-place-requires : tie.Need-put-place-requires
-put-place-requires c κs = first-ok (c .before .before .before .before .pre) (c .before .before .places-of .ensures) (c .before .quad-place .ensures)
+put-place-requires c κs = first-ok (c .before .before .before .before .pre) (c .before .before .places .ensures) (c .before .quad-place .ensures)
 
 mul-quad-place-2 : tie.Need-mul-quad-place-2
 mul-quad-place-2 c = omega (arith, c .before .before .before .before .before .before .before .pre .half)
@@ -30,7 +30,7 @@ quad-place-requires-2 c κs = (c .before .before .before .before .before .before
 put-place-requires-2 : tie.Need-put-place-requires-2
 put-place-requires-2 c κs =
     let s = c .before .before .before .before .before .before .before .before .before in
-    second-ok (s .pre) (s .args .turn) (c .before .before .before .before .before .before .before .places-of .ensures) (c .before .before .before .before .before .before .quad-place .ensures) (c .before .before .before .before .put-place .ensures) (c .before .quad-place2 .ensures)
+    second-ok (s .pre) (s .args .turn) (c .before .before .before .before .before .before .before .places .ensures) (c .before .before .before .before .before .before .quad-place .ensures) (c .before .before .before .before .put-place .ensures) (c .before .quad-place2 .ensures)
 
 same-length : tie.Need-same-length
 same-length c = c .before .before .put-place2 .ensures .size ∙ c .before .before .before .before .before .before .before .put-place .ensures .size
@@ -38,13 +38,13 @@ same-length c = c .before .before .put-place2 .ensures .size ∙ c .before .befo
 returns : tie.Need-returns
 returns c =
     let s = c .before .before .before .before .before .before .before .before .before .before .before .before in
-    both (s .pre) (s .args .turn) (c .before .before .before .before .before .before .before .before .before .before .places-of .ensures) (c .before .before .before .before .before .before .before .before .before .quad-place .ensures) (c .before .before .before .before .before .before .before .put-place .ensures) (c .before .before .before .before .quad-place2 .ensures) (c .before .before .put-place2 .ensures)
+    both (s .pre) (s .args .turn) (c .before .before .before .before .before .before .before .before .before .before .places .ensures) (c .before .before .before .before .before .before .before .before .before .quad-place .ensures) (c .before .before .before .before .before .before .before .put-place .ensures) (c .before .before .before .before .quad-place2 .ensures) (c .before .before .put-place2 .ensures)
 
 pub put-pair-spec : {M : Type 1} → statement M
 put-pair-spec =
     tie.close
     (tie.spec
-    places-of-requires
+    places-requires
     mul-quad-place
     quad-place-requires
     put-place-requires

@@ -2,12 +2,12 @@
 use Prim.Native.Nat.{_-_, _*_}
 use native.Mathlib.Omega.{arith}
 use Rattle.control.proofs.Listings.{six, unit-few}
-use Rattle.control.proofs.Turns.{UnitTurn, unit-start, first-in, second-in, quad-next, unit-finish}
+use Rattle.control.proofs.Turns.{UnitFilled, unit-start, first-in, second-in, quad-next, unit-finish}
 use Rattle.control.proofs.put_unit.Statement.{statement}
 use Rattle.control.proofs.put_unit.Tie as tie
 
 abbrev Inv-loop : tie.InvT-loop
-Inv-loop cell m grid₀ sums n₀ grid n = UnitTurn cell m sums (2 * n) grid₀ grid
+Inv-loop cell m grid₀ sums n₀ grid n = UnitFilled cell m sums (2 * n) grid₀ grid
 
 abbrev μ-loop : tie.MeasureT-loop
 μ-loop cell m grid₀ sums n₀ grid n = 3 - n
@@ -121,7 +121,7 @@ loop-again c =
     .put-pair2 .ensures)
 
 same-length : tie.Need-same-length Inv-loop μ-loop
-same-length c = c .before .loop .inv .written .size
+same-length c = c .before .loop .inv .done .size
 
 returns : tie.Need-returns Inv-loop μ-loop
 returns c =

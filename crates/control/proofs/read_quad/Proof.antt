@@ -33,13 +33,13 @@ own-port-requires c κs = search needs
 wide-requires : tie.Need-wide-requires Inv-loop μ-loop
 wide-requires c κs = tt
 
-places-of-requires : tie.Need-places-of-requires Inv-loop μ-loop
-places-of-requires c κs = tt
+places-requires : tie.Need-places-requires Inv-loop μ-loop
+places-requires c κs = tt
 
 mul-own : tie.Need-mul-own Inv-loop μ-loop
 mul-own c =
     let f = element-fits (c .before .before .before .before .before .pre .0) {i = 0} (omega arith) (c .before .before .before .unit-group .ensures)
-    refl (c .before .before .own-port .ensures) (c .before .wide .ensures) (c .places-of .ensures) in
+    refl (c .before .before .own-port .ensures) (c .before .wide .ensures) (c .places .ensures) in
     omega (arith, f .0)
 
 loop-holds : tie.Need-loop-holds Inv-loop μ-loop
@@ -56,14 +56,14 @@ add-get : tie.Need-add-get Inv-loop μ-loop
 add-get c =
     let f = element-fits (c .before .before .before .before .before .before .before .before .pre .0) {i = c .before .before .loop .i} (c .before
     .loop-test .taken) (c .before .before .before .before .before .before .unit-group .ensures) (c .quad-place .ensures) (c .before .before .before
-    .before .before .own-port .ensures) (c .before .before .before .before .wide .ensures) (c .before .before .before .places-of .ensures) in
+    .before .before .own-port .ensures) (c .before .before .before .before .wide .ensures) (c .before .before .before .places .ensures) in
     omega (arith, f .1)
 
 get-requires : tie.Need-get-requires Inv-loop μ-loop
 get-requires c κs =
     element-fits (c .before .before .before .before .before .before .before .before .pre .0) {i = c .before .before .loop .i} (c .before .loop-test
     .taken) (c .before .before .before .before .before .before .unit-group .ensures) (c .quad-place .ensures) (c .before .before .before .before
-    .before .own-port .ensures) (c .before .before .before .before .wide .ensures) (c .before .before .before .places-of .ensures) .2
+    .before .own-port .ensures) (c .before .before .before .before .wide .ensures) (c .before .before .before .places .ensures) .2
 
 mul-at : tie.Need-mul-at Inv-loop μ-loop
 mul-at c =
@@ -148,7 +148,7 @@ loop-again c =
     first-next (c .before .before .before .before .before .before .before .before .before .pre .0) {i = c .before .before .before .loop .i} (c .before
     .before .loop-test .taken) (c .before .before .before .before .before .before .before .unit-group .ensures) (c .before .quad-place .ensures) (c
     .before .before .before .before .before .before .own-port .ensures) (c .before .before .before .before .before .wide .ensures) (c .before .before
-    .before .before .places-of .ensures) (c .before .before .before .loop .inv) (c .get .ensures)
+    .before .before .places .ensures) (c .before .before .before .loop .inv) (c .get .ensures)
 
 returns : tie.Need-returns Inv-loop μ-loop
 returns c = first-to _ (omega (arith, c .loop-test .left, c .before .loop .inv .size)) (c .before .loop .inv)
@@ -163,7 +163,7 @@ read-quad-spec =
     cast-own-port
     own-port-requires
     wide-requires
-    places-of-requires
+    places-requires
     mul-own
     loop-holds
     quad-place-requires

@@ -6,8 +6,8 @@ use borrow.Author.Needs.{needs}
 use Rattle.control_compare.proofs.compare_pair.Statement.{statement}
 use Rattle.control_compare.proofs.compare_pair.Tie as tie
 
-places-of-requires : tie.Need-places-of-requires
-places-of-requires c κs = search needs
+places-requires : tie.Need-places-requires
+places-requires c κs = search needs
 
 mul-quad-place : tie.Need-mul-quad-place
 mul-quad-place c = omega (arith, c .before .before .pre .half)
@@ -16,7 +16,7 @@ quad-place-requires : tie.Need-quad-place-requires
 quad-place-requires c κs = (c .before .before .pre .group, omega (arith, c .before .before .pre .half))
 
 look-place-requires : tie.Need-look-place-requires
-look-place-requires c κs = first-ok (c .before .before .before .pre) (c .before .places-of .ensures) (c .quad-place .ensures)
+look-place-requires c κs = first-ok (c .before .before .before .pre) (c .before .places .ensures) (c .quad-place .ensures)
 
 mul-quad-place-2 : tie.Need-mul-quad-place-2
 mul-quad-place-2 c = omega (arith, c .before .before .before .before .pre .half)
@@ -28,21 +28,21 @@ quad-place-requires-2 : tie.Need-quad-place-requires-2
 quad-place-requires-2 c κs = (c .before .before .before .before .pre .group, omega (arith, c .before .before .before .before .pre .half))
 
 look-place-requires-2 : tie.Need-look-place-requires-2
-look-place-requires-2 c κs = second-ok (c .before .before .before .before .before .pre) (c .before .before .before .places-of .ensures) (c .quad-place2 .ensures)
+look-place-requires-2 c κs = second-ok (c .before .before .before .before .before .pre) (c .before .before .before .places .ensures) (c .quad-place2 .ensures)
 
 both-requires : tie.Need-both-requires
 both-requires c κs = both-few (c .before .before .before .before .before .before .pre) (c .before .before .look-place .ensures) (c .look-place2 .ensures)
 
 returns : tie.Need-returns
 returns c =
-    pair-seen (c .before .before .before .before .before .before .before .pre) (c .before .before .before .before .before .places-of .ensures) (c .before .before .before .before .before .before .before .args .turn) (c .before .before .before .before .quad-place .ensures) (c .before .before .quad-place2 .ensures)
+    pair-seen (c .before .before .before .before .before .before .before .pre) (c .before .before .before .before .before .places .ensures) (c .before .before .before .before .before .before .before .args .turn) (c .before .before .before .before .quad-place .ensures) (c .before .before .quad-place2 .ensures)
     (c .before .before .before .look-place .ensures) (c .before .look-place2 .ensures) (c .both .ensures)
 
 pub compare-pair-spec : {M : Type 1} → statement M
 compare-pair-spec =
     tie.close
     (tie.spec
-    places-of-requires
+    places-requires
     mul-quad-place
     quad-place-requires
     look-place-requires

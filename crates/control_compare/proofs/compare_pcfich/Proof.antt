@@ -6,12 +6,12 @@ use lib.Bits.{bitXor}
 use Rattle.control.proofs.Listings.{six}
 use Rattle.control.proofs.Words.{scrambled-word}
 use Rattle.control.proofs.Turns.{format-in}
-use Rattle.control_compare.proofs.Turns.{FormatTurn, format-start, format-few, format-next, format-finish}
+use Rattle.control_compare.proofs.Turns.{FormatSeen, format-start, format-few, format-next, format-finish}
 use Rattle.control_compare.proofs.compare_pcfich.Statement.{statement}
 use Rattle.control_compare.proofs.compare_pcfich.Tie as tie
 
 abbrev Inv-loop : tie.InvT-loop
-Inv-loop cell cfi grid seen₀ s₀ n₀ seen s n = FormatTurn cell cfi s₀ s n grid seen
+Inv-loop cell cfi grid seen₀ s₀ n₀ seen s n = FormatSeen cell cfi s₀ s n grid seen
 
 abbrev μ-loop : tie.MeasureT-loop
 μ-loop cell cfi grid seen₀ s₀ n₀ seen s n = 8 - n

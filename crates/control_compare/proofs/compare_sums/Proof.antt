@@ -2,12 +2,12 @@
 use Prim.Native.Nat.{_-_, _*_}
 use native.Mathlib.Omega.{arith}
 use Rattle.control.proofs.Listings.{six, unit-few}
-use Rattle.control_compare.proofs.Turns.{UnitTurn, unit-start, unit-small, first-in, second-in, half-done, quad-next, unit-finish}
+use Rattle.control_compare.proofs.Turns.{UnitSeen, unit-start, unit-small, first-in, second-in, half-done, quad-next, unit-finish}
 use Rattle.control_compare.proofs.compare_sums.Statement.{statement}
 use Rattle.control_compare.proofs.compare_sums.Tie as tie
 
 abbrev Inv-loop : tie.InvT-loop
-Inv-loop cell m grid sums seen₀ n₀ seen n = UnitTurn cell m sums (2 * n) grid seen
+Inv-loop cell m grid sums seen₀ n₀ seen n = UnitSeen cell m sums (2 * n) grid seen
 
 abbrev μ-loop : tie.MeasureT-loop
 μ-loop cell m grid sums seen₀ n₀ seen n = 3 - n

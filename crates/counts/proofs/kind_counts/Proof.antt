@@ -1,4 +1,6 @@
 -- The counts of the nine kinds. Assumes nothing.
+use mathlib.Core.Path.{_∙_}
+use native.Mathlib.Nat.{mul-comm}
 use native.Mathlib.Omega.{arith}
 use Rattle.counts.proofs.KindWays.{units-few, owned-most, owned-few, nine}
 use borrow.Author.Needs.{needs}
@@ -51,10 +53,10 @@ places-requires : tie.Need-places-requires
 places-requires c κs = search needs
 
 sub-idle : tie.Need-sub-idle
-sub-idle c = omega (arith, c .places .ensures, owned-most (c .before .before .before .before .before .before .before .before .args .plan .now) (c .before .before .before .before .before .before .before .before .args .p) (c .before .before .before .before .before .before .before .before .pre) _ _ _ _ _ _ (c .before .before .before .before .before .before .crs-count .ensures) (c .before .before .before .before .before .sync-count .ensures) (c .before .before .before .before .pbch-count .ensures) (c .before .before .before .units .ensures) (c .before .before .users-count .ensures) (c .before .held-count .ensures))
+sub-idle c = omega (arith, c .places .ensures ∙ mul-comm _ _, owned-most (c .before .before .before .before .before .before .before .before .args .plan .now) (c .before .before .before .before .before .before .before .before .args .p) (c .before .before .before .before .before .before .before .before .pre) _ _ _ _ _ _ (c .before .before .before .before .before .before .crs-count .ensures) (c .before .before .before .before .before .sync-count .ensures) (c .before .before .before .before .pbch-count .ensures) (c .before .before .before .units .ensures) (c .before .before .users-count .ensures) (c .before .held-count .ensures))
 
 returns : tie.Need-returns
-returns c = nine (c .before .before .before .before .before .before .before .before .args .plan .now) (c .before .before .before .before .before .before .before .before .args .p) (c .before .before .before .before .before .before .before .before .pre) _ _ _ _ _ _ (c .before .before .before .before .before .before .crs-count .ensures) (c .before .before .before .before .before .sync-count .ensures) (c .before .before .before .before .pbch-count .ensures) (c .before .before .before .units .ensures) (c .before .before .users-count .ensures) (c .before .held-count .ensures) _ (c .places .ensures)
+returns c = nine (c .before .before .before .before .before .before .before .before .args .plan .now) (c .before .before .before .before .before .before .before .before .args .p) (c .before .before .before .before .before .before .before .before .pre) _ _ _ _ _ _ (c .before .before .before .before .before .before .crs-count .ensures) (c .before .before .before .before .before .sync-count .ensures) (c .before .before .before .before .pbch-count .ensures) (c .before .before .before .units .ensures) (c .before .before .users-count .ensures) (c .before .held-count .ensures) _ (c .places .ensures ∙ mul-comm _ _)
 
 pub kind-counts-spec : {M : Type 1} → statement M
 kind-counts-spec =

@@ -24,9 +24,7 @@ add-row-places c =
     let z = slot-length (a .cell) in omega (arith, c .before .before .slot-length .ensures, c .before .loop .inv .inside)
 
 row-places-requires : tie.Need-row-places-requires Inv-loop μ-loop
-row-places-requires c κs =
-    let a = c .before .before .before .args in
-    let z = slot-length (a .cell) in omega (arith, c .before .before .slot-length .ensures, c .before .loop .inv .inside)
+row-places-requires c κs = tt
 
 add-whole : tie.Need-add-whole Inv-loop μ-loop
 add-whole c =

@@ -1,16 +1,20 @@
 -- The count of a mark. Assumes nothing.
-use Rattle.counts.proofs.KindWays.{sync-first, sync-sixth, sync-none}
+use mathlib.Core.Path.{refl}
+use Rattle.counts.specs.Kinds.{syncElements}
+use borrow.Author.Needs.{needs}
 use Rattle.counts.proofs.sync_count.Statement.{statement}
 use Rattle.counts.proofs.sync_count.Tie as tie
 
+is-marked-requires : tie.Need-is-marked-requires
+is-marked-requires c κs = search needs
+
 returns : tie.Need-returns
-returns c = sync-first (c .before .before .args .frame) (c .if1 .taken)
+unfolding syncElements
+returns c = rw (← c .before .is-marked .ensures, c .if1 .taken) refl
 
 returns-2 : tie.Need-returns-2
-returns-2 c = sync-sixth (c .before .before .before .before .args .frame) (c .before .before .if1 .left) (c .if2 .taken)
-
-returns-3 : tie.Need-returns-3
-returns-3 c = sync-none (c .before .before .before .before .args .frame) (c .before .before .if1 .left) (c .if2 .left)
+unfolding syncElements
+returns-2 c = rw (← c .before .is-marked .ensures, c .if1 .left) refl
 
 pub sync-count-spec : {M : Type 1} → statement M
-sync-count-spec = tie.close (tie.spec returns returns-2 returns-3)
+sync-count-spec = tie.close (tie.spec is-marked-requires returns returns-2)

@@ -1,7 +1,8 @@
 -- Whether the centre of a symbol is taken. Assumes nothing.
+use mathlib.Core.Path.{_∙_}
 use native.Mathlib.Omega.{arith}
 use Rattle.layout.proofs.Pilot.{slot-length}
-use Rattle.counts.proofs.Ways.{before-marks, marks-first, marks-other, after-first, after-other}
+use Rattle.counts.proofs.Ways.{before-marks, in-centre, after-first, after-other}
 use borrow.Author.Needs.{needs}
 use Rattle.counts.proofs.taken.Statement.{statement}
 use Rattle.counts.proofs.taken.Tie as tie
@@ -13,22 +14,31 @@ add-if2 : tie.Need-add-if2
 add-if2 c = search needs
 
 returns : tie.Need-returns
-returns c = before-marks (c .before .before .before .args .cell) (c .before .before .before .args .frame) (c .before .before .before .args .s) _ (c .before .before .slot-length .ensures) (omega arith)
+returns c = let a = c .before .before .before .args in before-marks (a .cell) (a .frame) (a .s) _ (c .before .before .slot-length .ensures) (omega arith)
+
+is-marked-requires : tie.Need-is-marked-requires
+is-marked-requires c κs = search needs
 
 returns-2 : tie.Need-returns-2
-returns-2 c = marks-first (c .before .before .before .before .before .args .cell) (c .before .before .before .before .before .args .frame) (c .before .before .before .before .before .args .s) _ (c .before .before .before .before .slot-length .ensures) (omega arith) (omega arith) (c .if3 .taken)
-
-returns-3 : tie.Need-returns-3
-returns-3 c = marks-other (c .before .before .before .before .before .before .args .cell) (c .before .before .before .before .before .before .args .frame) (c .before .before .before .before .before .before .args .s) _ (c .before .before .before .before .before .slot-length .ensures) (omega arith) (omega arith) (c .before .if3 .left)
+returns-2 c =
+    let a = c .before .before .before .before .args in
+    let c3 = c .before .before .before in
+    c .is-marked .ensures ∙ in-centre (a .cell) (a .frame) (a .s) _ (c3 .slot-length .ensures) (omega arith) (omega arith)
 
 add-result : tie.Need-add-result
 add-result c = omega (arith, slot-length (c .before .before .before .before .args .cell), c .before .before .before .slot-length .ensures)
 
-returns-4 : tie.Need-returns-4
-returns-4 c = after-first (c .before .before .before .before .args .cell) (c .before .before .before .before .args .frame) (c .before .before .before .before .args .s) _ (c .before .before .before .slot-length .ensures) (omega arith) (c .if4 .taken)
+returns-3 : tie.Need-returns-3
+returns-3 c =
+    let a = c .before .before .before .before .args in
+    let c3 = c .before .before .before in
+    after-first (a .cell) (a .frame) (a .s) _ (c3 .slot-length .ensures) (omega arith) (c .if3 .taken)
 
-returns-5 : tie.Need-returns-5
-returns-5 c = after-other (c .before .before .before .before .args .cell) (c .before .before .before .before .args .frame) (c .before .before .before .before .args .s) _ (c .before .before .before .slot-length .ensures) (omega arith) (c .if4 .left)
+returns-4 : tie.Need-returns-4
+returns-4 c =
+    let a = c .before .before .before .before .args in
+    let c3 = c .before .before .before in
+    after-other (a .cell) (a .frame) (a .s) _ (c3 .slot-length .ensures) (omega arith) (c .if3 .left)
 
 pub taken-spec : {M : Type 1} → statement M
 taken-spec =
@@ -37,8 +47,8 @@ taken-spec =
     slot-length-requires
     add-if2
     returns
+    is-marked-requires
     returns-2
-    returns-3
     add-result
-    returns-4
-    returns-5)
+    returns-3
+    returns-4)

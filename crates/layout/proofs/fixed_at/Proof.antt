@@ -5,13 +5,7 @@ use Rattle.layout.proofs.fixed_at.Statement.{statement}
 use Rattle.layout.proofs.fixed_at.Tie as tie
 
 pilot-at-requires : tie.Need-pilot-at-requires
-pilot-at-requires c κs = omega arith
-
-cast-if1 : tie.Need-cast-if1
-cast-if1 c = omega arith
-
-cast-t8 : tie.Need-cast-t8
-cast-t8 c = omega arith
+pilot-at-requires c κs = tt
 
 returns : tie.Need-returns
 returns c = fix-crs (c .before .before .before .args .cell) (c .before .before .before .args .frame) (c .before .before .before .args .s) (c .before .before .before .args .k) _ (c .before .before .pilot-at .ensures) (c .if1 .taken)
@@ -60,8 +54,6 @@ fixed-at-spec =
     tie.close
     (tie.spec
     pilot-at-requires
-    cast-if1
-    cast-t8
     returns
     control-at-requires
     returns-2

@@ -1,46 +1,48 @@
 -- `legend::number_at` meets its contract: inside the grid the owner, outside idle. Assumes nothing.
 use native.Mathlib.Omega.{arith}
-use borrow.Author.Needs.{needs}
 use Rattle.legend.proofs.Showing.{shown-owner, shown-late, shown-wide}
-use Rattle.payload.proofs.Lengths.{symbols-most}
+use borrow.Author.Needs.{needs}
 use Rattle.legend.proofs.number_at.Statement.{statement}
 use Rattle.legend.proofs.number_at.Tie as tie
 
-slot-length-requires : tie.Need-slot-length-requires
-slot-length-requires c κs = search needs
+symbols-requires : tie.Need-symbols-requires
+symbols-requires c κs = search needs
 
-mul-if1 : tie.Need-mul-if1
-mul-if1 c = omega (arith, symbols-most (c .before .before .before .args .p .cell), c .slot-length .ensures)
-
-cast-if2 : tie.Need-cast-if2
-cast-if2 c = search needs
-
-mul-if2 : tie.Need-mul-if2
-mul-if2 c = search needs
+carriers-requires : tie.Need-carriers-requires
+carriers-requires c κs = search needs
 
 owner-at-requires : tie.Need-owner-at-requires
-owner-at-requires c κs = (c .before .before .before .before .before .before .pre, (omega (arith, c .before .before .before .slot-length .ensures, c .before .before .if1 .taken), omega (arith, c .if2 .taken)))
+owner-at-requires c κs = search needs
 
 owner-number-requires : tie.Need-owner-number-requires
 owner-number-requires c κs = search needs
 
 returns : tie.Need-returns
-returns c = shown-owner (c .before .before .before .before .before .before .before .before .args .plan .now) (c .before .before .before .before .before .before .before .before .args .p) (c .before .before .before .before .before .before .before .before .pre) (c .before .before .before .before .before .before .before .before .args .s) (c .before .before .before .before .before .before .before .before .args .k) (omega (arith, c .before .before .before .before .before .slot-length .ensures)) (omega arith) _ _ (c .owner-number .ensures) (c .before .owner-at .ensures)
+returns c =
+    let c2 = c .before .before in
+    let c3 = c .before .before .before in
+    let c4 = c .before .before .before .before in
+    let c5 = c .before .before .before .before .before in
+    let c8 = c .before .before .before .before .before .before .before .before in
+    shown-owner (c8 .args .plan .now) (c8 .args .p) (c8 .pre) (c8 .args .s) (c8 .args .k) (omega (arith, c5 .symbols .ensures, c4 .if1 .taken))
+    (omega (arith, c3 .carriers .ensures, c2 .if2 .taken)) _ _ (c .owner-number .ensures) (c .before .owner-at .ensures)
 
 returns-2 : tie.Need-returns-2
-returns-2 c = shown-wide (c .before .before .before .before .before .before .args .plan .now) (c .before .before .before .before .before .before .args .p) (c .before .before .before .before .before .before .pre) (c .before .before .before .before .before .before .args .s) (c .before .before .before .before .before .before .args .k) (omega (arith, c .if2 .left))
+returns-2 c =
+    let c6 = c .before .before .before .before .before .before in
+    shown-wide (c6 .args .plan .now) (c6 .args .p) (c6 .pre) (c6 .args .s) (c6 .args .k) (omega (arith, c .before .carriers .ensures, c .if2 .left))
 
 returns-3 : tie.Need-returns-3
-returns-3 c = shown-late (c .before .before .before .before .args .plan .now) (c .before .before .before .before .args .p) (c .before .before .before .before .pre) (c .before .before .before .before .args .s) (c .before .before .before .before .args .k) (omega (arith, c .if1 .left, c .before .slot-length .ensures))
+returns-3 c =
+    let c4 = c .before .before .before .before in
+    shown-late (c4 .args .plan .now) (c4 .args .p) (c4 .pre) (c4 .args .s) (c4 .args .k) (omega (arith, c .before .symbols .ensures, c .if1 .left))
 
 pub number-at-spec : {M : Type 1} → statement M
 number-at-spec =
     tie.close
     (tie.spec
-    slot-length-requires
-    mul-if1
-    cast-if2
-    mul-if2
+    symbols-requires
+    carriers-requires
     owner-at-requires
     owner-number-requires
     returns

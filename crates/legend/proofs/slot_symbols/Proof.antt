@@ -1,7 +1,7 @@
 -- `legend::slot_symbols` meets its contract: a slot has seven symbols at most. Assumes nothing.
 use native.Mathlib.Omega.{arith}
 use borrow.Author.Needs.{needs}
-use Rattle.payload.proofs.Lengths.{symbols-most}
+use Rattle.layout.proofs.Pilot.{symbols-most}
 use Rattle.legend.proofs.slot_symbols.Statement.{statement}
 use Rattle.legend.proofs.slot_symbols.Tie as tie
 

@@ -9,11 +9,11 @@ use Rattle.signals.proofs.fill_crs.Tie as tie
 row-at-requires : tie.Need-row-at-requires
 row-at-requires c κs = omega (arith, symbols-most (c .before .args .cell), c .before .pre .symbol)
 
-first-carrier-requires : tie.Need-first-carrier-requires
-first-carrier-requires c κs = omega (arith, few-ports (c .before .before .args .cell .ports) (c .before .before .pre .cell .ports), c .before .before .pre .port)
+crs-first-requires : tie.Need-crs-first-requires
+crs-first-requires c κs = omega (arith, few-ports (c .before .before .args .cell .ports) (c .before .before .pre .cell .ports), c .before .before .pre .port)
 
 add-first : tie.Need-add-first
-add-first c = omega (arith, row-at-most (c .before .before .before .args .cell) (c .before .before .before .args .s) (c .before .before .before .args .port) (omega arith) (omega arith) (omega (arith, symbols-most (c .before .before .before .args .cell), c .before .before .before .pre .symbol)), c .before .row-at .ensures, c .first-carrier .ensures)
+add-first c = omega (arith, row-at-most (c .before .before .before .args .cell) (c .before .before .before .args .s) (c .before .before .before .args .port) (omega arith) (omega arith) (omega (arith, symbols-most (c .before .before .before .args .cell), c .before .before .before .pre .symbol)), c .before .row-at .ensures, c .crs-first .ensures)
 
 wide-requires : tie.Need-wide-requires
 wide-requires c κs = tt
@@ -22,20 +22,20 @@ mul-fill-values : tie.Need-mul-fill-values
 mul-fill-values c = omega arith
 
 fill-values-requires : tie.Need-fill-values-requires
-fill-values-requires c κs = crs-inside (c .before .before .before .before .before .args .cell) (c .before .before .before .before .before .args .s) (c .before .before .before .before .before .args .port) (c .before .before .before .row-at .ensures) (c .before .before .first-carrier .ensures) (c .before .wide .ensures) (c .before .before .before .before .before .pre)
+fill-values-requires c κs = crs-inside (c .before .before .before .before .before .args .cell) (c .before .before .before .before .before .args .s) (c .before .before .before .before .before .args .port) (c .before .before .before .row-at .ensures) (c .before .before .crs-first .ensures) (c .before .wide .ensures) (c .before .before .before .before .before .pre)
 
 same-length : tie.Need-same-length
 same-length c = c .before .before .fill-values .ensures .0 .size
 
 returns : tie.Need-returns
-returns c = crs-done (c .before .before .before .before .before .before .before .before .args .cell) (c .before .before .before .before .before .before .before .before .args .s) (c .before .before .before .before .before .before .before .before .args .port) (c .before .before .before .before .before .before .row-at .ensures) (c .before .before .before .before .before .first-carrier .ensures) (c .before .before .before .before .wide .ensures) (c .before .before .before .before .before .before .before .before .pre) (c .before .before .before .before .before .before .before .before .args .r) (c .before .before .fill-values .ensures)
+returns c = crs-done (c .before .before .before .before .before .before .before .before .args .cell) (c .before .before .before .before .before .before .before .before .args .s) (c .before .before .before .before .before .before .before .before .args .port) (c .before .before .before .before .before .before .row-at .ensures) (c .before .before .before .before .before .crs-first .ensures) (c .before .before .before .before .wide .ensures) (c .before .before .before .before .before .before .before .before .pre) (c .before .before .before .before .before .before .before .before .args .r) (c .before .before .fill-values .ensures)
 
 pub fill-crs-spec : {M : Type 1} → statement M
 fill-crs-spec =
     tie.close
     (tie.spec
     row-at-requires
-    first-carrier-requires
+    crs-first-requires
     add-first
     wide-requires
     mul-fill-values

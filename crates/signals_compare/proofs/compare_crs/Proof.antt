@@ -10,14 +10,14 @@ use Rattle.signals_compare.proofs.compare_crs.Tie as tie
 row-at-requires : tie.Need-row-at-requires
 row-at-requires c κs = omega (arith, symbols-most (c .before .args .cell), c .before .pre .symbol)
 
-first-carrier-requires : tie.Need-first-carrier-requires
-first-carrier-requires c κs = omega (arith, few-ports (c .before .before .args .cell .ports) (c .before .before .pre .cell .ports), c .before .before .pre .port)
+crs-first-requires : tie.Need-crs-first-requires
+crs-first-requires c κs = omega (arith, few-ports (c .before .before .args .cell .ports) (c .before .before .pre .cell .ports), c .before .before .pre .port)
 
 add-first : tie.Need-add-first
 add-first c =
     let c3 = c .before .before .before in
     let row = row-at-most (c3 .args .cell) (c3 .args .s) (c3 .args .port) (omega arith) (omega arith) (omega (arith, symbols-most (c3 .args .cell), c3 .pre .symbol)) in
-    omega (arith, row, c .before .row-at .ensures, c .first-carrier .ensures)
+    omega (arith, row, c .before .row-at .ensures, c .crs-first .ensures)
 
 wide-requires : tie.Need-wide-requires
 wide-requires c κs = tt
@@ -28,12 +28,12 @@ mul-compare-values c = omega arith
 compare-values-requires : tie.Need-compare-values-requires
 compare-values-requires c κs =
     let c4 = c .before .before .before .before in
-    crs-inside (c4 .args .cell) (c4 .args .s) (c4 .args .port) (c .before .before .row-at .ensures) (c .before .first-carrier .ensures) (c .wide .ensures) (c4 .pre)
+    crs-inside (c4 .args .cell) (c4 .args .s) (c4 .args .port) (c .before .before .row-at .ensures) (c .before .crs-first .ensures) (c .wide .ensures) (c4 .pre)
 
 returns : tie.Need-returns
 returns c =
     let c2 = c .before .before in let c3 = c2 .before in let c5 = c3 .before .before in
-    crs-compared (c5 .args .cell) (c5 .args .s) (c5 .args .port) (c3 .row-at .ensures) (c2 .first-carrier .ensures) (c .before .wide .ensures) (c5 .args .r) (c5 .pre)
+    crs-compared (c5 .args .cell) (c5 .args .s) (c5 .args .port) (c3 .row-at .ensures) (c2 .crs-first .ensures) (c .before .wide .ensures) (c5 .args .r) (c5 .pre)
     (c .compare-values .ensures)
 
 pub compare-crs-spec : {M : Type 1} → statement M
@@ -41,7 +41,7 @@ compare-crs-spec =
     tie.close
     (tie.spec
     row-at-requires
-    first-carrier-requires
+    crs-first-requires
     add-first
     wide-requires
     mul-compare-values
