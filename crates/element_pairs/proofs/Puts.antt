@@ -235,7 +235,7 @@ or-none a b e =
 pub none-or : (a b : ℕ) → a ≡ 0 → b ≡ 0 → bitOr a b ≡ 0
 none-or a b x y = ap₂ (λ (c d : ℕ). bitOr c d) x y ∙ or-zero-l 0
 
-xor-none : (a b : ℕ) → bitXor a b ≡ 0 → a ≡ b
+pub xor-none : (a b : ℕ) → bitXor a b ≡ 0 → a ≡ b
 xor-none a b e = let h = xor-add-and a b in let l = and-le-l a b in let r = and-le-r a b in omega (arith, h, l, r, e)
 
 pub pair-compared :
