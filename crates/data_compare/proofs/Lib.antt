@@ -2,3 +2,6 @@
 pub mod AreaSymbols
 mod Telling
 mod Elements
+mod Numbers
+mod Pairs
+mod OnePort

@@ -69,28 +69,35 @@ tells-none = record { right = λ e i l. absurd (omega arith); none = λ h. refl 
 pub tells-as : {r n : ℕ} {A B : ℕ → Type 0} → ((i : ℕ) → i < n → A i → B i) → ((i : ℕ) → i < n → B i → A i) → Tells r n A → Tells r n B
 tells-as f b t = record { right = λ e i l. f i l (t .right e i l); none = λ h. t .none (λ i l. b i l (h i l)) }
 
-pub tells-join :
-    {r s n m x : ℕ} {A : ℕ → Type 0} → (x ≡ 0 → (r ≡ 0) × (s ≡ 0)) → (r ≡ 0 → s ≡ 0 → x ≡ 0) → Tells r n A → Tells s m (λ (i : ℕ). A (n + i))
-    → Tells x (n + m) A
-tells-join {r} {s} {n} {m} {x} {A} apart join t w =
+pub tells-more :
+    {r x n : ℕ} {A : ℕ → Type 0} → (x ≡ 0 → (r ≡ 0) × A n) → (r ≡ 0 → A n → x ≡ 0) → Tells r n A → Tells x (n + 1) A
+tells-more {r} {x} {n} {A} apart join t =
+    record { right = λ e i l. pick (apart e) i l (ℕ-discrete i n); none = λ h. join (t .none (λ i l. h i (omega arith))) (h n (omega arith)) }
+  where
+    pick : (r ≡ 0) × A n → (i : ℕ) → i < n + 1 → Dec (i ≡ n) → A i
+    pick (a, b) i l (yes d) = rw d b
+    pick (a, b) i l (no d) = t .right a i (omega arith)
+
+-- one test more, or m of them, by an or
+pub tells-or-one : {r s n : ℕ} {A : ℕ → Type 0} → (s ≡ 0 → A n) → (A n → s ≡ 0) → Tells r n A → Tells (bitOr r s) (n + 1) A
+tells-or-one {r} {s} f b t = tells-more (λ e. let z = or-none r s e in (z .0, f (z .1))) (λ e a. none-or r s e (b a)) t
+
+pub tells-or : {r s n m : ℕ} {A : ℕ → Type 0} → Tells r n A → Tells s m (λ (i : ℕ). A (n + i)) → Tells (bitOr r s) (n + m) A
+tells-or {r} {s} {n} {m} {A} t w =
     record {
-      right = λ e i l. pick (apart e) i l (decLe n i);
-      none = λ h. join (t .none (λ i l. h i (omega arith))) (w .none (λ i l. h (n + i) (omega arith)));
+      right = λ e i l. pick (or-none r s e) i l (decLe n i);
+      none = λ h. none-or r s (t .none (λ i l. h i (omega arith))) (w .none (λ i l. h (n + i) (omega arith)));
     }
   where
     pick : (r ≡ 0) × (s ≡ 0) → (i : ℕ) → i < n + m → Dec (n ≤ i) → A i
     pick (a, b) i l (yes d) = let e : n + (i - n) ≡ i = omega arith in rw e at (w .right b (i - n) (omega arith))
     pick (a, b) i l (no d) = t .right a i (omega arith)
 
-pub tells-or : {r s n m : ℕ} {A : ℕ → Type 0} → Tells r n A → Tells s m (λ (i : ℕ). A (n + i)) → Tells (bitOr r s) (n + m) A
-tells-or {r} {s} t w = tells-join (or-none r s) (none-or r s) t w
-
-pub tells-one : {s : ℕ} {A : ℕ → Type 0} → (s ≡ 0 → A 0) → (A 0 → s ≡ 0) → Tells s 1 A
-tells-one {A = A} f b =
-    record { right = λ e i l. let z : 0 ≡ i = omega arith in rw z at (f e); none = λ h. b (h 0 (omega arith)) }
-
 -- tests of pairs as tests of both
-pub tells-both : {r m : ℕ} {A B : ℕ → Type 0} → ((i : ℕ) → i < m → A i → B (2 * i) × B (2 * i + 1)) → ((i : ℕ) → i < m → B (2 * i) → B (2 * i + 1) → A i) → Tells r m A → Tells r (2 * m) B
+pub tells-both :
+    {r m : ℕ} {A B : ℕ → Type 0}
+    → ((i : ℕ) → i < m → A i → B (2 * i) × B (2 * i + 1)) → ((i : ℕ) → i < m → B (2 * i) → B (2 * i + 1) → A i) → Tells r m A
+    → Tells r (2 * m) B
 tells-both {r} {m} {A} {B} f b t =
     record { right = λ e k l. pick e k l (ℕ-discrete (k % 2) 0); none = λ h. t .none (λ i l. b i l (h (2 * i) (omega arith)) (h (2 * i + 1) (omega arith))) }
   where

@@ -14,7 +14,8 @@ use Rattle.grid.specs.Writing.{Room}
 use Rattle.walk.specs.declared.Cursor.{Cursor}
 use Rattle.walk.specs.declared.Run.{Run}
 use Rattle.walk.specs.Runs.{runCount, Laid}
-use Rattle.walk.specs.Forms.{PairForm, SingleForm}
+use Rattle.walk.specs.Forms.{PairForm, SingleForm, Stretch}
+use Rattle.walk.specs.Addresses.{PairsIn}
 use Rattle.walk.specs.Tables.{AtIndex}
 use Rattle.areas.specs.declared.Area.{Area}
 use Rattle.areas.specs.Areas.{areaAt, areaCount, AreaIn, SignalsIn}
@@ -42,6 +43,13 @@ pub record TurnAt (P T j start step at next i : ℕ) : Type 0 where
   pub at-pair : at ≡ 3 * (ownPort P ((j + 2 * i) / 2 % 2) * T + (start + step * i))
   pub next-pair : next ≡ 3 * (ownPort P ((j + 2 * (i + 1)) / 2 % 2) * T + (start + step * (i + 1)))
 
+-- some pairs start there
+pub record StartsIn (P T j start step : ℕ) : Type 0 where
+  pub gap : ℕ
+  pub count : ℕ
+  pub grid : List ℕ
+  pub pairs : PairsIn P T gap j start step count grid
+
 pub record Starting (P T j start step : ℕ) (r : Starts) : Type 0 where
   pub first : TurnAt P T j start step (r .at) (r .next) 0
   pub across : (turn : ℕ) → 3 * (ownPort P turn * T) + r .across ≡ 3 * (otherPort P turn * T)
@@ -66,10 +74,18 @@ pub record SinglesIn (start n : ℕ) (g : List ℕ) : Type 0 where
 pub record SinglesSeen (start n : ℕ) (f : Form) (g : List ℕ) (r : ℕ) : Type 0 where
   pub seen : (q u : ℕ) → FormOf q u f → Tells r n (λ (i : ℕ). Own q u (elementIn g (start + i)))
 
-pub record Singles (start n each : ℕ) (f : Form) (g : List ℕ) (bad at i : ℕ) : Type 0 where
+pub record Singles (start n : ℕ) (f : Form) (g : List ℕ) (bad at i : ℕ) : Type 0 where
   pub few : i ≤ n
-  pub place : at ≡ 3 * (start + each * i)
-  pub done : SinglesSeen start (each * i) f g bad
+  pub place : at ≡ 3 * (start + i)
+  pub done : SinglesSeen start i f g bad
+
+-- two at a time
+pub record Doubles (start n : ℕ) (f : Form) (g : List ℕ) (bad at i : ℕ) : Type 0 where
+  pub few : i ≤ n
+  pub place : at ≡ 3 * (start + 2 * i)
+  pub done :
+      (q u : ℕ) → FormOf q u f
+      → Tells bad i (λ (k : ℕ). Own q u (elementIn g (start + 2 * k)) × Own q u (elementIn g (start + (2 * k + 1))))
 
 abbrev pub holedAt : ℕ → ℕ → ℕ → ℕ
 holedAt lead each k = k + (k + (each - lead)) / each
@@ -83,6 +99,11 @@ pub record HolesIn (first lead each total : ℕ) (g : List ℕ) : Type 0 where
 
 pub record HolesSeen (first lead each total : ℕ) (f : Form) (g : List ℕ) (r : ℕ) : Type 0 where
   pub seen : (q u : ℕ) → FormOf q u f → Tells r total (λ (k : ℕ). Own q u (elementIn g (first + holedAt lead each k)))
+
+pub record Stretches (first lead each total : ℕ) (f : Form) (g : List ℕ) (bad at left k : ℕ) : Type 0 where
+  pub few : k ≤ total
+  pub stretch : k < total → Stretch first lead each k at left
+  pub done : HolesSeen first lead each k f g bad
 
 -- ---- a run. What it needs, on one port or more
 pub record AnyIn (P T j : ℕ) (run : Run) (g : List ℕ) : Type 0 where

@@ -16,7 +16,7 @@ ghost use Rattle.walk.specs.Forms.{SingleForm};
 ghost use Rattle.walk.specs.Runs.{runCount};
 ghost use Rattle.data_compare.specs.Symbols.{AreaCompared, CompareIn};
 ghost use Rattle.data_compare.specs.Tests.{FormOf, wrongOf, sumsWith, toldBy};
-ghost use Rattle.data_compare.specs.Places.{Starting, PairsSeen, SinglesIn, SinglesSeen, HolesIn, HolesSeen, AnyIn, RunSeen, RunsIn, Through};
+ghost use Rattle.data_compare.specs.Places.{StartsIn, Starting, PairsSeen, SinglesIn, SinglesSeen, HolesIn, HolesSeen, AnyIn, RunSeen, RunsIn, Through};
 
 // What elements of an order and a unit have in common, for two elements as one number: `fixed` where `fixes` has bits, that is the
 // unit and that levels are odd; and a level's bits from `same` on are alike, so that it is one of the order.
@@ -80,7 +80,7 @@ struct Starts {
 }
 
 fn starts_of(ports: u8, places: usize, j: usize, start: usize, step: usize) -> Starts
-    requires { ⌜ (places ≤ 16800) × (start ≤ 16800) × (step ≤ 3) × (1 ≤ ports) × (ports ≤ 4) ⌝ }
+    requires { ⌜ StartsIn ports places j start step ⌝ }
     ensures { λ r. ⌜ Starting ports places j start step r ⌝ }
 {
     let p = walk::port_offsets(ports, places, j);

@@ -206,7 +206,7 @@ two-read {gap} {at} {g} {a} {b} p q =
     low = (let z : a ≡ (a + b * 16777216) % 16777216 = omega (arith, p .few) in ap elementFrom z) ∙ cut (a + b * 16777216)
 
 -- ---- numbers with the same elements are the same
-low-three : (v : ℕ) → v % 16777216 ≡ (v / 65536 % 256 * 256 + v / 256 % 256) * 256 + v % 256
+pub low-three : (v : ℕ) → v % 16777216 ≡ (v / 65536 % 256 * 256 + v / 256 % 256) * 256 + v % 256
 low-three v =
     let e : v / 256 / 256 ≡ v / 65536 = omega arith in
     mod-pow-add v 16 8 ∙ ap (λ (x : ℕ). x * 256 + v % 256) (mod-pow-add (v / 256) 8 8 ∙ ap (λ (x : ℕ). x % 256 * 256 + v / 256 % 256) e)
