@@ -5,3 +5,6 @@ mod Elements
 mod Numbers
 mod Pairs
 mod OnePort
+mod Areas
+mod Fitted
+mod Whole

@@ -8,6 +8,7 @@ use lib.IntN.{natAbs}
 use Rattle.base.specs.declared.Element.{Element}
 use Rattle.base.specs.declared.Pair.{Pair}
 use Rattle.base.specs.Bytes.{byteOf, elementOf, pairOf}
+use Rattle.modulation.specs.Symbols.{Order}
 use Rattle.modulation.proofs.Constellation.{word-of}
 use Rattle.precoding.specs.Places.{partnerOf}
 use Rattle.element_pairs.specs.Numbers.{elementFrom, upper}
@@ -27,6 +28,11 @@ twice-parts v m l = mask-parts 24 v m m l
 
 abbrev pub Both : ℕ → ℕ → ℕ → Type 0
 Both q u x = Own q u (elementFrom x) × Own q u (elementFrom (upper x))
+
+pub form-made :
+    (q u : ℕ) → Order q → 2 ^ (q / 2) ≤ 8 → u < 256
+    → FormOf q u (record { same = (128 - 1 * 2 ^ (q / 2)) * 1103823438080; fixed = u * 16777217 + 1103823438080; fixes = 1108118405631 })
+form-made q u o p l = record { even = o .0; some = o .1; few = o .2; small = l; same = omega arith; fixed = omega arith; fixes = omega arith }
 
 -- the fixed bytes: unit, and two odd ones
 abbrev Fixed : ℕ → ℕ → Type 0

@@ -1,64 +1,47 @@
+-- `data_compare::doubles` meets its contract, as `singles` does, two places at a time. Assumes nothing.
+use Prim.Native.Nat.{_-_}
+use native.Mathlib.Omega.{arith}
+use Rattle.data_compare.specs.Places.{Doubles}
+use Rattle.data_compare.proofs.OnePort.{doubles-start, double-fits, doubles-on, doubles-end}
 use Rattle.data_compare.proofs.doubles.Statement.{statement}
 use Rattle.data_compare.proofs.doubles.Tie as tie
-use Rattle.data_compare.proofs.doubles.Reads as reads
-use Rattle.data_compare.proofs.doubles.Lts as lts
-use Rattle.data_compare.proofs.wrong.Reads as wrong-reads
-use Rattle.element_pairs.proofs.six_at.Reads as six-at-reads
 
 abbrev Inv-loop : tie.InvT-loop
-Inv-loop f grid start n bad₀ at₀ i₀ bad at i = ?
+Inv-loop f grid start n bad₀ at₀ i₀ bad at i = Doubles start n f grid bad at i
 
 abbrev μ-loop : tie.MeasureT-loop
-μ-loop f grid start n bad₀ at₀ i₀ bad at i = ?
+μ-loop f grid start n bad₀ at₀ i₀ bad at i = n - i
 
--- src/lib.rt:195:18
 mul-at : tie.Need-mul-at Inv-loop μ-loop
-mul-at c = ?
+mul-at c = omega (arith, c .before .pre .small)
 
--- src/lib.rt:197:5
 loop-holds : tie.Need-loop-holds Inv-loop μ-loop
-loop-holds c = ?
+loop-holds c = doubles-start
 
--- src/lib.rt:198:30
 six-at-requires : tie.Need-six-at-requires Inv-loop μ-loop
-six-at-requires c κs = ?
+six-at-requires c κs = double-fits (c .before .before .before .pre) (c .before .loop .inv) (c .loop-test .taken) .0
 
--- src/lib.rt:198:21
 wrong-requires : tie.Need-wrong-requires Inv-loop μ-loop
-wrong-requires c κs = ?
+wrong-requires c κs = tt
 
--- src/lib.rt:199:9
 add-at : tie.Need-add-at Inv-loop μ-loop
-add-at c = ?
+add-at c =
+    let a = c .before .before in let b = a .before in let d = b .before .before in
+    omega (arith, double-fits (d .pre) (b .loop .inv) (a .loop-test .taken))
 
--- src/lib.rt:200:9
 add-i : tie.Need-add-i Inv-loop μ-loop
-add-i c = ?
+add-i c = omega (arith, c .before .before .before .before .before .pre .small, c .before .before .loop-test .taken)
 
--- src/lib.rt:197:5
 loop-less : tie.Need-loop-less Inv-loop μ-loop
-loop-less c = ?
+loop-less c = omega (arith, c .before .before .loop-test .taken)
 
--- src/lib.rt:197:5
 loop-again : tie.Need-loop-again Inv-loop μ-loop
-loop-again c = ?
+loop-again c =
+    let a = c .before .before in let b = a .before in let d = b .before .before in
+    doubles-on (d .pre) (b .loop .inv) (a .loop-test .taken) (c .before .six-at .ensures) (c .wrong .ensures)
 
--- src/lib.rt:190:1
 returns : tie.Need-returns Inv-loop μ-loop
-returns c = ?
+returns c = doubles-end (c .before .loop .inv) (c .loop-test .left)
 
 pub doubles-spec : {M : Type 1} → statement M
-doubles-spec =
-    tie.close
-    (tie.spec
-    Inv-loop
-    μ-loop
-    mul-at
-    loop-holds
-    six-at-requires
-    wrong-requires
-    add-at
-    add-i
-    loop-less
-    loop-again
-    returns)
+doubles-spec = tie.close (tie.spec Inv-loop μ-loop mul-at loop-holds six-at-requires wrong-requires add-at add-i loop-less loop-again returns)

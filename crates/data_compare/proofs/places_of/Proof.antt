@@ -1,21 +1,19 @@
-use borrow.Author.Needs.{needs}
+-- `data_compare::places_of` meets its contract. Assumes nothing.
+use native.Mathlib.Omega.{arith}
+use Rattle.data_compare.proofs.OnePort.{count-total}
 use Rattle.data_compare.proofs.places_of.Statement.{statement}
 use Rattle.data_compare.proofs.places_of.Tie as tie
-use Rattle.data_compare.proofs.places_of.Reads as reads
-use Rattle.data_compare.proofs.places_of.Lts as lts
-use Rattle.walk.proofs.holes_of.Reads as holes-of-reads
 
--- src/lib.rt:255:9
 holes-of-requires : tie.Need-holes-of-requires
-holes-of-requires c κs = search needs
+holes-of-requires c κs = c .pre .0
 
--- src/lib.rt:256:5
 mul-result : tie.Need-mul-result
-mul-result c = ?
+mul-result c =
+    let a = c .before .before in let b = a .before in
+    omega (arith, count-total (b .args .run) (a .holes-of .ensures) (b .pre .1))
 
--- src/lib.rt:251:1
 returns : tie.Need-returns
-returns c = ?
+returns c = count-total (c .before .before .before .args .run) (c .before .before .holes-of .ensures) (c .before .before .before .pre .1) .0
 
 pub places-of-spec : {M : Type 1} → statement M
 places-of-spec = tie.close (tie.spec holes-of-requires mul-result returns)

@@ -1,42 +1,35 @@
-use borrow.Author.Needs.{needs}
+-- `data_compare::starts_of` meets its contract. Assumes nothing.
+use native.Mathlib.Omega.{arith}
+use Rattle.walk.proofs.Addresses.{offsets-small}
+use Rattle.data_compare.proofs.Pairs.{starting}
 use Rattle.data_compare.proofs.starts_of.Statement.{statement}
 use Rattle.data_compare.proofs.starts_of.Tie as tie
-use Rattle.data_compare.proofs.starts_of.Reads as reads
-use Rattle.data_compare.proofs.starts_of.Lts as lts
-use Rattle.walk.proofs.port_offsets.Reads as port-offsets-reads
 
--- src/lib.rt:86:9
 port-offsets-requires : tie.Need-port-offsets-requires
-port-offsets-requires c κs = search needs
+port-offsets-requires c κs = c .pre .pairs .room .fits
 
--- src/lib.rt:88:18
 add-t7 : tie.Need-add-t7
-add-t7 c = ?
+add-t7 c = omega (arith, offsets-small (c .before .before .pre .pairs) (c .before .port-offsets .ensures))
 
--- src/lib.rt:88:13
 mul-t8 : tie.Need-mul-t8
-mul-t8 c = ?
+mul-t8 c = omega (arith, offsets-small (c .before .before .pre .pairs) (c .before .port-offsets .ensures))
 
--- src/lib.rt:89:20
 add-t9 : tie.Need-add-t9
-add-t9 c = ?
+add-t9 c = omega (arith, offsets-small (c .before .before .before .pre .pairs) (c .before .before .port-offsets .ensures))
 
--- src/lib.rt:89:20
 add-t10 : tie.Need-add-t10
-add-t10 c = ?
+add-t10 c = omega (arith, offsets-small (c .before .before .before .pre .pairs) (c .before .before .port-offsets .ensures))
 
--- src/lib.rt:89:15
 mul-t11 : tie.Need-mul-t11
-mul-t11 c = ?
+mul-t11 c = omega (arith, offsets-small (c .before .before .before .pre .pairs) (c .before .before .port-offsets .ensures))
 
--- src/lib.rt:90:17
 mul-t12 : tie.Need-mul-t12
-mul-t12 c = ?
+mul-t12 c = omega (arith, offsets-small (c .before .before .before .before .pre .pairs) (c .before .before .before .port-offsets .ensures))
 
--- src/lib.rt:82:1
 returns : tie.Need-returns
-returns c = ?
+returns c =
+    let a = c .before .before .before in let b = a .before in
+    starting (b .args .ports) (b .args .places) (b .args .j) (b .args .start) (b .args .step) (a .port-offsets .ensures)
 
 pub starts-of-spec : {M : Type 1} → statement M
-starts-of-spec =
-    tie.close (tie.spec port-offsets-requires add-t7 mul-t8 add-t9 add-t10 mul-t11 mul-t12 returns)
+starts-of-spec = tie.close (tie.spec port-offsets-requires add-t7 mul-t8 add-t9 add-t10 mul-t11 mul-t12 returns)
