@@ -41,20 +41,6 @@ module _ {P T j : ℕ} {run : Run} {g : List ℕ} (s : AnyIn P T j run g) where
       several : (P ≡ 1 → ⊥) → 2 ≤ P
       several n = omega (arith, s .room .some)
 
--- ---- the extent of the grid as the code has it
-module _ (c : Cell) {slot : ℕ} (is : slot ≡ slotLength c) where
-  pub symbols-are : 2 * slot ≡ symbols c
-  symbols-are = ap (λ (x : ℕ). 2 * x) is
-
-  pub inside : {s : ℕ} → s < 2 * slot → s < symbols c
-  inside l = omega (arith, is)
-
-  pub places-are : {blocks : ℕ} → blocks ≡ c .blocks → 2 * slot * (12 * blocks) ≡ placesOf c
-  places-are e = ap₂ (λ (x y : ℕ). 2 * x * (12 * y)) is e
-
-pub carriers-are : (c : Cell) {blocks : ℕ} → blocks ≡ c .blocks → 12 * blocks ≡ carriers c
-carriers-are c e = ap (λ (x : ℕ). 12 * x) e
-
 -- ---- a run's places by other places that are the same
 laid-as : {own own′ : ℕ → Bool} {T j : ℕ} {r : Run} → ((t : ℕ) → t < T → own t ≡ own′ t) → Laid own T j r → Laid own′ T j r
 laid-as {own} {own′} {T} h l =
@@ -67,22 +53,30 @@ laid-as {own} {own′} {T} h l =
       total = omega (arith, l .total, cnt-same own own′ T h);
     }
 
--- ---- run after run
-module _ {a : Area} {rows spans g : List ℕ} (h : RunsIn a rows spans g) where
+-- ---- run after run. The extent of the grid as the code has it: `slot` symbols in a slot, and resource blocks
+pub slot-small : (c : Cell) {slot : ℕ} → slot ≡ slotLength c → 2 * slot ≤ 14
+slot-small c e = omega (arith, e, symbols-most c)
+
+module _
+    {a : Area} {rows spans g : List ℕ} (h : RunsIn a rows spans g) {slot blocks : ℕ} (es : slot ≡ slotLength (a .cell))
+    (eb : blocks ≡ a .cell .blocks) where
   abbrev P : ℕ
   P = a .cell .ports
 
   abbrev T : ℕ
   T = placesOf (a .cell)
 
-  pub extent-small : {slot : ℕ} → slot ≡ slotLength (a .cell) → 2 * slot ≤ 14
-  extent-small e = omega (arith, e, symbols-most (a .cell))
+  symbols-are : 2 * slot ≡ symbols (a .cell)
+  symbols-are = ap (λ (x : ℕ). 2 * x) es
 
-  pub blocks-small : {blocks : ℕ} → blocks ≡ a .cell .blocks → blocks ≤ 100
-  blocks-small e = omega (arith, e, blocks-most (a .cell) (h .area .cell))
+  carriers-are : 12 * blocks ≡ carriers (a .cell)
+  carriers-are = ap (λ (x : ℕ). 12 * x) eb
 
-  pub places-small : {slot blocks : ℕ} → slot ≡ slotLength (a .cell) → blocks ≡ a .cell .blocks → 2 * slot * (12 * blocks) ≤ 16800
-  places-small es eb = omega (arith, places-are (a .cell) es eb, h .area .room .fits)
+  places-are : 2 * slot * (12 * blocks) ≡ T
+  places-are = ap₂ (λ (x y : ℕ). 2 * x * (12 * y)) es eb
+
+  pub extent-small : (blocks ≤ 100) × (2 * slot * (12 * blocks) ≤ 16800)
+  extent-small = (omega (arith, eb, blocks-most (a .cell) (h .area .cell)), omega (arith, places-are, h .area .room .fits))
 
   pub area-begins : {f : Form} {c : Cursor} → c ≡ cursorStart rows → Going a rows spans f g c 0 0
   area-begins e = rw e (record { comes = starts (h .tables .sets); even = λ many. refl; done = record { seen = λ q u o. tells-none } })
@@ -90,52 +84,57 @@ module _ {a : Area} {rows spans g : List ℕ} (h : RunsIn a rows spans g) where
   forms : 2 ≤ P → (s : ℕ) → s < symbols (a .cell) → PairForm (rowMask rows s)
   forms many = h .tables .pairs (h .signals many .0) (h .signals many .1)
 
-  module _ {f : Form} {c : Cursor} {j bad : ℕ} (w : Going a rows spans f g c j bad) (l : c .s < symbols (a .cell)) where
+  module _ {f : Form} {c : Cursor} {j bad : ℕ} (w : Going a rows spans f g c j bad) (l : c .s < 2 * slot) where
+    below : c .s < symbols (a .cell)
+    below = omega (arith, symbols-are)
+
     abbrev runIs : Run
     runIs = cursorRun (carriers (a .cell)) rows spans c
 
     laid : Laid (areaAt a) T j runIs
-    laid = laid-as (h .tables .places) (run-laid (h .tables .sets) (w .comes) l)
+    laid = laid-as (h .tables .places) (run-laid (h .tables .sets) (w .comes) below)
 
     few : j + runCount runIs ≤ 16800
     few = omega (arith, laid .total, cnt-most (areaAt a) T, h .area .room .fits)
 
-    pub cursor-in : {W : ℕ} → W ≡ carriers (a .cell) → CursorIn W rows spans c
-    cursor-in e =
-        rw e (run-in (h .tables .sets) (w .comes) (symbols-most (a .cell)) (omega (arith, blocks-most (a .cell) (h .area .cell))) l)
+    pub cursor-in : CursorIn (12 * blocks) rows spans c
+    cursor-in =
+        rw carriers-are
+        (run-in (h .tables .sets) (w .comes) (symbols-most (a .cell)) (omega (arith, blocks-most (a .cell) (h .area .cell))) below)
 
-    module _ {run : Run} {W places : ℕ} (ew : W ≡ carriers (a .cell)) (et : places ≡ T) (er : run ≡ cursorRun W rows spans c) where
+    module _ {run : Run} (er : run ≡ cursorRun (12 * blocks) rows spans c) where
       is : run ≡ runIs
-      is = er ∙ ap (λ (x : ℕ). cursorRun x rows spans c) ew
+      is = er ∙ ap (λ (x : ℕ). cursorRun x rows spans c) carriers-are
 
-      pub area-run : run .halves ≤ 255 → AnyIn P places j run g
+      pub area-run : run .halves ≤ 255 → AnyIn P (2 * slot * (12 * blocks)) j run g
       area-run short =
-          rw (et, is)
+          rw (places-are, is)
           (record {
             room = h .area .room;
             before = laid .before;
             inside = laid .inside;
-            single = h .tables .single (c .s) l;
+            single = h .tables .single (c .s) below;
             short = subst (λ (x : Run). x .halves ≤ 255) is short;
             index = few;
-            pairs = λ many. forms many (c .s) l;
+            pairs = λ many. forms many (c .s) below;
             even = w .even;
           })
 
       pub area-on :
-          {c′ : Cursor} {n r : ℕ} → c′ ≡ cursorNext rows c → n ≡ runCount run → RunSeen P places j run f g r
+          {c′ : Cursor} {n r : ℕ} → c′ ≡ cursorNext rows c → n ≡ runCount run → RunSeen P (2 * slot * (12 * blocks)) j run f g r
           → Going a rows spans f g c′ (j + n) (bitOr bad r)
       area-on {n = n} {r = r} ec en s =
           let on : n ≡ runCount runIs = en ∙ ap runCount is in
-          let s′ : RunSeen P T j runIs f g r = subst (λ (x : ℕ). RunSeen P x j runIs f g r) et (subst (λ (x : Run). RunSeen P places j x f g r) is s) in
+          let s′ : RunSeen P T j runIs f g r =
+          subst (λ (x : ℕ). RunSeen P x j runIs f g r) places-are (subst (λ (x : Run). RunSeen P (2 * slot * (12 * blocks)) j x f g r) is s) in
           rw (ec, on)
           (record {
-            comes = goes-on (h .tables .sets) (w .comes) l;
-            even = λ many. omega (arith, w .even many, form-even runIs (forms many (c .s) l));
+            comes = goes-on (h .tables .sets) (w .comes) below;
+            even = λ many. omega (arith, w .even many, form-even runIs (forms many (c .s) below));
             done = record { seen = λ q u o. tells-or (w .done .seen q u o) (s′ .seen (areaAt a) q u laid o) };
           })
 
-  pub area-ends : {f : Form} {c : Cursor} {j bad S : ℕ} → S ≡ symbols (a .cell) → Going a rows spans f g c j bad → S ≤ c .s → Through a f g j bad
-  area-ends {f} {c} {j} {bad} es w l =
-      let e : j ≡ areaCount a = through (h .tables .sets) (w .comes) (omega arith) ∙ tables-count (h .tables) in
+  pub area-ends : {f : Form} {c : Cursor} {j bad : ℕ} → Going a rows spans f g c j bad → 2 * slot ≤ c .s → Through a f g j bad
+  area-ends {f} {c} {j} {bad} w l =
+      let e : j ≡ areaCount a = through (h .tables .sets) (w .comes) (omega (arith, symbols-are)) ∙ tables-count (h .tables) in
       record { index = e; done = rw e at (w .done) }

@@ -30,8 +30,8 @@ abbrev pub Both : ℕ → ℕ → ℕ → Type 0
 Both q u x = Own q u (elementFrom x) × Own q u (elementFrom (upper x))
 
 pub form-made :
-    (q u : ℕ) → Order q → 2 ^ (q / 2) ≤ 8 → u < 256
-    → FormOf q u (record { same = (128 - 1 * 2 ^ (q / 2)) * 1103823438080; fixed = u * 16777217 + 1103823438080; fixes = 1108118405631 })
+    (q u : ℕ) {levels : ℕ} → Order q → levels ≡ 2 ^ (q / 2) → u < 256
+    → FormOf q u (record { same = (128 - levels) * 1103806660864; fixed = u * 16777217 + 1103806660864; fixes = 1108084851199 })
 form-made q u o p l = record { even = o .0; some = o .1; few = o .2; small = l; same = omega arith; fixed = omega arith; fixes = omega arith }
 
 -- the fixed bytes: unit, and two odd ones
