@@ -36,11 +36,10 @@ use Rattle.compare.proofs.Comparing.{nonzero-one}
 use Rattle.compare.proofs.PortWeights.{port-weight}
 use Rattle.areas.specs.declared.Area.{Area}
 use Rattle.areas.specs.Areas.{areaAt, areaCount, areaIndex, areaSends}
-use Rattle.areas.specs.Tables.{TablesIn, AreaTables}
 use Rattle.data_compare.specs.declared.Form.{Form}
 use Rattle.data_compare.specs.Symbols.{areaPlace, areaSymbol, areaSent, AreaHolds, AreaCompared, CompareIn}
 use Rattle.data_compare.specs.Tests.{FormOf}
-use Rattle.data_compare.specs.Places.{RunsIn, Through}
+use Rattle.data_compare.specs.Places.{Through}
 use Rattle.data_compare.proofs.AreaSymbols.{place-in, at-place, index-back, place-back, index-below}
 use Rattle.data_compare.proofs.Fitted.{Fits, ownAt, otherAt, right-fits, fits-right}
 
@@ -230,14 +229,6 @@ module _ {a : Area} {q unit : ℕ} {masks g : List ℕ} (i : CompareIn a q unit 
   right-weights r =
       ap (λ (x : ℕ). cond (eqb (a .cell .ports) 1) 3 6 * x) (sym (count-is (areaAt a) (placesOf (a .cell))))
       ∙ sym (port-weight (i .area .room) places-some (areaAt a) (λ (t : ℕ). areaIndex a t / 2 % 2) (right-weight r))
-
-  -- ---- what its tables and its runs need
-  pub tables-in : {rows spans : List ℕ} → length rows ≡ 45 → length spans ≡ 512 → TablesIn a masks rows spans
-  tables-in x y =
-      record { cell = i .area .cell; last-row = i .area .rows; halves = i .area .halves; bytes = i .bytes; rows-size = x; spans-size = y }
-
-  pub runs-in : {rows spans : List ℕ} → AreaTables a rows spans → RunsIn a rows spans g
-  runs-in t = record { order = q; unit = unit; area = i .area; signals = i .signals; tables = t }
 
   -- ---- the answers, from the end of its runs
   module _ {u : ℕ} {f : Form} {j bad : ℕ} (is-u : u ≡ unitOn (a .cell .ports) unit) (o : FormOf q u f) (k : Through a f g j bad) where
