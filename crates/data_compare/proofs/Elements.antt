@@ -13,7 +13,6 @@ use Rattle.base.proofs.Tests.{both}
 use Rattle.base.specs.declared.Element.{Element}
 use Rattle.base.specs.Bytes.{byteOf, signedOf, elementOf, pairOf}
 use Rattle.base.proofs.Bytes.{level-back}
-
 use Rattle.modulation.specs.Symbols.{level}
 use Rattle.modulation.specs.Demapping.{isLevel, levelBits}
 use Rattle.modulation.specs.Marks.{isSymbol}
@@ -145,6 +144,6 @@ module _ (q c x : ℕ) {u : ℕ} (some : 2 ≤ q) (few : q ≤ 8) (unit : c % 25
       let kj = level-none n (omega arith) (omega arith) (x / 256 / 256) (and-right a b k) in (
         three-none (bitXor x (x / 2)) 0 (alike n) (alike n) (omega arith) (omega arith) (and-zero-r (bitXor x (x / 2))) (rw (halved x) (ki .0)) (rw second (kj .0)),
         three-none (bitXor x c) 255 1 1 (omega arith) (omega arith) (ones-none 8 x c iu)
-        (rw (xor-shr x c 8) (ones-none 1 (x / 256) (c / 256) (ki .1 ∙ sym odd)))
-        (rw fixed (ones-none 1 (x / 256 / 256) (c / 256 / 256) (kj .1 ∙ sym odd′))),
+            (rw (xor-shr x c 8) (ones-none 1 (x / 256) (c / 256) (ki .1 ∙ sym odd)))
+            (rw fixed (ones-none 1 (x / 256 / 256) (c / 256 / 256) (kj .1 ∙ sym odd′))),
       )

@@ -93,14 +93,14 @@ module _
         few = omega arith;
         turn = record { at-pair = d .turn .next-pair; next-pair = omega (arith, d .turn .at-pair, same, two) };
         done = rw es
-          (record {
-            seen = λ q u o.
-                tells-more
-                (λ e. let z = sums-right o x y (rx .few) (ry .few) s e in (z .0, pair-right P T tn (start + step * i) gap (h .many) (d .turn .at-pair) other-at rx ry (z .1) (z .2)))
-                (λ e a. let z = right-pair P T tn (start + step * i) gap (h .many) (d .turn .at-pair) other-at rx ry a in
-                sums-none o x y (rx .few) (ry .few) s e (z .0) (z .1))
-                (d .done .seen q u o);
-          });
+            (record {
+              seen = λ q u o.
+                  tells-more
+                  (λ e. let z = sums-right o x y (rx .few) (ry .few) s e in (z .0, pair-right P T tn (start + step * i) gap (h .many) (d .turn .at-pair) other-at rx ry (z .1) (z .2)))
+                  (λ e a. let z = right-pair P T tn (start + step * i) gap (h .many) (d .turn .at-pair) other-at rx ry a in
+                  sums-none o x y (rx .few) (ry .few) s e (z .0) (z .1))
+                  (d .done .seen q u o);
+            });
       }
     where
       one-one : (k : ℕ) → k + 1 + 1 ≡ k + 2

@@ -27,7 +27,6 @@ add-t9 c = search needs
 
 returns : tie.Need-returns
 returns c =
-    
     let p : 2 ^ (c .args .q / 2) ≤ 8 = pow-mono {j = 3} (omega (arith, c .pre)) in form-made (c .args .q) (c .args .unit) (c .pre) (omega arith) (omega arith)
 
 pub form-of-spec : {M : Type 1} → statement M
