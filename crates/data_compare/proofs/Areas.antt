@@ -1,11 +1,10 @@
 -- THE AREA, run after run: where the loop starts, what a run needs, what it leaves, and the end. Assumes what comparing an area needs.
-use Prim.Native.Nat.{ℕ, _+_, _*_, _/_, _%_, _≤_, _<_}
+use Prim.Native.Nat.{ℕ, _+_, _*_, _≤_, _<_}
 use mathlib.Core.Path.{_≡_, refl, sym, ap, ap₂, _∙_, subst}
 use mathlib.Core.Bool.{Bool}
 use mathlib.Core.List.{List}
 use native.Mathlib.Omega.{arith}
 use lib.Bits.{bitOr}
-use Rattle.base.specs.Counts.{cnt}
 use Rattle.base.proofs.Counts.{cnt-same, cnt-most}
 use Rattle.plan.specs.declared.Cell.{Cell}
 use Rattle.plan.proofs.Counts.{blocks-most}
@@ -18,7 +17,7 @@ use Rattle.walk.specs.declared.Run.{Run}
 use Rattle.walk.specs.Runs.{runCount, Laid}
 use Rattle.walk.specs.Forms.{PairForm}
 use Rattle.walk.specs.Addresses.{RunIn}
-use Rattle.walk.specs.Tables.{rowMask, inTables, cursorStart, cursorRun, cursorNext, CursorIn}
+use Rattle.walk.specs.Tables.{rowMask, cursorStart, cursorRun, cursorNext, CursorIn}
 use Rattle.walk.proofs.Runs.{form-even}
 use Rattle.walk.proofs.Cursors.{starts, run-in, run-laid, goes-on, through}
 use Rattle.areas.specs.declared.Area.{Area}

@@ -1,7 +1,7 @@
 -- THE TEST OF ONE ELEMENT: bits of its number say whether it holds levels of an order in a unit. A level of n bits is odd and from -2 ^ n to
 -- 2 ^ n, so that bit 0 of its byte is 1 and bits n to 7 are alike. Assumes nothing.
 use Prim.Native.Nat.{ℕ, zero, suc, _+_, _-_, _*_, _/_, _%_, _^_, _≤_, _<_}
-use mathlib.Core.Path.{_≡_, refl, sym, ap, ap₂, _∙_, subst}
+use mathlib.Core.Path.{_≡_, refl, sym, ap, ap₂, _∙_}
 use mathlib.Core.Bool.{Bool, true, false, _&&_}
 use native.Mathlib.Omega.{arith}
 use lib.Bits.{bitAnd, bitXor, and-mask, and-zero-r, xor-mod, xor-shr, xor-self}
@@ -11,7 +11,7 @@ use borrow.Author.Tests.{eq-eqb, eqb-true}
 use Rattle.base.proofs.Computed.{allBelow, below-at}
 use Rattle.base.proofs.Tests.{both}
 use Rattle.base.specs.declared.Element.{Element}
-use Rattle.base.specs.Bytes.{byteOf, signedOf, elementOf, pairOf}
+use Rattle.base.specs.Bytes.{signedOf, elementOf, pairOf}
 use Rattle.base.proofs.Bytes.{level-back}
 use Rattle.modulation.specs.Symbols.{level}
 use Rattle.modulation.specs.Demapping.{isLevel, levelBits}

@@ -1,12 +1,9 @@
 -- THE TESTS OF NUMBERS: one element, two, and a pair of places on two ports. Assumes a form of an order and a unit.
-use Prim.Native.Nat.{ℕ, _+_, _-_, _*_, _/_, _%_, _^_, _≤_, _<_}
+use Prim.Native.Nat.{ℕ, _+_, _-_, _*_, _/_, _%_, _^_, _<_}
 use mathlib.Core.Path.{_≡_, refl, sym, ap, _∙_, subst}
-use mathlib.Core.List.{List}
 use native.Mathlib.Omega.{arith}
 use lib.Bits.{bitAnd, bitOr, bitXor, and-le-r, or-mod, xor-shr, xor-lt, xor-self}
-use lib.IntN.{natAbs}
 use Rattle.base.specs.declared.Element.{Element}
-use Rattle.base.specs.declared.Pair.{Pair}
 use Rattle.base.specs.Bytes.{byteOf, elementOf, pairOf}
 use Rattle.modulation.specs.Symbols.{Order}
 use Rattle.modulation.proofs.Constellation.{word-of}
@@ -18,7 +15,7 @@ use Rattle.constellation.specs.Pairs.{jointOf, minusBits, partnersOf, OddLevels
 use Rattle.constellation.proofs.Numbers.{symbol-levels, partners-first, partners-second}
 use Rattle.data_compare.specs.declared.Form.{Form}
 use Rattle.data_compare.specs.declared.Sums.{Sums}
-use Rattle.data_compare.specs.Tests.{Own, FormOf, twice, wrongOf, noSums, sumsWith, toldBy}
+use Rattle.data_compare.specs.Tests.{Own, FormOf, twice, wrongOf, sumsWith, toldBy}
 use Rattle.data_compare.proofs.Telling.{or-masked, masked-or, mask-parts}
 use Rattle.data_compare.proofs.Elements.{Clean, clean-own, own-clean}
 

@@ -1,7 +1,6 @@
 -- PLACES ON ONE PORT: side by side, stretch after stretch between holes, and a run by its form. Assumes what a run needs.
-use Prim.Native.Nat.{ℕ, _+_, _-_, _*_, _/_, _%_, _≤_, _<_}
+use Prim.Native.Nat.{ℕ, _+_, _-_, _*_, _%_, _≤_, _<_}
 use mathlib.Core.Path.{_≡_, refl, sym, ap, _∙_, subst}
-use mathlib.Core.Bool.{Bool}
 use mathlib.Core.List.{List}
 use native.Mathlib.Decide.{decLe}
 use native.Mathlib.Nat.{zero-mul, mul-comm, mul-le-mul}
@@ -15,7 +14,7 @@ use Rattle.grid.specs.Elements.{elementIn}
 use Rattle.element_pairs.specs.Numbers.{elementFrom, upper, OneRead, TwoRead}
 use Rattle.walk.specs.declared.Run.{Run}
 use Rattle.walk.specs.declared.Holes.{Holes}
-use Rattle.walk.specs.Runs.{runCount, placeAt, Laid}
+use Rattle.walk.specs.Runs.{runCount, placeAt}
 use Rattle.walk.specs.Forms.{HolesOf, Stretch}
 use Rattle.walk.proofs.Forms.{place-63}
 use Rattle.walk.proofs.Runs.{six-count, within-at}
@@ -23,7 +22,7 @@ use Rattle.walk.proofs.Singles.{stretch-at, stretch-on}
 use Rattle.areas.specs.Tables.{Smaller}
 use Rattle.data_compare.specs.declared.Form.{Form}
 use Rattle.data_compare.specs.Tests.{Tells, Own, FormOf, wrongOf}
-use Rattle.data_compare.specs.Places.{PlaceRight, Right, SinglesIn, SinglesSeen, Singles, Doubles, holedAt, HolesIn, HolesSeen, Stretches, AnyIn, RunSeen}
+use Rattle.data_compare.specs.Places.{PlaceRight, SinglesIn, SinglesSeen, Singles, Doubles, holedAt, HolesIn, HolesSeen, Stretches, AnyIn, RunSeen}
 use Rattle.data_compare.proofs.Telling.{tells-none, tells-as, tells-or-one, tells-or, tells-both}
 use Rattle.data_compare.proofs.Numbers.{wrong-one, one-wrong, wrong-both, both-wrong}
 

@@ -1,6 +1,6 @@
 -- PAIRS OF PLACES one after another on two ports or four, and a run of them by its form. Assumes what a run needs.
 use Prim.Native.Nat.{ℕ, _+_, _*_, _/_, _%_, _≤_, _<_}
-use mathlib.Core.Path.{_≡_, refl, sym, ap, _∙_, subst}
+use mathlib.Core.Path.{_≡_, sym, ap, _∙_, subst}
 use mathlib.Core.Bool.{Bool}
 use mathlib.Core.List.{List}
 use native.Mathlib.Nat.{mul-add, mul-zero}
@@ -13,7 +13,7 @@ use Rattle.grid.specs.Elements.{elementIn}
 use Rattle.element_pairs.specs.Numbers.{elementFrom, upper, TwoRead}
 use Rattle.walk.specs.declared.PortOffsets.{PortOffsets}
 use Rattle.walk.specs.declared.Run.{Run}
-use Rattle.walk.specs.Runs.{runCount, Laid, PairsAt}
+use Rattle.walk.specs.Runs.{PairsAt}
 use Rattle.walk.specs.Forms.{Paired}
 use Rattle.walk.specs.Addresses.{OffsetsAt, PairsIn, RunIn}
 use Rattle.walk.proofs.Runs.{pairs-of}
@@ -21,8 +21,8 @@ use Rattle.walk.proofs.Addresses.{own-turn, own-inside, other-inside, own-most,
 use Rattle.data_compare.specs.declared.Form.{Form}
 use Rattle.data_compare.specs.declared.Sums.{Sums}
 use Rattle.data_compare.specs.declared.Starts.{Starts}
-use Rattle.data_compare.specs.Tests.{Tells, FormOf, noSums, sumsWith, toldBy}
-use Rattle.data_compare.specs.Places.{PairRight, Right, TurnAt, Starting, PairAt, PairsSeen, Pairs, RunSeen}
+use Rattle.data_compare.specs.Tests.{noSums, sumsWith, toldBy}
+use Rattle.data_compare.specs.Places.{PairRight, Right, Starting, PairAt, PairsSeen, Pairs, RunSeen}
 use Rattle.data_compare.proofs.Telling.{tells-none, tells-more, tells-both}
 use Rattle.data_compare.proofs.Numbers.{Both, Partners, sums-right, sums-none}
 

@@ -5,7 +5,7 @@ use native.Mathlib.Nat.{mod-lt, mod-eq-of-lt, zero-min, zero-max, max-zero, min-
 use native.Mathlib.Decide.{decLe, ℕ-discrete}
 use native.Mathlib.Omega.{arith}
 use lib.Arith.{bin-ind}
-use lib.Bits.{bitAnd, bitOr, bitXor, and-step, and-block, and-zero-r, and-le-r, and-mod, or-shr, or-mod, or-block, or-zero-r, or-self}
+use lib.Bits.{bitAnd, bitOr, and-step, and-block, and-le-r, and-mod, or-shr, or-mod, or-block, or-zero-r, or-self}
 use lib.Pow.{pow-pos, split}
 use Rattle.element_pairs.proofs.Puts.{or-none, none-or}
 use Rattle.data_compare.specs.Tests.{Tells}

@@ -1,5 +1,5 @@
 -- For the inner contracts and loops only: the tests of elements as numbers, one or two to a number, and what they tell.
-use Prim.Native.Nat.{ℕ, _+_, _-_, _*_, _/_, _%_, _^_, _≤_, _<_}
+use Prim.Native.Nat.{ℕ, _-_, _/_, _%_, _^_, _≤_, _<_}
 use mathlib.Core.Path.{_≡_}
 use mathlib.Core.Bool.{true}
 use lib.Bits.{bitAnd, bitOr, bitXor}

@@ -19,19 +19,15 @@ loop-holds : tie.Need-loop-holds Inv-loop μ-loop
 loop-holds c = pairs-start (c .starts-of .ensures)
 
 apart-at-requires : tie.Need-apart-at-requires Inv-loop μ-loop
-apart-at-requires c κs =
-    let a = c .before .before in let b = a .before .before in
-    omega (arith, pair-fits (b .pre) (a .starts-of .ensures) (c .before .loop .inv) (c .loop-test .taken))
+apart-at-requires c κs = omega (arith, pair-fits (c .before .before .before .before .pre) (c .before .before .starts-of .ensures) (c .before .loop .inv) (c .loop-test .taken))
 
 add-apart-at : tie.Need-add-apart-at Inv-loop μ-loop
 add-apart-at c =
-    let a = c .before .before in let b = a .before in let d = b .before .before in
-    omega (arith, pair-fits (d .pre) (b .starts-of .ensures) (a .loop .inv) (c .before .loop-test .taken))
+    let a = c .before .before in let b = a .before in let d = b .before .before in omega (arith, pair-fits (d .pre) (b .starts-of .ensures) (a .loop .inv) (c .before .loop-test .taken))
 
 apart-at-requires-2 : tie.Need-apart-at-requires-2 Inv-loop μ-loop
 apart-at-requires-2 c κs =
-    let a = c .before .before in let b = a .before in let d = b .before .before in
-    omega (arith, pair-fits (d .pre) (b .starts-of .ensures) (a .loop .inv) (c .before .loop-test .taken))
+    let a = c .before .before in let b = a .before in let d = b .before .before in omega (arith, pair-fits (d .pre) (b .starts-of .ensures) (a .loop .inv) (c .before .loop-test .taken))
 
 with-pair-requires : tie.Need-with-pair-requires Inv-loop μ-loop
 with-pair-requires c κs = c .before .apart-at .ensures .few
@@ -42,9 +38,7 @@ add-then c =
     omega (arith, e .pre .short, pair-fits (e .pre) (d .starts-of .ensures) (b .loop .inv) (a .loop-test .taken))
 
 add-i : tie.Need-add-i Inv-loop μ-loop
-add-i c =
-    let a = c .before .before .before in let b = a .before .before .before .before in
-    omega (arith, a .loop-test .taken, b .pre .index)
+add-i c = omega (arith, c .before .before .before .loop-test .taken, c .before .before .before .before .before .before .before .pre .index)
 
 loop-less : tie.Need-loop-less Inv-loop μ-loop
 loop-less c = omega (arith, c .before .before .before .loop-test .taken)
@@ -62,5 +56,5 @@ returns c = pairs-end (c .before .before .loop .inv) (c .before .loop-test .left
 
 pub aparts-spec : {M : Type 1} → statement M
 aparts-spec =
-    tie.close (tie.spec Inv-loop μ-loop starts-of-requires loop-holds apart-at-requires add-apart-at apart-at-requires-2 with-pair-requires add-then
-    add-i loop-less loop-again told-requires returns)
+    tie.close (tie.spec Inv-loop μ-loop starts-of-requires loop-holds apart-at-requires add-apart-at apart-at-requires-2 with-pair-requires add-then add-i loop-less loop-again told-requires
+    returns)

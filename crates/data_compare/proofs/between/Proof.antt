@@ -25,9 +25,7 @@ smaller-requires : tie.Need-smaller-requires Inv-loop μ-loop
 smaller-requires c κs = tt
 
 singles-requires : tie.Need-singles-requires Inv-loop μ-loop
-singles-requires c κs =
-    let a = c .before .before in let b = a .before .before .before in
-    stretch-in (b .pre) (a .loop .inv) (c .before .loop-test .taken) (c .smaller .ensures)
+singles-requires c κs = stretch-in (c .before .before .before .before .before .pre) (c .before .before .loop .inv) (c .before .loop-test .taken) (c .smaller .ensures)
 
 add-k : tie.Need-add-k Inv-loop μ-loop
 add-k c = omega (arith, c .before .before .loop-test .taken, c .before .smaller .ensures .second)
@@ -49,13 +47,10 @@ loop-less c =
 
 loop-again : tie.Need-loop-again Inv-loop μ-loop
 loop-again c =
-    let a = c .before .before in let b = a .before in let d = b .before .before .before in
-    holes-on (d .pre) (b .loop .inv) (a .loop-test .taken) (c .before .smaller .ensures) (c .singles .ensures)
+    let a = c .before .before in let b = a .before in let d = b .before .before .before in holes-on (d .pre) (b .loop .inv) (a .loop-test .taken) (c .before .smaller .ensures) (c .singles .ensures)
 
 returns : tie.Need-returns Inv-loop μ-loop
 returns c = holes-end (c .before .loop .inv) (c .loop-test .left)
 
 pub between-spec : {M : Type 1} → statement M
-between-spec =
-    tie.close (tie.spec Inv-loop μ-loop first-stretch-requires loop-holds sub-smaller smaller-requires singles-requires add-k add-at add-at-2
-    loop-less loop-again returns)
+between-spec = tie.close (tie.spec Inv-loop μ-loop first-stretch-requires loop-holds sub-smaller smaller-requires singles-requires add-k add-at add-at-2 loop-less loop-again returns)

@@ -23,10 +23,7 @@ weight-of-requires c κs =
 
 returns : tie.Need-returns
 returns c =
-    let a = c .before .before .before in
-    let b = a .before .before .before in
-    let d = b .before in
-    let e = d .before .before .before .before .before in
+    let a = c .before .before .before in let b = a .before .before .before in let d = b .before in let e = d .before .before .before .before .before in
     area-same (e .pre) (d .unit-on .ensures) (b .form-of .ensures) (a .see-runs .ensures) (c .before .if1 .taken) (c .weight-of .result) (c .weight-of .ensures)
 
 returns-2 : tie.Need-returns-2

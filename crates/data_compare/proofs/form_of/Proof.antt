@@ -26,8 +26,7 @@ add-t9 : tie.Need-add-t9
 add-t9 c = search needs
 
 returns : tie.Need-returns
-returns c =
-    let p : 2 ^ (c .args .q / 2) ≤ 8 = pow-mono {j = 3} (omega (arith, c .pre)) in form-made (c .args .q) (c .args .unit) (c .pre) (omega arith) (omega arith)
+returns c = let p : 2 ^ (c .args .q / 2) ≤ 8 = pow-mono {j = 3} (omega (arith, c .pre)) in form-made (c .args .q) (c .args .unit) (c .pre) (omega arith) (omega arith)
 
 pub form-of-spec : {M : Type 1} → statement M
 form-of-spec = tie.close (tie.spec cast-levels shl-levels sub-t5 mul-t6 mul-t8 add-t9 returns)

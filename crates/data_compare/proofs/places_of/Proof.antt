@@ -8,9 +8,7 @@ holes-of-requires : tie.Need-holes-of-requires
 holes-of-requires c κs = c .pre .0
 
 mul-result : tie.Need-mul-result
-mul-result c =
-    let a = c .before .before in let b = a .before in
-    omega (arith, count-total (b .args .run) (a .holes-of .ensures) (b .pre .1))
+mul-result c = omega (arith, count-total (c .before .before .before .args .run) (c .before .before .holes-of .ensures) (c .before .before .before .pre .1))
 
 returns : tie.Need-returns
 returns c = count-total (c .before .before .before .args .run) (c .before .before .holes-of .ensures) (c .before .before .before .pre .1) .0

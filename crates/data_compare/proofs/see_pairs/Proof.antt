@@ -12,8 +12,7 @@ mul-sides c = omega (arith, c .before .before .pre .inside, c .before .before .p
 
 sides-requires : tie.Need-sides-requires
 sides-requires c κs =
-    let a = c .before .before in
-    run-in (a .pre) (six-pairs (c .if1 .taken)) (omega arith) (omega arith) (3 * a .args .run .halves) (a .args .run .first) (omega arith) (omega arith)
+    let a = c .before .before in run-in (a .pre) (six-pairs (c .if1 .taken)) (omega arith) (omega arith) (3 * a .args .run .halves) (a .args .run .first) (omega arith) (omega arith)
 
 returns : tie.Need-returns
 returns c =
@@ -21,14 +20,11 @@ returns c =
     run-seen (a .pre) (six-pairs (c .before .if1 .taken)) (omega arith) (omega arith) (3 * a .args .run .halves) (a .args .run .first) (omega arith) (omega arith) (c .sides .ensures)
 
 mul-sides-2 : tie.Need-mul-sides-2
-mul-sides-2 c =
-    let a = c .before .before .before in
-    omega (arith, a .pre .inside, a .pre .before, a .pre .room .fits)
+mul-sides-2 c = omega (arith, c .before .before .before .pre .inside, c .before .before .before .pre .before, c .before .before .before .pre .room .fits)
 
 sides-requires-2 : tie.Need-sides-requires-2
 sides-requires-2 c κs =
-    let a = c .before .before .before in
-    run-in (a .pre) (left-pairs (c .if2 .taken)) (omega arith) (omega arith) (2 * a .args .run .halves) (a .args .run .first) (omega arith) (omega arith)
+    let a = c .before .before .before in run-in (a .pre) (left-pairs (c .if2 .taken)) (omega arith) (omega arith) (2 * a .args .run .halves) (a .args .run .first) (omega arith) (omega arith)
 
 returns-2 : tie.Need-returns-2
 returns-2 c =
@@ -36,14 +32,10 @@ returns-2 c =
     run-seen (a .pre) (left-pairs (c .before .if2 .taken)) (omega arith) (omega arith) (2 * a .args .run .halves) (a .args .run .first) (omega arith) (omega arith) (c .sides2 .ensures)
 
 add-sides : tie.Need-add-sides
-add-sides c =
-    let a = c .before .before .before .before in
-    omega (arith, a .pre .inside, a .pre .before, a .pre .room .fits)
+add-sides c = omega (arith, c .before .before .before .before .pre .inside, c .before .before .before .before .pre .before, c .before .before .before .before .pre .room .fits)
 
 mul-sides-3 : tie.Need-mul-sides-3
-mul-sides-3 c =
-    let a = c .before .before .before .before in
-    omega (arith, a .pre .inside, a .pre .before, a .pre .room .fits)
+mul-sides-3 c = omega (arith, c .before .before .before .before .pre .inside, c .before .before .before .before .pre .before, c .before .before .before .before .pre .room .fits)
 
 sides-requires-3 : tie.Need-sides-requires-3
 sides-requires-3 c κs =
@@ -56,9 +48,7 @@ returns-3 c =
     run-seen (a .pre) (right-pairs (c .before .if3 .taken)) (omega arith) (omega arith) (2 * a .args .run .halves) (a .args .run .first + 1) (omega arith) (omega arith) (c .sides3 .ensures)
 
 mul-aparts : tie.Need-mul-aparts
-mul-aparts c =
-    let a = c .before .before .before .before in
-    omega (arith, a .pre .inside, a .pre .before, a .pre .room .fits)
+mul-aparts c = omega (arith, c .before .before .before .before .pre .inside, c .before .before .before .before .pre .before, c .before .before .before .before .pre .room .fits)
 
 aparts-requires : tie.Need-aparts-requires
 aparts-requires c κs =
@@ -73,6 +63,4 @@ returns-4 c =
     (d .args .run .first) (omega arith) (omega arith) (c .aparts .ensures)
 
 pub see-pairs-spec : {M : Type 1} → statement M
-see-pairs-spec =
-    tie.close (tie.spec mul-sides sides-requires returns mul-sides-2 sides-requires-2 returns-2 add-sides mul-sides-3 sides-requires-3 returns-3
-    mul-aparts aparts-requires returns-4)
+see-pairs-spec = tie.close (tie.spec mul-sides sides-requires returns mul-sides-2 sides-requires-2 returns-2 add-sides mul-sides-3 sides-requires-3 returns-3 mul-aparts aparts-requires returns-4)

@@ -1,5 +1,4 @@
 -- `data_compare::see_run` meets its contract. Assumes nothing.
-use mathlib.Core.Path.{sym}
 use Rattle.data_compare.proofs.Areas.{any-one, any-pairs}
 use Rattle.data_compare.proofs.see_run.Statement.{statement}
 use Rattle.data_compare.proofs.see_run.Tie as tie

@@ -31,9 +31,7 @@ start-requires : tie.Need-start-requires Inv-loop μ-loop
 start-requires c κs = tt
 
 loop-holds : tie.Need-loop-holds Inv-loop μ-loop
-loop-holds c =
-    let a = c .before .before in let b = a .before .before in
-    area-begins (b .pre) (a .slot-length .ensures) (c .before .wide .ensures) (c .start .ensures)
+loop-holds c = area-begins (c .before .before .before .before .pre) (c .before .before .slot-length .ensures) (c .before .wide .ensures) (c .start .ensures)
 
 run-at-requires : tie.Need-run-at-requires Inv-loop μ-loop
 run-at-requires c κs =
@@ -53,12 +51,7 @@ places-of-requires c κs =
 
 add-j : tie.Need-add-j Inv-loop μ-loop
 add-j c =
-    let a = c .before .before in
-    let b = a .before in
-    let d = b .before .before in
-    let e = d .before .before in
-    let f = e .before in
-    let g = f .before .before in
+    let a = c .before .before in let b = a .before in let d = b .before .before in let e = d .before .before in let f = e .before in let g = f .before .before in
     omega (arith, c .places-of .ensures, area-run (g .pre) (f .slot-length .ensures) (e .wide .ensures) (d .loop .inv) (b .if1 .taken) (a .run-at .ensures .0) (a .run-at .ensures .1) .index)
 
 next-requires : tie.Need-next-requires Inv-loop μ-loop
@@ -73,13 +66,7 @@ loop-less c =
 
 loop-again : tie.Need-loop-again Inv-loop μ-loop
 loop-again c =
-    let a = c .before .before in
-    let b = a .before in
-    let d = b .before in
-    let e = d .before .before in
-    let f = e .before .before in
-    let g = f .before in
-    let h = g .before .before in
+    let a = c .before .before in let b = a .before in let d = b .before in let e = d .before .before in let f = e .before .before in let g = f .before in let h = g .before .before in
     area-on (h .pre) (g .slot-length .ensures) (f .wide .ensures) (e .loop .inv) (d .if1 .taken) (b .run-at .ensures .0) (c .next .ensures .0) (c .before .places-of .ensures)
     (a .see-run .ensures)
 
@@ -90,5 +77,5 @@ returns c =
 
 pub see-runs-spec : {M : Type 1} → statement M
 see-runs-spec =
-    tie.close (tie.spec Inv-loop μ-loop slot-length-requires mul-symbols wide-requires mul-carriers mul-places start-requires loop-holds
-    run-at-requires see-run-requires places-of-requires add-j next-requires loop-less loop-again returns)
+    tie.close (tie.spec Inv-loop μ-loop slot-length-requires mul-symbols wide-requires mul-carriers mul-places start-requires loop-holds run-at-requires see-run-requires places-of-requires
+    add-j next-requires loop-less loop-again returns)

@@ -14,24 +14,17 @@ doubles-requires : tie.Need-doubles-requires
 doubles-requires c κs = doubles-in (c .before .before .before .before .pre) (c .before .before .holes-of .ensures) (c .if1 .taken)
 
 returns : tie.Need-returns
-returns c =
-    let a = c .before .before .before in let b = a .before .before in
-    doubles-seen (b .pre) (a .holes-of .ensures) (c .before .if1 .taken) (c .doubles .ensures)
+returns c = doubles-seen (c .before .before .before .before .before .pre) (c .before .before .before .holes-of .ensures) (c .before .if1 .taken) (c .doubles .ensures)
 
 mul-between : tie.Need-mul-between
 mul-between c =
-    let a = c .before .before .before in let b = a .before .before in
-    omega (arith, count-total (b .args .run) (a .holes-of .ensures) (b .pre .short))
+    let a = c .before .before .before in let b = a .before .before in omega (arith, count-total (b .args .run) (a .holes-of .ensures) (b .pre .short))
 
 between-requires : tie.Need-between-requires
-between-requires c κs =
-    let a = c .before .before .before in let b = a .before .before in
-    holes-in (b .pre) (a .holes-of .ensures) (c .before .if1 .left)
+between-requires c κs = holes-in (c .before .before .before .before .before .pre) (c .before .before .before .holes-of .ensures) (c .before .if1 .left)
 
 returns-2 : tie.Need-returns-2
-returns-2 c =
-    let a = c .before .before in let b = a .before .before in let d = b .before .before in
-    holes-seen (d .pre) (b .holes-of .ensures) (a .if1 .left) (c .between .ensures)
+returns-2 c = holes-seen (c .before .before .before .before .before .before .pre) (c .before .before .before .before .holes-of .ensures) (c .before .before .if1 .left) (c .between .ensures)
 
 pub see-single-spec : {M : Type 1} → statement M
 see-single-spec = tie.close (tie.spec holes-of-requires mul-doubles doubles-requires returns mul-between between-requires returns-2)

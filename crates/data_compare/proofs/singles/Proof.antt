@@ -25,9 +25,7 @@ wrong-requires : tie.Need-wrong-requires Inv-loop μ-loop
 wrong-requires c κs = tt
 
 add-at : tie.Need-add-at Inv-loop μ-loop
-add-at c =
-    let a = c .before .before in let b = a .before in let d = b .before .before in
-    omega (arith, single-fits (d .pre) (b .loop .inv) (a .loop-test .taken))
+add-at c = omega (arith, single-fits (c .before .before .before .before .before .pre) (c .before .before .before .loop .inv) (c .before .before .loop-test .taken))
 
 add-i : tie.Need-add-i Inv-loop μ-loop
 add-i c = omega (arith, c .before .before .before .before .before .pre .small, c .before .before .loop-test .taken)
@@ -37,8 +35,7 @@ loop-less c = omega (arith, c .before .before .loop-test .taken)
 
 loop-again : tie.Need-loop-again Inv-loop μ-loop
 loop-again c =
-    let a = c .before .before in let b = a .before in let d = b .before .before in
-    singles-on (d .pre) (b .loop .inv) (a .loop-test .taken) (c .before .three-at .ensures) (c .wrong .ensures)
+    let a = c .before .before in let b = a .before in let d = b .before .before in singles-on (d .pre) (b .loop .inv) (a .loop-test .taken) (c .before .three-at .ensures) (c .wrong .ensures)
 
 returns : tie.Need-returns Inv-loop μ-loop
 returns c = singles-end (c .before .loop .inv) (c .loop-test .left)

@@ -28,8 +28,7 @@ mul-t12 c = omega (arith, offsets-small (c .before .before .before .before .pre 
 
 returns : tie.Need-returns
 returns c =
-    let a = c .before .before .before in let b = a .before in
-    starting (b .args .ports) (b .args .places) (b .args .j) (b .args .start) (b .args .step) (a .port-offsets .ensures)
+    let a = c .before .before .before in let b = a .before in starting (b .args .ports) (b .args .places) (b .args .j) (b .args .start) (b .args .step) (a .port-offsets .ensures)
 
 pub starts-of-spec : {M : Type 1} → statement M
 starts-of-spec = tie.close (tie.spec port-offsets-requires add-t7 mul-t8 add-t9 add-t10 mul-t11 mul-t12 returns)

@@ -9,8 +9,7 @@ use Rattle.verify.proofs.see_pbch.Tie as tie
 
 pbch-area-requires : tie.Need-pbch-area-requires
 pbch-area-requires c κs =
-    let a = c .before .before .before .before in
-    omega (arith, blocks-least (a .args .p .cell) (valid (a .args .plan .now) (a .args .p) (a .pre .answer) .cell))
+    let a = c .before .before .before .before in omega (arith, blocks-least (a .args .p .cell) (valid (a .args .plan .now) (a .args .p) (a .pre .answer) .cell))
 
 row-masks-requires : tie.Need-row-masks-requires
 row-masks-requires c κs = search needs
@@ -26,9 +25,7 @@ returns c =
     pbch-compared (d .args .plan .now) (d .args .p) (d .pre) _ (b .if1 .taken) (a .pbch-area .ensures) (c .compare-area .ensures)
 
 returns-2 : tie.Need-returns-2
-returns-2 c =
-    let a = c .before .before .before .before in
-    pbch-none (a .args .plan .now) (a .args .p) (a .pre) (c .if1 .left)
+returns-2 c = pbch-none (c .before .before .before .before .args .plan .now) (c .before .before .before .before .args .p) (c .before .before .before .before .pre) (c .if1 .left)
 
 pub see-pbch-spec : {M : Type 1} → statement M
 see-pbch-spec = tie.close (tie.spec pbch-area-requires row-masks-requires compare-area-requires returns returns-2)

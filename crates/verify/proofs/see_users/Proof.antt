@@ -37,28 +37,19 @@ next-at-requires : tie.Need-next-at-requires Inv-loop μ-loop
 next-at-requires c κs = tt
 
 add-i : tie.Need-add-i Inv-loop μ-loop
-add-i c =
-    let a = c .before .before .before .before .before in let b = a .before in
-    omega (arith, a .if1 .taken, b .struct-known .given)
+add-i c = omega (arith, c .before .before .before .before .before .if1 .taken, c .before .before .before .before .before .before .struct-known .given)
 
 loop-less : tie.Need-loop-less Inv-loop μ-loop
 loop-less c = omega (arith, c .before .before .before .before .before .if1 .taken)
 
 loop-again : tie.Need-loop-again Inv-loop μ-loop
 loop-again c =
-    let a = c .before .before in
-    let b = a .before .before in
-    let d = b .before in
-    let e = d .before .before in
-    let f = e .before .before .before .before .before in
+    let a = c .before .before in let b = a .before .before in let d = b .before in let e = d .before .before in let f = e .before .before .before .before .before in
     λ r. going-next (f .args .plan .now) (f .args .p) r (e .loop .inv r) (d .if1 .taken) _ (b .user-at .ensures) _ (c .next-at .ensures) (c .before .both .ensures) (a .see-user .ensures)
 
 returns : tie.Need-returns Inv-loop μ-loop
 returns c =
-    let a = c .before .before in let b = a .before .before .before .before .before in
-    users-end (b .args .plan .now) (b .args .p) (b .pre) (a .loop .inv (b .pre)) (c .if1 .left)
+    let a = c .before .before in let b = a .before .before .before .before .before in users-end (b .args .plan .now) (b .args .p) (b .pre) (a .loop .inv (b .pre)) (c .if1 .left)
 
 pub see-users-spec : {M : Type 1} → statement M
-see-users-spec =
-    tie.close (tie.spec Inv-loop μ-loop row-masks-requires loop-holds user-at-requires see-user-requires both-requires next-at-requires add-i
-    loop-less loop-again returns)
+see-users-spec = tie.close (tie.spec Inv-loop μ-loop row-masks-requires loop-holds user-at-requires see-user-requires both-requires next-at-requires add-i loop-less loop-again returns)
