@@ -1,6 +1,7 @@
 -- For the inner contracts and loops only: channels that fill their places k first, then s, by half blocks of six subcarriers: PBCH and
 -- the users. The laws in proofs/ show that an area's places are the owner's (layout/specs/Owners.antt).
 use Prim.Native.Nat.{ℕ, _+_, _-_, _*_, _/_, _%_, _≤_}
+use mathlib.Core.Path.{_≡_}
 use mathlib.Core.Bool.{Bool, true, false, not, _&&_}
 use mathlib.Core.List.{List}
 use lib.Dec.{leb, ltb}
@@ -87,3 +88,7 @@ pub record AreaIn (a : Area) (q unit : ℕ) (grid : List ℕ) : Type 0 where
   pub order : Order q
   pub level : unit ≤ 127
   pub room : Room (a .cell .ports) (placesOf (a .cell)) grid
+
+-- on two ports or four, an area leaves out the reference signals of two ports or four
+abbrev pub SignalsIn : Area → Type 0
+SignalsIn a = 2 ≤ a .cell .ports → (2 ≤ a .signals) × (a .signals ≡ 3 → ⊥)

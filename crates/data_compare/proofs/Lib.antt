@@ -1,9 +1,10 @@
--- Laws that the proofs cite. For the crates above: AreaSymbols (an area's places by their indices). Tests: the tests of one element, a
--- pair and a place as the code makes them; Walking, Rows: the walk through the places; Fitted, Whole: what the tests of all places
--- come to, and the area's answer.
+-- Laws that the proofs cite. For the crates above: AreaSymbols (an area's places by their indices).
 pub mod AreaSymbols
-mod Tests
-mod Walking
-mod Rows
+mod Telling
+mod Elements
+mod Numbers
+mod Pairs
+mod OnePort
+mod Areas
 mod Fitted
 mod Whole

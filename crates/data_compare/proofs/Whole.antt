@@ -1,7 +1,7 @@
 -- THE COMPARISON OF AN AREA: the tests of all its places answer whether the area holds some symbols, and then three bytes of each element
 -- that it sends are not 0. Assumes what comparing an area needs.
 use Prim.Native.Nat.{ℕ, zero, suc, _+_, _*_, _/_, _%_, _≤_, _<_}
-use mathlib.Core.Path.{_≡_, refl, sym, ap, ap₂, _∙_}
+use mathlib.Core.Path.{_≡_, refl, sym, ap, ap₂, _∙_, subst}
 use mathlib.Core.Bool.{Bool, true, false, cond, _||_, or-true}
 use mathlib.Core.Logic.{_⊎_, inl, inr}
 use mathlib.Core.List.{List}
@@ -12,7 +12,7 @@ use lib.Dec.{eqb}
 use lib.IntN.{ℤ, pos, negsuc, negℤ, natAbs}
 use lib.ListN.{length}
 use borrow.Author.Tests.{eq-eqb, ne-eqb, eqb-true}
-use Rattle.base.proofs.Tests.{by-test, clash}
+use Rattle.base.proofs.Tests.{by-test}
 use Rattle.base.specs.declared.Pair.{Pair}
 use Rattle.base.specs.Bytes.{byteOf, elementOf}
 use Rattle.base.proofs.Rows.{at-div, at-mod}
@@ -22,8 +22,10 @@ use Rattle.modulation.proofs.Constellation.{small, levels-nonzero}
 use Rattle.precoding.specs.Matrices.{unitOn}
 use Rattle.precoding.specs.Places.{ownPort, otherPort, partnerOf, beside, placed}
 use Rattle.precoding.proofs.Ports.{on-own, on-other}
+use Rattle.plan.proofs.Counts.{blocks-least}
 use Rattle.plan.proofs.Listed.{and-left, and-right}
 use Rattle.base.specs.Counts.{cnt}
+use Rattle.base.proofs.Counts.{cnt-most}
 use Rattle.places.specs.Places.{placesOf}
 use Rattle.places.proofs.Numbers.{first-row}
 use Rattle.grid.specs.Elements.{elementIn}
@@ -33,14 +35,13 @@ use Rattle.compare.specs.Comparing.{weightOf, weightIn, countBelow}
 use Rattle.compare.proofs.Comparing.{nonzero-one}
 use Rattle.compare.proofs.PortWeights.{port-weight}
 use Rattle.areas.specs.declared.Area.{Area}
-use Rattle.areas.specs.Areas.{areaAt, areaCount, areaIndex, areaSends, AreaIn}
-use Rattle.data.proofs.Walking.{count-most}
-use Rattle.data.proofs.Rows.{some}
-use Rattle.data_compare.specs.declared.Walk.{Walk}
+use Rattle.areas.specs.Areas.{areaAt, areaCount, areaIndex, areaSends}
+use Rattle.data_compare.specs.declared.Form.{Form}
 use Rattle.data_compare.specs.Symbols.{areaPlace, areaSymbol, areaSent, AreaHolds, AreaCompared, CompareIn}
-use Rattle.data_compare.specs.Fitting.{areaFits, all, Through}
+use Rattle.data_compare.specs.Tests.{FormOf}
+use Rattle.data_compare.specs.Places.{Through}
 use Rattle.data_compare.proofs.AreaSymbols.{place-in, at-place, index-back, place-back, index-below}
-use Rattle.data_compare.proofs.Fitted.{Right, ownAt, otherAt, all-right, right-all}
+use Rattle.data_compare.proofs.Fitted.{Fits, ownAt, otherAt, right-fits, fits-right}
 
 -- ---- bytes that are not 0
 weight-three : (u : ℕ) (d : Pair) → (u ≡ 0 → ⊥) → (byteOf (d .re) ≡ 0 → ⊥) → (byteOf (d .im) ≡ 0 → ⊥) → weightOf (elementOf u d) ≡ 3
@@ -151,9 +152,9 @@ module _ (a : Area) (some-places : 0 < placesOf (a .cell)) where
     there port d = sym (div-add-mod' e T) ∙ ap₂ (λ (y z : ℕ). y * T + z) d (sym (place-back a t is-place inside))
 
 -- ---- the area
-module _ {a : Area} {q unit : ℕ} {g : List ℕ} (i : CompareIn a q unit g) where
+module _ {a : Area} {q unit : ℕ} {masks g : List ℕ} (i : CompareIn a q unit masks g) where
   places-some : 0 < placesOf (a .cell)
-  places-some = omega (arith, some a (i .area .cell), first-row (a .cell))
+  places-some = omega (arith, blocks-least (a .cell) (i .area .cell), first-row (a .cell))
 
   abbrev U : ℕ
   U = unitOn (a .cell .ports) unit
@@ -162,7 +163,7 @@ module _ {a : Area} {q unit : ℕ} {g : List ℕ} (i : CompareIn a q unit g) whe
   d = areaSymbol a g
 
   -- an element that it sends, on the own port or the other one
-  module _ (r : (j : ℕ) → j < areaCount a → Right a q unit g j) (e : ℕ) (h : areaSends a e ≡ true) where
+  module _ (r : (j : ℕ) → j < areaCount a → Fits a q unit g j) (e : ℕ) (h : areaSends a e ≡ true) where
     abbrev n : ℕ
     n = areaIndex a (e % placesOf (a .cell))
 
@@ -208,10 +209,10 @@ module _ {a : Area} {q unit : ℕ} {g : List ℕ} (i : CompareIn a q unit g) whe
             ap weightOf (on-second not-own is)
             ∙ partner-three U (n % 2) q (d (beside n)) (unit-some (a .cell .ports) unit (i .some)) (i .area .order) (r (beside n) (other-below (more not-own is)) .known)
 
-  right-holds : ((j : ℕ) → j < areaCount a → Right a q unit g j) → AreaHolds a q unit g
+  right-holds : ((j : ℕ) → j < areaCount a → Fits a q unit g j) → AreaHolds a q unit g
   right-holds r = record { known = λ j l. r j l .known; holds = record { elements = right-value r } }
 
-  holds-right : AreaHolds a q unit g → (j : ℕ) → j < areaCount a → Right a q unit g j
+  holds-right : AreaHolds a q unit g → (j : ℕ) → j < areaCount a → Fits a q unit g j
   holds-right h j l =
       record {
         known = h .known j l;
@@ -223,39 +224,27 @@ module _ {a : Area} {q unit : ℕ} {g : List ℕ} (i : CompareIn a q unit g) whe
             ∙ on-other (a .cell .ports) (j / 2 % 2) unit (j % 2) (d j) (d (beside j)) (otherPort (a .cell .ports) (j / 2 % 2)) (other-apart (a .cell .ports) (j / 2 % 2) (i .area .room .some) n) refl;
       }
 
-  right-weights : ((j : ℕ) → j < areaCount a → Right a q unit g j) → cond (eqb (a .cell .ports) 1) 3 6 * areaCount a ≡ weightIn (areaSends a) g (length g / 3)
+  right-weights : ((j : ℕ) → j < areaCount a → Fits a q unit g j) → cond (eqb (a .cell .ports) 1) 3 6 * areaCount a ≡ weightIn (areaSends a) g (length g / 3)
   unfolding areaSends areaCount
   right-weights r =
       ap (λ (x : ℕ). cond (eqb (a .cell .ports) 1) 3 6 * x) (sym (count-is (areaAt a) (placesOf (a .cell))))
       ∙ sym (port-weight (i .area .room) places-some (areaAt a) (λ (t : ℕ). areaIndex a t / 2 % 2) (right-weight r))
 
-  -- what walking through it needs
-  pub walk-in : AreaIn a q 0 g
-  walk-in =
-      record {
-        cell = i .area .cell;
-        frame = i .area .frame;
-        rows = i .area .rows;
-        halves = i .area .halves;
-        order = i .area .order;
-        level = omega arith;
-        room = i .area .room;
-      }
+  -- ---- the answers, from the end of its runs
+  module _ {u : ℕ} {f : Form} {j bad : ℕ} (is-u : u ≡ unitOn (a .cell .ports) unit) (o : FormOf q u f) (k : Through a f g j bad) where
+    pub count-few : j ≤ 16800
+    unfolding areaCount
+    count-few = omega (arith, k .index, cnt-most (areaAt a) (placesOf (a .cell)), i .area .room .fits)
 
-  -- ---- the answers, from the walk's end
-  module _ {u : ℕ} {w : Walk} (is-u : u ≡ unitOn (a .cell .ports) unit) (k : Through a q u g w) where
-    pub count-few : w .j ≤ 16800
-    count-few = omega (arith, k .index, count-most a, i .area .room .fits)
+    form : FormOf q (unitOn (a .cell .ports) unit) f
+    form = subst (λ (x : ℕ). FormOf q x f) is-u o
 
-    tests : w .same ≡ all (areaFits a q U g) (areaCount a)
-    tests = k .same ∙ ap (λ (x : ℕ). all (areaFits a q x g) (areaCount a)) is-u
-
-    pub area-same : w .same ≡ true → (n : ℕ) → n ≡ cond (eqb (a .cell .ports) 1) 3 6 * w .j → AreaCompared a q unit g (Weight n)
+    pub area-same : bad ≡ 0 → (n : ℕ) → n ≡ cond (eqb (a .cell .ports) 1) 3 6 * j → AreaCompared a q unit g (Weight n)
     unfolding AreaCompared
     area-same e n h =
-        let r = all-right i (sym tests ∙ e) in
+        let r : (m : ℕ) → m < areaCount a → Fits a q unit g m = λ m l. right-fits a q unit g m (k .done .seen q U form .right e m l) in
         (right-holds r, h ∙ ap (λ (x : ℕ). cond (eqb (a .cell .ports) 1) 3 6 * x) (k .index) ∙ right-weights r)
 
-    pub area-differs : w .same ≡ false → AreaCompared a q unit g Differs
+    pub area-differs : (bad ≡ 0 → ⊥) → AreaCompared a q unit g Differs
     unfolding AreaCompared
-    area-differs e h = clash (tests ∙ right-all i (holds-right h)) e
+    area-differs n h = n (k .done .seen q U form .none (λ m l. fits-right a q unit g m (holds-right h m l)))

@@ -1,2 +1,3 @@
 pub mod Symbols
-pub mod Fitting
+pub mod Tests
+pub mod Places

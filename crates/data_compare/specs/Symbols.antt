@@ -17,7 +17,8 @@ use Rattle.compare.specs.declared.Seen.{Seen}
 use Rattle.compare.specs.declared.Seen.the-variants.{Weight, Differs}
 use Rattle.compare.specs.Comparing.{Holds, weightIn}
 use Rattle.areas.specs.declared.Area.{Area}
-use Rattle.areas.specs.Areas.{areaAt, areaCount, areaIndex, areaSends, AreaIn}
+use Rattle.areas.specs.Areas.{areaAt, areaCount, areaIndex, areaSends, AreaIn, SignalsIn}
+use Rattle.areas.specs.Tables.{RowMasks}
 
 -- the area's place of index j
 unfoldable pub areaPlace : Area → ℕ → ℕ
@@ -42,8 +43,10 @@ unfoldable pub AreaCompared : Area → ℕ → ℕ → List ℕ → Seen → Typ
 AreaCompared a q unit g (Weight n) = AreaHolds a q unit g × (n ≡ weightIn (areaSends a) g (length g / 3))
 AreaCompared a q unit g Differs = AreaHolds a q unit g → ⊥
 
--- what it needs: with two ports or four the places go in pairs
-pub record CompareIn (a : Area) (q unit : ℕ) (g : List ℕ) : Type 0 where
+-- what it needs: the area's masks, and that with two ports or four the places go in pairs
+pub record CompareIn (a : Area) (q unit : ℕ) (masks g : List ℕ) : Type 0 where
   pub area : AreaIn a q unit g
   pub some : 0 < unit
   pub pairs : (a .cell .ports ≡ 1 → ⊥) → areaCount a % 2 ≡ 0
+  pub signals : SignalsIn a
+  pub bytes : RowMasks (a .cell) (a .frame) (a .signals) (a .leaves) 14 masks

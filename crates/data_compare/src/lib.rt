@@ -1,186 +1,285 @@
-// PBCH and the users in a grid, compared in place: whether each place holds a constellation point, and the other port its
-// partner (TS 36.211 6.6, 6.3). The bits themselves are read later, when the whole grid is known to be some payload's.
+// PBCH and the users in a grid, compared in place (TS 36.211 6.6, 6.3): run by run, whether each place holds a constellation point, and
+// the other port its partner. The bits themselves are read later, when the whole grid is known to be some payload's.
 use areas::Area;
-use base::Element;
 use compare::Seen;
-use data::Row;
+use element_pairs::apart_at;
+use element_pairs::six_at;
+use element_pairs::three_at;
+use walk::Run;
 ghost use mathlib.Core.Path.{_≡_};
-ghost use mathlib.Core.Bool.{false, cond};
-ghost use Prim.Native.Nat.{_+_, _*_, _≤_, _<_};
+ghost use mathlib.Core.Bool.{cond};
+ghost use Prim.Native.Nat.{_*_, _≤_, _<_};
 ghost use lib.Dec.{eqb};
 ghost use Rattle.modulation.specs.Symbols.{Order};
-ghost use Rattle.layout.specs.Owners.{carriers};
-ghost use Rattle.grid.specs.Writing.{Room};
-ghost use Rattle.areas.specs.Areas.{AreaIn};
-ghost use Rattle.areas.specs.Masks.{centreOut};
+ghost use Rattle.walk.specs.Addresses.{PairsIn, RunIn};
+ghost use Rattle.walk.specs.Forms.{SingleForm};
+ghost use Rattle.walk.specs.Runs.{runCount};
 ghost use Rattle.data_compare.specs.Symbols.{AreaCompared, CompareIn};
-ghost use Rattle.data_compare.specs.Fitting.{ownFits, partnerFits, pairFits, walkOn, PlaceIn, Walked, HalfIn, Through};
+ghost use Rattle.data_compare.specs.Tests.{FormOf, wrongOf, sumsWith, toldBy};
+ghost use Rattle.data_compare.specs.Places.{StartsIn, Starting, PairsSeen, SinglesIn, SinglesSeen, HolesIn, HolesSeen, AnyIn, RunSeen, RunsIn, Through};
 
-// A walk through a channel's places: the index of the next one, the place before it, and whether all that was compared is as it
-// must be.
-struct Walk {
-    j: usize,
-    before: usize,
-    same: bool,
+// What elements of an order and a unit have in common, for two elements as one number: `fixed` where `fixes` has bits, that is the
+// unit and that levels are odd; and a level's bits from `same` on are alike, so that it is one of the order.
+struct Form {
+    same: u64,
+    fixed: u64,
+    fixes: u64,
 }
 
-// Whether an element is a symbol of the order, in its unit.
-fn is_symbol(q: u32, unit: u8, e: Element) -> bool
+fn form_of(q: u32, unit: u8) -> Form
     requires { ⌜ Order q ⌝ }
-    ensures { λ r. ⌜ r ≡ ownFits q unit e ⌝ }
+    ensures { λ r. ⌜ FormOf q unit r ⌝ }
 {
-    e.unit == unit && modulation::known(q, e.i) && modulation::known(q, e.j)
+    let levels: u64 = 1 << (q / 2);
+    Form {
+        same: (128 - levels) * 0x010100010100,
+        fixed: (unit as u64) * 16777217 + 0x010100010100,
+        fixes: 0x0101FF0101FF,
+    }
 }
 
-// On the other port at an even place: minus the conjugate of the other symbol of the pair.
-fn is_partner(unit: u8, e: Element, other: Element) -> bool
-    ensures { λ r. ⌜ r ≡ partnerFits unit 0 e other ⌝ }
+// The bits in which two elements are not of a form.
+fn wrong(f: Form, x: u64) -> u64
+    ensures { λ r. ⌜ r ≡ wrongOf f x ⌝ }
 {
-    e.unit == unit && (base::wide(e.i) + base::wide(other.i)) % 256 == 0 && e.j == other.j
+    (x ^ x / 2) & f.same | (x ^ f.fixed) & f.fixes
 }
 
-// At an odd place: the conjugate.
-fn is_conjugate(unit: u8, e: Element, other: Element) -> bool
-    ensures { λ r. ⌜ r ≡ partnerFits unit 1 e other ⌝ }
-{
-    e.unit == unit && e.i == other.i && (base::wide(e.j) + base::wide(other.j)) % 256 == 0
+// Bits that were found in pairs, before those of the form are taken.
+struct Sums {
+    fixed: u64,
+    same: u64,
+    bad: u64,
 }
 
-// A pair of places, s before t, on both ports that send it.
-fn pair_fits(
+// One pair more: x on its own port, y on the other, where the partners must stand.
+fn with_pair(f: Form, s: Sums, x: u64, y: u64) -> Sums
+    requires { ⌜ x < 281474976710656 ⌝ }
+    ensures { λ r. ⌜ r ≡ sumsWith f s x y ⌝ }
+{
+    let crossed = constellation::partners(x % 16777216, x / 16777216);
+    Sums {
+        fixed: s.fixed | x ^ f.fixed,
+        same: s.same | x ^ x / 2,
+        bad: s.bad | y ^ crossed,
+    }
+}
+
+// The bits in which the pairs are wrong.
+fn told(f: Form, s: Sums) -> u64
+    ensures { λ r. ⌜ r ≡ toldBy f s ⌝ }
+{
+    s.bad | s.same & f.same | s.fixed & f.fixes
+}
+
+// Where the first pair and the next one begin, in bytes, and how far the other port is.
+struct Starts {
+    at: usize,
+    next: usize,
+    across: usize,
+}
+
+fn starts_of(ports: u8, places: usize, j: usize, start: usize, step: usize) -> Starts
+    requires { ⌜ StartsIn ports places j start step ⌝ }
+    ensures { λ r. ⌜ Starting ports places j start step r ⌝ }
+{
+    let p = walk::port_offsets(ports, places, j);
+    Starts {
+        at: 3 * (p.own + start),
+        next: 3 * (p.next + start + step),
+        across: 3 * p.across,
+    }
+}
+
+// n pairs of places side by side, pair i at `start` + `step` × i, on the own ports in turn; 0 where they are right.
+fn sides(
+    f: Form,
+    grid: &[u8],
     ports: u8,
     places: usize,
-    turn: u8,
-    q: u32,
-    unit: u8,
-    grid: &[u8],
-    s: usize,
-    t: usize,
-) -> bool
-    requires { ⌜ Room ports places (now grid) × Order q × (s < places) × (t < places) ⌝ }
-    ensures { λ r. ⌜ r ≡ pairFits ports places turn q unit (now (grid .entry)) s t ⌝ }
+    j: usize,
+    start: usize,
+    step: usize,
+    n: usize,
+) -> u64
+    requires { ⌜ PairsIn ports places 1 j start step n (now grid) ⌝ }
+    ensures { λ r. ⌜ PairsSeen ports places 1 j start step n f (now (grid .entry)) r ⌝ }
 {
-    let own = base::wide(precoding::own_port(ports, turn)) * places;
-    let other = base::wide(precoding::other_port(ports, turn)) * places;
-    let d = grid::get(grid, own + s);
-    let e = grid::get(grid, own + t);
-    is_symbol(q, unit, d)
-        && is_symbol(q, unit, e)
-        && is_partner(unit, grid::get(grid, other + s), e)
-        && is_conjugate(unit, grid::get(grid, other + t), d)
-}
-
-// The next place of a channel, t: alone with one port, else with the place before it when it ends a pair.
-fn place(w: Walk, ports: u8, places: usize, q: u32, unit: u8, grid: &[u8], t: usize) -> Walk
-    requires { ⌜ PlaceIn ports places q (now grid) w t ⌝ }
-    ensures { λ r. ⌜ r ≡ walkOn ports places q unit (now (grid .entry)) w t ⌝ }
-{
-    let next = w.j + 1;
-    if ports == 1 {
-        let fits = is_symbol(q, unit, grid::get(grid, t));
-        return Walk {
-            j: next,
-            before: t,
-            same: w.same && fits,
-        };
-    }
-    if w.j % 2 == 0 {
-        return Walk {
-            j: next,
-            before: t,
-            same: w.same,
-        };
-    }
-    let turn = (w.j / 2 % 2) as u8;
-    let fits = pair_fits(ports, places, turn, q, unit, grid, w.before, t);
-    Walk {
-        j: next,
-        before: t,
-        same: w.same && fits,
-    }
-}
-
-// Place t, if it is the channel's.
-fn place_if(
-    own: bool,
-    w: Walk,
-    ports: u8,
-    places: usize,
-    q: u32,
-    unit: u8,
-    grid: &[u8],
-    t: usize,
-) -> Walk
-    requires { ⌜ PlaceIn ports places q (now grid) w t ⌝ }
-    ensures { λ r. ⌜ r ≡ cond own (walkOn ports places q unit (now (grid .entry)) w t) w ⌝ }
-{
-    if own {
-        return place(w, ports, places, q, unit, grid, t);
-    }
-    w
-}
-
-// Half block b of a row, which is not left out.
-fn compare_six(start: Walk, a: Area, row: Row, b: usize, q: u32, unit: u8, grid: &[u8]) -> Walk
-    requires { ⌜ HalfIn a row b q unit (now grid) start × (centreOut (a .cell .blocks) (row .out) b ≡ false) ⌝ }
-    ensures { λ r. ⌜ Walked a q unit (now (grid .entry)) (row .base + 6 * b + 6) r ⌝ }
-{
-    let t = row.base + 6 * b;
-    let mut w = start;
-    let mut r: usize = 0;
-    while r < 6 {
-        let own = (row.mask >> r) % 2 == 1;
-        w = place_if(own, w, a.cell.ports, row.places, q, unit, grid, t + r);
-        r += 1;
-    }
-    w
-}
-
-// Half block b of a row.
-fn compare_half(w: Walk, a: Area, row: Row, b: usize, q: u32, unit: u8, grid: &[u8]) -> Walk
-    requires { ⌜ HalfIn a row b q unit (now grid) w ⌝ }
-    ensures { λ r. ⌜ Walked a q unit (now (grid .entry)) (row .base + 6 * b + 6) r ⌝ }
-{
-    let blocks = base::wide(a.cell.blocks);
-    if data::centre_out(blocks, row.out, b) {
-        return w;
-    }
-    compare_six(w, a, row, b, q, unit, grid)
-}
-
-// The area's places of symbol s.
-fn compare_row(start: Walk, a: Area, s: usize, q: u32, unit: u8, grid: &[u8]) -> Walk
-    requires { ⌜ (a .first ≤ s) × (s < a .last) × Walked a q unit (now grid) (s * carriers (a .cell)) start ⌝ }
-    ensures { λ r. ⌜ Walked a q unit (now (grid .entry)) (s * carriers (a .cell) + carriers (a .cell)) r ⌝ }
-{
-    let row = data::row_of(a, s);
-    let to = a.to;
-    let mut w = start;
-    let mut b = a.from;
-    while b < to {
-        w = compare_half(w, a, row, b, q, unit, grid);
-        b += 1;
-    }
-    w
-}
-
-// All places of an area.
-fn compare_rows(a: Area, q: u32, unit: u8, grid: &[u8]) -> Walk
-    requires { ⌜ AreaIn a q 0 (now grid) ⌝ }
-    ensures { λ r. ⌜ Through a q unit (now (grid .entry)) r ⌝ }
-{
-    let mut w = Walk {
-        j: 0,
-        before: 0,
-        same: true,
+    let p = starts_of(ports, places, j, start, step);
+    let across = p.across;
+    let mut at = p.at;
+    let mut next = p.next;
+    let mut s = Sums {
+        fixed: 0,
+        same: 0,
+        bad: 0,
     };
-    let last = a.last;
-    let mut s = a.first;
-    while s < last {
-        w = compare_row(w, a, s, q, unit, grid);
-        s += 1;
+    let mut i: usize = 0;
+    while i < n {
+        s = with_pair(f, s, six_at(grid, at), six_at(grid, at + across));
+        let then = at + 6 * step;
+        at = next;
+        next = then;
+        i += 1;
     }
-    w
+    told(f, s)
+}
+
+// The same where a hole is between the two places of a pair.
+fn aparts(f: Form, grid: &[u8], ports: u8, places: usize, j: usize, start: usize, n: usize) -> u64
+    requires { ⌜ PairsIn ports places 2 j start 3 n (now grid) ⌝ }
+    ensures { λ r. ⌜ PairsSeen ports places 2 j start 3 n f (now (grid .entry)) r ⌝ }
+{
+    let p = starts_of(ports, places, j, start, 3);
+    let across = p.across;
+    let mut at = p.at;
+    let mut next = p.next;
+    let mut s = Sums {
+        fixed: 0,
+        same: 0,
+        bad: 0,
+    };
+    let mut i: usize = 0;
+    while i < n {
+        s = with_pair(f, s, apart_at(grid, at), apart_at(grid, at + across));
+        let then = at + 18;
+        at = next;
+        next = then;
+        i += 1;
+    }
+    told(f, s)
+}
+
+// A run on two ports or four, from the channel's index j on.
+fn see_pairs(f: Form, grid: &[u8], run: Run, j: usize, ports: u8, places: usize) -> u64
+    requires { ⌜ RunIn ports places j run (now grid) ⌝ }
+    ensures { λ r. ⌜ RunSeen ports places j run f (now (grid .entry)) r ⌝ }
+{
+    let first = run.first;
+    let halves = run.halves;
+    let mask = run.mask;
+    if mask == 63 {
+        return sides(f, grid, ports, places, j, first, 2, 3 * halves);
+    }
+    if mask == 27 {
+        return sides(f, grid, ports, places, j, first, 3, 2 * halves);
+    }
+    if mask == 54 {
+        return sides(f, grid, ports, places, j, first + 1, 3, 2 * halves);
+    }
+    aparts(f, grid, ports, places, j, first, 2 * halves)
+}
+
+// n places side by side on one port.
+fn singles(f: Form, grid: &[u8], start: usize, n: usize) -> u64
+    requires { ⌜ SinglesIn start n (now grid) ⌝ }
+    ensures { λ r. ⌜ SinglesSeen start n f (now (grid .entry)) r ⌝ }
+{
+    let mut bad: u64 = 0;
+    let mut at = 3 * start;
+    let mut i: usize = 0;
+    while i < n {
+        bad = bad | wrong(f, three_at(grid, at)) % 16777216;
+        at += 3;
+        i += 1;
+    }
+    bad
+}
+
+// Twice n places, two at a time.
+fn doubles(f: Form, grid: &[u8], start: usize, n: usize) -> u64
+    requires { ⌜ SinglesIn start (2 * n) (now grid) ⌝ }
+    ensures { λ r. ⌜ SinglesSeen start (2 * n) f (now (grid .entry)) r ⌝ }
+{
+    let mut bad: u64 = 0;
+    let mut at = 3 * start;
+    let mut i: usize = 0;
+    while i < n {
+        bad = bad | wrong(f, six_at(grid, at));
+        at += 6;
+        i += 1;
+    }
+    bad
+}
+
+// `total` places of a run with holes, stretch after stretch between them: `lead` places before the first hole, then `each`.
+fn between(f: Form, grid: &[u8], first: usize, lead: usize, each: usize, total: usize) -> u64
+    requires { ⌜ HolesIn first lead each total (now grid) ⌝ }
+    ensures { λ r. ⌜ HolesSeen first lead each total f (now (grid .entry)) r ⌝ }
+{
+    let s = walk::first_stretch(first, lead, each);
+    let mut bad: u64 = 0;
+    let mut at = s.at;
+    let mut left = s.left;
+    let mut k: usize = 0;
+    while k < total {
+        let n = areas::smaller(left, total - k);
+        bad = bad | singles(f, grid, at, n);
+        k += n;
+        at += n + 1;
+        left = each;
+    }
+    bad
+}
+
+// A run on one port.
+fn see_single(f: Form, grid: &[u8], run: Run, j: usize, places: usize) -> u64
+    requires { ⌜ AnyIn 1 places j run (now grid) ⌝ }
+    ensures { λ r. ⌜ RunSeen 1 places j run f (now (grid .entry)) r ⌝ }
+{
+    let first = run.first;
+    let halves = run.halves;
+    let h = walk::holes_of(run.mask);
+    if h.each == 0 {
+        return doubles(f, grid, first, 3 * halves);
+    }
+    between(f, grid, first, h.lead, h.each, h.count * halves)
+}
+
+// A run of half blocks, from the channel's index j on.
+fn see_run(f: Form, grid: &[u8], run: Run, j: usize, ports: u8, places: usize) -> u64
+    requires { ⌜ AnyIn ports places j run (now grid) ⌝ }
+    ensures { λ r. ⌜ RunSeen ports places j run f (now (grid .entry)) r ⌝ }
+{
+    if ports == 1 {
+        return see_single(f, grid, run, j, places);
+    }
+    see_pairs(f, grid, run, j, ports, places)
+}
+
+// How many places a run has.
+fn places_of(run: Run) -> usize
+    requires { ⌜ SingleForm (run .mask) × (run .halves ≤ 255) ⌝ }
+    ensures { λ r. ⌜ r ≡ runCount run ⌝ }
+{
+    let h = walk::holes_of(run.mask);
+    h.count * run.halves
+}
+
+// How many places were compared, and the bits in which they are wrong.
+struct Sum {
+    j: usize,
+    bad: u64,
+}
+
+// All runs of an area, by its tables.
+fn see_runs(f: Form, grid: &[u8], a: Area, rows: &[u8; 45], spans: &[u8; 512]) -> Sum
+    requires { ⌜ RunsIn a (now rows) (now spans) (now grid) ⌝ }
+    ensures { λ r. ⌜ Through a f (now (grid .entry)) (r .j) (r .bad) ⌝ }
+{
+    let symbols = 2 * layout::slot_length(a.cell);
+    let carriers = 12 * base::wide(a.cell.blocks);
+    let places = symbols * carriers;
+    let mut c = walk::start(rows);
+    let mut j: usize = 0;
+    let mut bad: u64 = 0;
+    while c.s < symbols {
+        let run = walk::run_at(c, carriers, rows, spans);
+        bad = bad | see_run(f, grid, run, j, a.cell.ports, places);
+        j += places_of(run);
+        c = walk::next(c, rows);
+    }
+    Sum { j: j, bad: bad }
 }
 
 // The bytes of n places that are not 0, where no level is 0: three on each port with a term.
@@ -191,15 +290,18 @@ fn weight_of(ports: u8, n: usize) -> usize
     if ports == 1 { 3 * n } else { 6 * n }
 }
 
-// An area's places, with symbols of q bits in a unit. Callers have the area from an accepted plan, and have compared the grid's
-// length.
-pub fn compare_area(a: Area, q: u32, unit: u8, grid: &[u8]) -> Seen
-    requires { ⌜ CompareIn a q unit (now grid) ⌝ }
+// An area's places, with symbols of q bits in a unit. Callers have the area from an accepted plan, its masks from `areas::row_masks`,
+// and have compared the grid's length.
+pub fn compare_area(a: Area, q: u32, unit: u8, masks: &[u8; 14], grid: &[u8]) -> Seen
+    requires { ⌜ CompareIn a q unit (now masks) (now grid) ⌝ }
     ensures { λ r. ⌜ AreaCompared a q unit (now (grid .entry)) r ⌝ }
 {
-    let u = precoding::unit_on(a.cell.ports, unit);
-    let w = compare_rows(a, q, u, grid);
-    if w.same {
+    let mut rows: [u8; 45] = [0; 45];
+    let mut spans: [u8; 512] = [0; 512];
+    areas::set_tables(a, masks, &mut rows, &mut spans);
+    let f = form_of(q, precoding::unit_on(a.cell.ports, unit));
+    let w = see_runs(f, grid, a, &rows, &spans);
+    if w.bad == 0 {
         return Seen::Weight(weight_of(a.cell.ports, w.j));
     }
     Seen::Differs

@@ -17,7 +17,6 @@ ghost use Prim.Native.Nat.{_+_, _*_, _≤_, _<_};
 ghost use lib.ListN.{length};
 ghost use Rattle.modulation.specs.Symbols.{Order, unitOf};
 ghost use Rattle.walk.specs.Addresses.{PairsIn, RunIn};
-ghost use Rattle.walk.specs.Forms.{Stretch};
 ghost use Rattle.data_write.specs.Sent.{groupOf, TableOf, Sending};
 ghost use Rattle.data_write.specs.Pairs.{RoundIn, RoundDone, PairsFit, FirstAt, PairsDone, RunFilled};
 ghost use Rattle.data_write.specs.OnePort.{SinglesIn, SinglesDone, HolesIn, HolesDone, SingleIn};
@@ -325,29 +324,6 @@ fn doubles(
     }
 }
 
-// The places before the first hole: where they begin, and how many they are.
-struct FirstStretch {
-    at: usize,
-    left: usize,
-}
-
-// If the first place is a hole, those from it to the next one.
-fn first_stretch(first: usize, lead: usize, each: usize) -> FirstStretch
-    requires { ⌜ (first ≤ 16800) × (lead ≤ each) × (0 < each) ⌝ }
-    ensures { λ r. ⌜ Stretch first lead each 0 (r .at) (r .left) ⌝ }
-{
-    if lead == 0 {
-        return FirstStretch {
-            at: first + 1,
-            left: each,
-        };
-    }
-    FirstStretch {
-        at: first,
-        left: lead,
-    }
-}
-
 // The places of a run with holes on one port, stretch after stretch between them: `lead` places before the first hole, then `each`.
 fn between(
     st: &mut [u64; 8],
@@ -364,7 +340,7 @@ fn between(
     requires { ⌜ HolesIn j first lead each total (now grid) × Sending q q j (now t) (now bits) (now st) ⌝ }
     ensures { λ _. ⌜ HolesDone j first lead each total total q (now (t .entry)) (now (bits .entry)) (now (st .entry)) (now (grid .entry)) (now (st .exit)) (now (grid .exit)) ⌝ }
 {
-    let s = first_stretch(first, lead, each);
+    let s = walk::first_stretch(first, lead, each);
     let mut at = s.at;
     let mut left = s.left;
     let mut k: usize = 0;

@@ -220,7 +220,7 @@ six-read {at} {g} {a} {b} {c} p q r =
     byte x y e = ap (λ (k : ℕ). getD g k 0) e
 
 -- ---- numbers with the same elements are the same
-low-three : (v : ℕ) → v % 16777216 ≡ (v / 65536 % 256 * 256 + v / 256 % 256) * 256 + v % 256
+pub low-three : (v : ℕ) → v % 16777216 ≡ (v / 65536 % 256 * 256 + v / 256 % 256) * 256 + v % 256
 low-three v =
     let e : v / 256 / 256 ≡ v / 65536 = omega arith in
     mod-pow-add v 16 8 ∙ ap (λ (x : ℕ). x * 256 + v % 256) (mod-pow-add (v / 256) 8 8 ∙ ap (λ (x : ℕ). x % 256 * 256 + v / 256 % 256) e)
@@ -249,7 +249,7 @@ or-none a b e =
 pub none-or : (a b : ℕ) → a ≡ 0 → b ≡ 0 → bitOr a b ≡ 0
 none-or a b x y = ap₂ (λ (c d : ℕ). bitOr c d) x y ∙ or-zero-l 0
 
-xor-none : (a b : ℕ) → bitXor a b ≡ 0 → a ≡ b
+pub xor-none : (a b : ℕ) → bitXor a b ≡ 0 → a ≡ b
 xor-none a b e = let h = xor-add-and a b in let l = and-le-l a b in let r = and-le-r a b in omega (arith, h, l, r, e)
 
 -- one element beside a number

@@ -39,6 +39,7 @@ use Rattle.recovery.proofs.Payload.{hi-bit}
 use Rattle.areas.specs.declared.Area.{Area}
 use Rattle.areas.specs.Areas.{areaCount, pbchArea, userArea, AreaIn}
 use Rattle.areas.proofs.AreaOwners.{pbch-in, user-in}
+use Rattle.areas.specs.Tables.{RowMasks}
 use Rattle.data_compare.specs.Symbols.{AreaCompared, CompareIn}
 use Rattle.signals.specs.Signals.{crsSends, crsSent, markSends, pssSent, sssSent}
 use Rattle.signals.specs.Rows.{MarkIn, SignalIn}
@@ -54,7 +55,7 @@ use Rattle.build.proofs.Some.{some-none, some-more}
 use Rattle.build.proofs.SignalValues.{crs-numbered, pss-numbered, sss-numbered}
 use Rattle.build.proofs.ControlValues.{pcfich-owned, pcfich-numbered, phich-owned, phich-numbered}
 use Rattle.build.proofs.Slices.{From, from-first, from-user, from-next}
-use Rattle.verify.specs.Made.{elementDue, Given, Planned, UserSeen}
+use Rattle.verify.specs.Made.{elementDue, Given, Planned, UserMasks, UserSeen}
 use Rattle.verify.proofs.Owners.{
   In,
   Before,
@@ -187,10 +188,16 @@ module _ (w : List ℕ) (p : Plan) {g : List ℕ} (given : Given w p g) where
   pbch-none n = same (λ e. rw (ne-eqb (p .frame .subframe) 0 n) refl) (λ e k. refl) (none (elementDue w p g) g)
 
   module _ (a : Area) (z : p .frame .subframe ≡ 0) (ea : a ≡ pbchArea (p .cell) (p .frame)) where
-    pub pbch-ready : CompareIn a 2 2 g
-    pbch-ready =
-        subst (λ (b : Area). CompareIn b 2 2 g) (sym ea)
-        (record { area = pbch-in w p ok 2 2 g (omega arith) (omega arith) (given .room); some = omega arith; pairs = pbch-even w p g given z })
+    pub pbch-ready : {masks : List ℕ} → RowMasks (a .cell) (a .frame) (a .signals) (a .leaves) 14 masks → CompareIn a 2 2 masks g
+    pbch-ready {masks} m =
+        subst (λ (b : Area). CompareIn b 2 2 masks g) (sym ea)
+        (record {
+          area = pbch-in w p ok 2 2 g (omega arith) (omega arith) (given .room);
+          some = omega arith;
+          pairs = pbch-even w p g given z;
+          signals = λ many. (omega arith, λ e. omega arith);
+          bytes = subst (λ (b : Area). RowMasks (b .cell) (b .frame) (b .signals) (b .leaves) 14 masks) ea m;
+        })
 
     pub pbch-compared : {r : Seen} → AreaCompared a 2 2 g r → Compared (pbchSends w p) (elementDue w p g) g r
     unfolding pbchSends
@@ -260,20 +267,25 @@ module _ (w : List ℕ) (p : Plan) {g : List ℕ} (given : Given w p g) where
     order-ok : (i : ℕ) → i < length (usersOf w p) → u ≡ nthUser w p i → Order (u .order)
     order-ok i l e = subst (λ (v : User). Order (v .order)) (sym e) (user-order w p ok i l)
 
-    ready-at : (i : ℕ) → i < length (usersOf w p) → u ≡ nthUser w p i → CompareIn (userArea (p .cell) (p .frame) u) (u .order) (unitOf (u .order)) g
+    ready-at :
+        {masks : List ℕ} → UserMasks p masks → (i : ℕ) → i < length (usersOf w p) → u ≡ nthUser w p i
+        → CompareIn (userArea (p .cell) (p .frame) u) (u .order) (unitOf (u .order)) masks g
     unfolding nthUser
-    ready-at i l e =
+    ready-at m i l e =
         let d : User = record { rnti = 0; order = 0; first = 0; count = 0 } in
         record {
           area = subst (λ (v : User). AreaIn (userArea (p .cell) (p .frame) v) (u .order) (unitOf (u .order)) g) (sym e) (user-in w p ok (u .order) (unitOf (u .order)) g (order-ok i l e) (omega (arith, unit-small (u .order))) (given .room) i l d);
           some = unit-some (u .order) (order-ok i l e);
           pairs = λ n. ap (λ (v : User). areaCount (userArea (p .cell) (p .frame) v) % 2) e ∙ user-even w p g given i l n;
+          signals = λ many. (many, given .room .not-three);
+          bytes = m;
         }
 
-    pub user-ready : CompareIn a (u .order) unit g
-    user-ready =
-        subst (λ (b : Area). CompareIn b (u .order) unit g) (sym ea)
-        (subst (λ (x : ℕ). CompareIn (userArea (p .cell) (p .frame) u) (u .order) x g) (sym eu) (ready-at (planned .number) (planned .inside) (planned .is)))
+    pub user-ready : {masks : List ℕ} → UserMasks p masks → CompareIn a (u .order) unit masks g
+    user-ready {masks} m =
+        subst (λ (b : Area). CompareIn b (u .order) unit masks g) (sym ea)
+        (subst (λ (x : ℕ). CompareIn (userArea (p .cell) (p .frame) u) (u .order) x masks g) (sym eu)
+        (ready-at m (planned .number) (planned .inside) (planned .is)))
 
     pub user-compared : {r : Seen} → AreaCompared a (u .order) unit g r → UserSeen w p u g r
     user-compared {r} c =

@@ -16,6 +16,7 @@ use Rattle.places.specs.Places.{placesOf}
 use Rattle.grid.specs.Writing.{Room}
 use Rattle.compare.specs.declared.Seen.{Seen}
 use Rattle.compare.specs.Comparing.{Compared}
+use Rattle.areas.specs.Tables.{RowMasks}
 use Rattle.subframe.specs.Grid.{elementNumbered, gridOf}
 use Rattle.recovery.specs.Recovery.{payloadIn}
 use Rattle.build.specs.Senders.{ownerSends}
@@ -34,6 +35,10 @@ pub record Planned (w : List ℕ) (p : Plan) (u : User) : Type 0 where
   pub number : ℕ
   pub inside : number < length (usersOf w p)
   pub is : u ≡ nthUser w p number
+
+-- the masks of the users' rows
+abbrev pub UserMasks : Plan → List ℕ → Type 0
+UserMasks p masks = RowMasks (p .cell) (p .frame) (p .cell .ports) true 14 masks
 
 -- its elements are compared
 pub record UserSeen (w : List ℕ) (p : Plan) (u : User) (g : List ℕ) (r : Seen) : Type 0 where

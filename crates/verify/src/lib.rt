@@ -13,7 +13,7 @@ ghost use Rattle.layout.specs.Owners.{symbols};
 ghost use Rattle.layout.specs.declared.Owner.the-variants.{Pcfich};
 ghost use Rattle.compare.specs.Comparing.{Compared};
 ghost use Rattle.build.specs.Senders.{crsPorts, crsRows, marksSend, pbchSends, ownerSends, unitsSend, usersSend, allSend};
-ghost use Rattle.verify.specs.Made.{elementDue, Given, Planned, UserSeen, Made};
+ghost use Rattle.verify.specs.Made.{elementDue, Given, Planned, UserMasks, UserSeen, Made};
 
 // The reference signals of all ports in symbol s.
 fn see_crs_row(plan: &[u8], p: Plan, s: u8, grid: &[u8]) -> Seen
@@ -68,7 +68,10 @@ fn see_pbch(plan: &[u8], p: Plan, grid: &[u8]) -> Seen
     ensures { λ r. ⌜ Compared (pbchSends (now (plan .entry)) p) (elementDue (now (plan .entry)) p (now (grid .entry))) (now (grid .entry)) r ⌝ }
 {
     if p.frame.subframe == 0 {
-        return data_compare::compare_area(areas::pbch_area(p.cell, p.frame), 2, 2, grid);
+        let area = areas::pbch_area(p.cell, p.frame);
+        let mut masks: [u8; 14] = [0; 14];
+        areas::row_masks(area.cell, area.frame, area.signals, area.leaves, &mut masks);
+        return data_compare::compare_area(area, 2, 2, &masks, grid);
     }
     Seen::Weight(0)
 }
@@ -105,9 +108,9 @@ fn see_units(plan: &[u8], p: Plan, grid: &[u8]) -> Seen
     seen
 }
 
-// A user of the plan.
-fn see_user(plan: &[u8], p: Plan, u: User, grid: &[u8]) -> Seen
-    requires { ⌜ Given (now plan) p (now grid) × Planned (now plan) p u ⌝ }
+// A user of the plan. The masks of its rows are the same for all users.
+fn see_user(plan: &[u8], p: Plan, u: User, masks: &[u8; 14], grid: &[u8]) -> Seen
+    requires { ⌜ Given (now plan) p (now grid) × Planned (now plan) p u × UserMasks p (now masks) ⌝ }
     ensures { λ r. ⌜ UserSeen (now (plan .entry)) p u (now (grid .entry)) r ⌝ }
 {
     let order = u.order as u32;
@@ -115,6 +118,7 @@ fn see_user(plan: &[u8], p: Plan, u: User, grid: &[u8]) -> Seen
         areas::user_area(p.cell, p.frame, u),
         order,
         modulation::unit(order),
+        masks,
         grid,
     )
 }
@@ -124,11 +128,16 @@ fn see_users(plan: &[u8], p: Plan, grid: &[u8]) -> Seen
     requires { ⌜ Given (now plan) p (now grid) ⌝ }
     ensures { λ r. ⌜ Compared (usersSend (now (plan .entry)) p (length (usersOf (now (plan .entry)) p))) (elementDue (now (plan .entry)) p (now (grid .entry))) (now (grid .entry)) r ⌝ }
 {
+    let mut masks: [u8; 14] = [0; 14];
+    areas::row_masks(p.cell, p.frame, p.cell.ports, true, &mut masks);
     let mut seen = Seen::Weight(0);
     let mut at = p.users.at;
     let mut i: usize = 0;
     while i < p.users.count {
-        seen = both(seen, see_user(plan, p, plan::user_at(plan, at), grid));
+        seen = both(
+            seen,
+            see_user(plan, p, plan::user_at(plan, at), &masks, grid),
+        );
         at = plan::next_at(plan, at);
         i += 1;
     }

@@ -19,7 +19,7 @@ use Rattle.walk.specs.Forms.{Paired}
 use Rattle.walk.proofs.Runs.{pair-inside, pair-count}
 use Rattle.walk.specs.Addresses.{OffsetsAt, PairsIn, RoundAt, RunIn}
 
-own-turn : (P x y : ℕ) → x % 2 ≡ y % 2 → ownPort P x ≡ ownPort P y
+pub own-turn : (P x y : ℕ) → x % 2 ≡ y % 2 → ownPort P x ≡ ownPort P y
 unfolding ownPort
 own-turn P x y e = ap (λ (z : ℕ). cond (eqb P 4) z 0) e
 

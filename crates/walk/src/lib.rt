@@ -4,7 +4,7 @@ ghost use mathlib.Core.Path.{_≡_};
 ghost use Prim.Native.Nat.{_+_, _*_, _≤_, _<_};
 ghost use lib.ListN.{length};
 ghost use Rattle.walk.specs.Runs.{runCount};
-ghost use Rattle.walk.specs.Forms.{PairForm, SingleForm, HolesOf, holesWith};
+ghost use Rattle.walk.specs.Forms.{PairForm, SingleForm, HolesOf, holesWith, Stretch};
 ghost use Rattle.walk.specs.Addresses.{OffsetsAt};
 ghost use Rattle.walk.specs.Tables.{cursorStart, cursorRun, cursorNext, rowEnd, CursorIn};
 ghost use Rattle.walk.specs.Spans.{SpanPut, RowPut};
@@ -199,4 +199,27 @@ pub fn holes_of(mask: usize) -> Holes
         return one_hole(4);
     }
     one_hole(5)
+}
+
+// The places before the first hole: where they begin, and how many they are.
+pub struct FirstStretch {
+    pub at: usize,
+    pub left: usize,
+}
+
+// If the first place is a hole, those from it to the next one.
+pub fn first_stretch(first: usize, lead: usize, each: usize) -> FirstStretch
+    requires { ⌜ (first ≤ 16800) × (lead ≤ each) × (0 < each) ⌝ }
+    ensures { λ r. ⌜ Stretch first lead each 0 (r .at) (r .left) ⌝ }
+{
+    if lead == 0 {
+        return FirstStretch {
+            at: first + 1,
+            left: each,
+        };
+    }
+    FirstStretch {
+        at: first,
+        left: lead,
+    }
 }

@@ -1,24 +1,35 @@
--- An area: the walk's answer, with the weight of all its places.
-use Rattle.data_compare.proofs.Whole.{walk-in, count-few, area-same, area-differs}
+-- `data_compare::compare_area` meets its contract: what its runs tell, with the weight of all its places. Assumes nothing.
+use borrow.Author.Needs.{needs}
+use Rattle.data_compare.proofs.Whole.{count-few, area-same, area-differs}
 use Rattle.data_compare.proofs.compare_area.Statement.{statement}
 use Rattle.data_compare.proofs.compare_area.Tie as tie
 
-unit-on-requires : tie.Need-unit-on-requires
-unit-on-requires c κs = c .before .pre .area .level
+set-tables-requires : tie.Need-set-tables-requires
+set-tables-requires c κs = search needs
 
-compare-rows-requires : tie.Need-compare-rows-requires
-compare-rows-requires c κs = walk-in (c .before .before .pre)
+unit-on-requires : tie.Need-unit-on-requires
+unit-on-requires c κs = search needs
+
+form-of-requires : tie.Need-form-of-requires
+form-of-requires c κs = search needs
+
+see-runs-requires : tie.Need-see-runs-requires
+see-runs-requires c κs = search needs
 
 weight-of-requires : tie.Need-weight-of-requires
-weight-of-requires c κs = count-few (c .before .before .before .before .pre) (c .before .before .unit-on .ensures) (c .before .compare-rows .ensures)
+weight-of-requires c κs =
+    let a = c .before .before in let b = a .before .before .before in let d = b .before in let e = d .before .before .before .before .before in
+    count-few (e .pre) (d .unit-on .ensures) (b .form-of .ensures) (a .see-runs .ensures)
 
 returns : tie.Need-returns
-returns c = area-same (c .before .before .before .before .before .pre) (c .before .before .before .unit-on .ensures) (c .before .before .compare-rows .ensures) (c .before .if1 .taken) (c .weight-of .result) (c .weight-of .ensures)
+returns c =
+    let a = c .before .before .before in let b = a .before .before .before in let d = b .before in let e = d .before .before .before .before .before in
+    area-same (e .pre) (d .unit-on .ensures) (b .form-of .ensures) (a .see-runs .ensures) (c .before .if1 .taken) (c .weight-of .result) (c .weight-of .ensures)
 
 returns-2 : tie.Need-returns-2
-returns-2 c = area-differs (c .before .before .before .before .pre) (c .before .before .unit-on .ensures) (c .before .compare-rows .ensures) (c .if1 .left)
+returns-2 c =
+    let a = c .before .before in let b = a .before .before .before in let d = b .before in let e = d .before .before .before .before .before in
+    area-differs (e .pre) (d .unit-on .ensures) (b .form-of .ensures) (a .see-runs .ensures) (c .if1 .left)
 
 pub compare-area-spec : {M : Type 1} → statement M
-compare-area-spec =
-    tie.close
-    (tie.spec unit-on-requires compare-rows-requires weight-of-requires returns returns-2)
+compare-area-spec = tie.close (tie.spec set-tables-requires unit-on-requires form-of-requires see-runs-requires weight-of-requires returns returns-2)

@@ -1,9 +1,9 @@
--- `data_write::first_stretch` meets its contract. Assumes nothing.
+-- `walk::first_stretch` meets its contract. Assumes nothing.
 use native.Mathlib.Omega.{arith}
 use Rattle.walk.proofs.Singles.{stretch-lead, stretch-hole}
 use borrow.Author.Needs.{needs}
-use Rattle.data_write.proofs.first_stretch.Statement.{statement}
-use Rattle.data_write.proofs.first_stretch.Tie as tie
+use Rattle.walk.proofs.first_stretch.Statement.{statement}
+use Rattle.walk.proofs.first_stretch.Tie as tie
 
 add-t5 : tie.Need-add-t5
 add-t5 c = search needs
