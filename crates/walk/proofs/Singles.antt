@@ -30,7 +30,7 @@ use Rattle.walk.proofs.Pairs.{swap, pair-value}
 -- ---- stretches
 module _ {first lead each k at c : ℕ} (s : Stretch first lead each k at c) where
   -- the next c places are side by side
-  stretch-at : (i : ℕ) → i < c → at + i ≡ first + (k + i + (k + i + (each - lead)) / each)
+  pub stretch-at : (i : ℕ) → i < c → at + i ≡ first + (k + i + (k + i + (each - lead)) / each)
   stretch-at i l =
       let e : k + i + (each - lead) ≡ s .holes * each + (each - c + i) = omega (arith, s .rest) in
       let d : (k + i + (each - lead)) / each ≡ s .holes = ap (λ (x : ℕ). x / each) e ∙ at-div (s .holes) each (each - c + i) (omega (arith, s .few)) in
