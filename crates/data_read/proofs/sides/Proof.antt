@@ -11,8 +11,7 @@ use Rattle.data_read.proofs.sides.Tie as tie
 
 abbrev Inv-loop : tie.InvT-loop
 Inv-loop st₀ q d grid part₀ ports places j start step n at₀ next₀ hop i₀ st part at next i =
-    
-        RoundAt ports places j start step n at next i × ReadOn q j (4 * i) (pairElement ports places j start step 1) d grid st₀ part₀ st part
+    RoundAt ports places j start step n at next i × ReadOn q j (4 * i) (pairElement ports places j start step 1) d grid st₀ part₀ st part
 
 abbrev μ-loop : tie.MeasureT-loop
 μ-loop st₀ q d grid part₀ ports places j start step n at₀ next₀ hop i₀ st part at next i = n - i
@@ -108,10 +107,11 @@ loop-again c =
     let f = e .before in
     let g = f .before in
     let h = g .before .before .before in
-    let i = h .before .before .before in
-    (rounds-on (i .pre .0) (h .port-offsets .ensures) (g .loop .inv .0) (f .loop-test .taken),
-    round-on (i .args .n) (i .pre .0) (i .pre .1) (h .port-offsets .ensures) (g .loop .inv .0) (g .loop .inv .1) (f .loop-test .taken) (e .six-at .ensures) (d .six-at2 .ensures)
-    (b .four .ensures .0) (a .give .ensures))
+    let i = h .before .before .before in (
+      rounds-on (i .pre .0) (h .port-offsets .ensures) (g .loop .inv .0) (f .loop-test .taken),
+      round-on (i .args .n) (i .pre .0) (i .pre .1) (h .port-offsets .ensures) (g .loop .inv .0) (g .loop .inv .1) (f .loop-test .taken) (e .six-at .ensures) (d .six-at2 .ensures)
+          (b .four .ensures .0) (a .give .ensures),
+    )
 
 same-length : tie.Need-same-length Inv-loop μ-loop
 same-length c = c .before .loop .inv .1 .size

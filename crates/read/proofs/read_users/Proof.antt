@@ -153,10 +153,11 @@ loop-again c =
     let j = i .before .before in
     let k = j .before .before .before .before in
     let l = k .before .before .before .before in
-    let bits = f .section-bytes .ensures ∙ ap sectionBytes (bits-are (l .args .p .cell) (l .args .p .frame) (h .user-at .result) _ _ (k .shape-of .ensures) (g .user-bits .ensures)) in
-    (going-next (l .args .plan .now) (l .args .p) (l .args .grid .now) (l .pre .0) (j .loop .inv .0) (i .if1 .taken) _ (h .user-at .ensures) _ (ap (λ (k : ℕ). j .loop .start + k) bits)
-    _ (e .user-area .ensures) _ (d .started .ensures) _ (a .read-area .ensures) _ (c .next-at .ensures),
-    (b .axis-for .ensures .size, λ z. b .axis-for .ensures))
+    let bits = f .section-bytes .ensures ∙ ap sectionBytes (bits-are (l .args .p .cell) (l .args .p .frame) (h .user-at .result) _ _ (k .shape-of .ensures) (g .user-bits .ensures)) in (
+      going-next (l .args .plan .now) (l .args .p) (l .args .grid .now) (l .pre .0) (j .loop .inv .0) (i .if1 .taken) _ (h .user-at .ensures) _ (ap (λ (k : ℕ). j .loop .start + k) bits)
+          _ (e .user-area .ensures) _ (d .started .ensures) _ (a .read-area .ensures) _ (c .next-at .ensures),
+      (b .axis-for .ensures .size, λ z. b .axis-for .ensures),
+    )
 
 same-length : tie.Need-same-length Inv-loop μ-loop
 same-length c = c .before .before .loop .inv .0 .read .size ∙ sym (c .before .before .before .before .before .before .before .before .before .before .pre .0 .size)
