@@ -18,7 +18,7 @@ use Rattle.walk.specs.declared.Run.{Run}
 use Rattle.walk.specs.Addresses.{OffsetsAt, PairsIn, RoundAt, RunIn}
 use Rattle.walk.specs.Forms.{Holed, Paired, PairForm, all-six, pairs-left, pairs-right, pairs-apart, HolesOf, Stretch}
 use Rattle.walk.specs.Runs.{runCount, placeAt}
-use Rattle.walk.proofs.Addresses.{own-inside, at-own, next-at, fits-at, fits-next, rounds-on}
+use Rattle.walk.proofs.Addresses.{own-inside, rounds-start, at-own, next-at, fits-at, fits-next, round-small, rounds-on}
 use Rattle.walk.proofs.Forms.{place-63, six-pairs, left-pairs, right-pairs, apart-pairs}
 use Rattle.walk.proofs.Runs.{within-at, six-count}
 use Rattle.walk.proofs.Singles.{stretch-at, stretch-on}
@@ -58,41 +58,69 @@ pair-bits q j e =
     let h : j ≡ 2 * (j / 2) = omega arith in
     ap (λ (x : ℕ). q * x) h ∙ sym (mul-assoc q 2 (j / 2)) ∙ ap (λ (x : ℕ). x * (j / 2)) (mul-comm q 2)
 
--- rounds of two pairs
+-- rounds of two pairs: those of i rounds are read
+pub record Rounds (P T gap j start step n q : ℕ) (d g st part : List ℕ) (at next i : ℕ) (st′ part′ : List ℕ) : Type 0 where
+  pub pairs : PairsIn P T gap j start step (2 * n) g
+  pub reading : Reading q j (4 * n) d st part
+  pub offsets : PortOffsets
+  pub here : OffsetsAt P T j offsets
+  pub round : RoundAt P T j start step n at next i
+  pub read : ReadOn q j (4 * i) (pairElement P T j start step gap) d g st part st′ part′
+
+pub rounds-begin :
+    {P T gap j start step q : ℕ} {d g st part : List ℕ} {r : PortOffsets} (n : ℕ) → PairsIn P T gap j start step (2 * n) g → Reading q j (4 * n) d st part
+    → OffsetsAt P T j r → Rounds P T gap j start step n q d g st part (3 * (r .own + start)) (3 * (r .next + start + step)) 0 st part
+rounds-begin {r = r} n h s p =
+    record { pairs = h; reading = s; offsets = r; here = p; round = rounds-start h p; read = read-none s }
+
 module _
-    (n : ℕ) {P T gap j start step q : ℕ} {d g st part : List ℕ} (h : PairsIn P T gap j start step (2 * n) g) (s : Reading q j (4 * n) d st part)
-    {r : PortOffsets} (p : OffsetsAt P T j r) where
-  module _ {at next i : ℕ} {st′ part′ : List ℕ} (t : RoundAt P T j start step n at next i) (o : ReadOn q j (4 * i) (pairElement P T j start step gap) d g st part st′ part′) (l : i < n) where
-    pub round-fits : (at + (3 * gap + 2) < length g) × (next + (3 * gap + 2) < length g)
-    round-fits = (omega (arith, fits-at h p t l), omega (arith, fits-next h p t l))
+    {P T gap j start step n q at next i : ℕ} {d g st part st′ part′ : List ℕ} (x : Rounds P T gap j start step n q d g st part at next i st′ part′) (l : i < n) where
+  pub round-fits : (at + (3 * gap + 2) < length g) × (next + (3 * gap + 2) < length g) × (at ≤ 100800) × (next ≤ 100800) × (i < 16800)
+  round-fits =
+      let f = round-small (x .pairs) (x .here) (x .round) l in (
+        omega (arith, fits-at (x .pairs) (x .here) (x .round) l),
+        omega (arith, fits-next (x .pairs) (x .here) (x .round) l),
+        f .0,
+        f .1,
+        omega (arith, x .pairs .index),
+      )
 
-    pub round-gives : {w : ℕ} → w < 2 ^ (4 * q) → GiveIn (4 * q) w st′ part′
-    round-gives less =
-        give-in (read-later o s 4 (omega arith)) refl (quad-groups q (s .table .order)) ((j + 4 * i) / 2) (pair-bits q (j + 4 * i) (omega (arith, h .even))) less
+  pub round-gives : {w : ℕ} → w < 2 ^ (4 * q) → GiveIn (4 * q) w st′ part′
+  round-gives less =
+      give-in (read-later (x .read) (x .reading) 4 (omega arith)) refl (quad-groups q (x .reading .table .order)) ((j + 4 * i) / 2)
+      (pair-bits q (j + 4 * i) (omega (arith, x .pairs .even))) less
 
-    pub round-on :
-        {x y w : ℕ} {st″ part″ : List ℕ} → TwoRead gap at g x → TwoRead gap next g y → w ≡ bothOf q d x * 2 ^ (2 * q) + bothOf q d y
-        → Gives (4 * q) w st′ part′ st″ part″ → ReadOn q j (4 * (i + 1)) (pairElement P T j start step gap) d g st part st″ part″
-    round-on a c ew x =
-        read-give o 4 (4 * (i + 1)) refl (omega arith) x
-        (λ b two z.
-        let e = pairElement P T j start step gap in
-        let k : 2 * (2 * i) ≡ 4 * i = omega arith in
-        let m : 2 * (2 * i + 1) ≡ 4 * i + 2 = omega arith in
-        let k′ : j + (4 * i + 2) ≡ j + 4 * i + 2 = omega arith in
-        let first = at-own h p t l ∙ ap (λ (y : ℕ). 3 * y) (sym (pair-first P T j start step gap (h .even) (2 * i)) ∙ ap e k) in
-        let second = next-at h p t l ∙ ap (λ (y : ℕ). 3 * y) (sym (pair-first P T j start step gap (h .even) (2 * i + 1)) ∙ ap e m) in
-        ew
-        ∙ four-bits b q (j + 4 * i)
-        (two-bits e j (4 * i) a first (subst (λ (y : ℕ). e (y + 1) ≡ e y + gap) k (pair-second P T j start step gap (h .even) (2 * i))) b
-        (z (4 * i) (omega arith) (omega arith)) (z (4 * i + 1) (omega arith) (omega arith)))
-        (two-bits e j (4 * i + 2) c second (subst (λ (y : ℕ). e (y + 1) ≡ e y + gap) m (pair-second P T j start step gap (h .even) (2 * i + 1))) b
-        (z (4 * i + 2) (omega arith) (omega arith)) (z (4 * i + 2 + 1) (omega arith) (omega arith))
-        ∙ ap (λ (y : ℕ). binary b (q * y) (2 * q)) k′))
-
-  pub round-end : {at next i : ℕ} {st′ part′ : List ℕ} → RoundAt P T j start step n at next i → ReadOn q j (4 * i) (pairElement P T j start step gap) d g st part st′ part′ → n ≤ i
-      → ReadOn q j (4 * n) (pairElement P T j start step gap) d g st part st′ part′
-  round-end {i = i} {st′} {part′} t o l = let k : i ≡ n = omega (arith, t .rounds) in subst (λ (x : ℕ). ReadOn q j (4 * x) (pairElement P T j start step gap) d g st part st′ part′) k o
+  pub round-on :
+      {u v w : ℕ} {st″ part″ : List ℕ} → TwoRead gap at g u → TwoRead gap next g v → w ≡ bothOf q d u * 2 ^ (2 * q) + bothOf q d v
+      → Gives (4 * q) w st′ part′ st″ part″ → Rounds P T gap j start step n q d g st part (at + 6 * step) (next + 6 * step) (i + 1) st″ part″
+  round-on {w = w} {st″} {part″} a c ew y =
+      record {
+        pairs = x .pairs;
+        reading = x .reading;
+        offsets = x .offsets;
+        here = x .here;
+        round = rounds-on (x .pairs) (x .here) (x .round) l;
+        read = read-give (x .read) 4 (4 * (i + 1)) refl (omega arith) y bits;
+      }
+    where
+      bits :
+          (b : ℕ → ℕ) → Bits b → ((k : ℕ) → 4 * i ≤ k → k < 4 * (i + 1) → Stands q d g b (j + k) (pairElement P T j start step gap k))
+          → w ≡ binary b (q * (j + 4 * i)) (4 * q)
+      bits b two z =
+          let h = x .pairs in
+          let e = pairElement P T j start step gap in
+          let k : 2 * (2 * i) ≡ 4 * i = omega arith in
+          let m : 2 * (2 * i + 1) ≡ 4 * i + 2 = omega arith in
+          let k′ : j + (4 * i + 2) ≡ j + 4 * i + 2 = omega arith in
+          let first = at-own h (x .here) (x .round) l ∙ ap (λ (y : ℕ). 3 * y) (sym (pair-first P T j start step gap (h .even) (2 * i)) ∙ ap e k) in
+          let second = next-at h (x .here) (x .round) l ∙ ap (λ (y : ℕ). 3 * y) (sym (pair-first P T j start step gap (h .even) (2 * i + 1)) ∙ ap e m) in
+          ew
+          ∙ four-bits b q (j + 4 * i)
+          (two-bits e j (4 * i) a first (subst (λ (y : ℕ). e (y + 1) ≡ e y + gap) k (pair-second P T j start step gap (h .even) (2 * i))) b
+          (z (4 * i) (omega arith) (omega arith)) (z (4 * i + 1) (omega arith) (omega arith)))
+          (two-bits e j (4 * i + 2) c second (subst (λ (y : ℕ). e (y + 1) ≡ e y + gap) m (pair-second P T j start step gap (h .even) (2 * i + 1))) b
+          (z (4 * i + 2) (omega arith) (omega arith)) (z (4 * i + 2 + 1) (omega arith) (omega arith))
+          ∙ ap (λ (y : ℕ). binary b (q * y) (2 * q)) k′)
 
 -- one pair
 module _
@@ -170,55 +198,60 @@ all-read {q} {j} {e} {d} {g} {st} {part} {st′} {part′} {i} {n} few l o =
 
 -- ---- stretches between holes
 pub record Stretches (q j first lead each total : ℕ) (d g st part : List ℕ) (at left k : ℕ) (st′ part′ : List ℕ) : Type 0 where
+  pub holes : HolesIn j first lead each total g
+  pub reading : Reading q j total d st part
   pub few : k ≤ total
   pub stretch : k < total → Stretch first lead each k at left
   pub read : ReadOn q j k (holedElement first lead each) d g st part st′ part′
 
-module _ {q j first lead each total : ℕ} {d g st part : List ℕ} (h : HolesIn j first lead each total g) (s : Reading q j total d st part) where
-  pub holes-start : {at left : ℕ} → Stretch first lead each 0 at left → Stretches q j first lead each total d g st part at left 0 st part
-  holes-start x = record { few = omega arith; stretch = λ l. x; read = read-none s }
+pub holes-start :
+    {q j first lead each total at left : ℕ} {d g st part : List ℕ} → HolesIn j first lead each total g → Reading q j total d st part
+    → Stretch first lead each 0 at left → Stretches q j first lead each total d g st part at left 0 st part
+holes-start h s x = record { holes = h; reading = s; few = omega arith; stretch = λ l. x; read = read-none s }
 
-  module _
-      {at left k n : ℕ} {st′ part′ : List ℕ} (x : Stretches q j first lead each total d g st part at left k st′ part′) (l : k < total)
-      (m : Smaller left (total - k) n) where
-    pub some : 0 < n
-    some = pick (decLe left n)
-      where
-        pick : Dec (left ≤ n) → 0 < n
-        pick (yes e) = omega (arith, x .stretch l .some)
-        pick (no e) = omega (arith, m .one (omega arith))
+module _
+    {q j first lead each total at left k n : ℕ} {d g st part st′ part′ : List ℕ} (x : Stretches q j first lead each total d g st part at left k st′ part′)
+    (l : k < total) (m : Smaller left (total - k) n) where
+  pub some : 0 < n
+  some = pick (decLe left n)
+    where
+      pick : Dec (left ≤ n) → 0 < n
+      pick (yes e) = omega (arith, x .stretch l .some)
+      pick (no e) = omega (arith, m .one (omega arith))
 
-    -- the stretch is taken whole where places are left after it
-    whole : k + n < total → n ≡ left
-    whole b = pick (decLe left n)
-      where
-        pick : Dec (left ≤ n) → n ≡ left
-        pick (yes e) = omega (arith, m .first)
-        pick (no e) = absurd (omega (arith, m .one (omega arith)))
+  -- the stretch is taken whole where places are left after it
+  whole : k + n < total → n ≡ left
+  whole b = pick (decLe left n)
+    where
+      pick : Dec (left ≤ n) → n ≡ left
+      pick (yes e) = omega (arith, m .first)
+      pick (no e) = absurd (omega (arith, m .one (omega arith)))
 
-    last-place : at + n ≡ holedElement first lead each (k + (n - 1)) + 1
-    last-place = let a = stretch-at (x .stretch l) (n - 1) (omega (arith, some, m .first)) in omega (arith, some, a)
+  last-place : at + n ≡ holedElement first lead each (k + (n - 1)) + 1
+  last-place = let a = stretch-at (x .stretch l) (n - 1) (omega (arith, some, m .first)) in omega (arith, some, a)
 
-    pub stretch-fits : (3 * (at + n) ≤ length g) × (at + n ≤ 16800) × (n ≤ 16800)
-    stretch-fits =
-        let a = h .inside (k + (n - 1)) (omega (arith, some, m .second)) in
-        (omega (arith, last-place, a .0), omega (arith, last-place, a .1), omega (arith, last-place, a .1))
+  pub stretch-fits : (3 * (at + n) ≤ length g) × (at + n ≤ 16800) × (k + n ≤ 16800)
+  stretch-fits =
+      let a = x .holes .inside (k + (n - 1)) (omega (arith, some, m .second)) in
+      (omega (arith, last-place, a .0), omega (arith, last-place, a .1), omega (arith, x .holes .index, m .second))
 
-    pub stretch-reading : Reading q (j + k) n d st′ part′
-    stretch-reading = read-later (x .read) s n (omega (arith, m .second))
+  pub stretch-in : (3 * (at + n) ≤ length g) × (at + n ≤ 16800) × Reading q (j + k) n d st′ part′
+  stretch-in = (stretch-fits .0, stretch-fits .1, read-later (x .read) (x .reading) n (omega (arith, m .second)))
 
-    pub holes-on :
-        {st″ part″ : List ℕ} → ReadOn q (j + k) n (_+_ at) d g st′ part′ st″ part″
-        → Stretches q j first lead each total d g st part (at + (n + 1)) each (k + n) st″ part″
-    holes-on o =
-        record {
-          few = omega (arith, m .second);
-          stretch = λ b.
-              let e : n ≡ left = whole b in
-              let z : at + (n + 1) ≡ at + left + 1 = omega arith in
-              rw (z, e) (stretch-on (x .stretch l));
-          read = read-join (x .read) refl o (λ i c. stretch-at (x .stretch l) i (omega (arith, m .first)));
-        }
+  pub holes-on :
+      {st″ part″ : List ℕ} → ReadOn q (j + k) n (_+_ at) d g st′ part′ st″ part″
+      → Stretches q j first lead each total d g st part (at + (n + 1)) each (k + n) st″ part″
+  holes-on o =
+      record {
+        holes = x .holes;
+        reading = x .reading;
+        few = omega (arith, m .second);
+        stretch = λ b.
+            let e : n ≡ left = whole b in
+            let z : at + (n + 1) ≡ at + left + 1 = omega arith in
+            rw (z, e) (stretch-on (x .stretch l));
+        read = read-join (x .read) refl o (λ i c. stretch-at (x .stretch l) i (omega (arith, m .first)));
+      }
 
 -- ---- a run by its form
 module _ (P T j : ℕ) (run : Run) where

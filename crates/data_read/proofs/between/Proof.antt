@@ -1,7 +1,7 @@
 -- `data_read::between` meets its contract. Invariant: k places are read. Assumes nothing.
 use native.Mathlib.Omega.{arith}
 use Prim.Native.Nat.{_-_}
-use Rattle.data_read.proofs.Places.{Stretches, holes-start, some, stretch-fits, stretch-reading, holes-on, all-read}
+use Rattle.data_read.proofs.Places.{Stretches, holes-start, some, stretch-fits, stretch-in, holes-on, all-read}
 use Rattle.data_read.proofs.between.Statement.{statement}
 use Rattle.data_read.proofs.between.Tie as tie
 
@@ -24,48 +24,38 @@ smaller-requires : tie.Need-smaller-requires Inv-loop μ-loop
 smaller-requires c κs = tt
 
 add-singles : tie.Need-add-singles Inv-loop μ-loop
-add-singles c = omega (arith, c .before .before .before .before .before .before .before .before .pre .0 .index, c .before .before .before .loop-test .taken)
+add-singles c = omega (arith, c .before .before .before .before .loop .inv .holes .index, c .before .before .before .loop-test .taken)
 
 singles-requires : tie.Need-singles-requires Inv-loop μ-loop
-singles-requires c κs =
-    let a = c .before .before in
-    let b = a .before in
-    let d = b .before in
-    let e = d .before .before .before .before in
-    let f = stretch-fits (e .pre .0) (e .pre .1) (d .loop .inv) (b .loop-test .taken) (a .smaller .ensures) in
-    (f .0, f .1, stretch-reading (e .pre .0) (e .pre .1) (d .loop .inv) (b .loop-test .taken) (a .smaller .ensures))
+singles-requires c κs = stretch-in (c .before .before .before .before .loop .inv) (c .before .before .before .loop-test .taken) (c .before .before .smaller .ensures)
 
 add-k : tie.Need-add-k Inv-loop μ-loop
 add-k c =
     let a = c .before .before .before .before .before in
     let b = a .before in
     let d = b .before in
-    let e = d .before .before .before .before in
-    omega (arith, e .pre .0 .index, b .loop-test .taken, stretch-fits (e .pre .0) (e .pre .1) (d .loop .inv) (b .loop-test .taken) (a .smaller .ensures))
+    omega (arith, stretch-fits (d .loop .inv) (b .loop-test .taken) (a .smaller .ensures))
 
 add-at : tie.Need-add-at Inv-loop μ-loop
 add-at c =
     let a = c .before .before .before .before .before in
     let b = a .before in
     let d = b .before in
-    let e = d .before .before .before .before in
-    omega (arith, stretch-fits (e .pre .0) (e .pre .1) (d .loop .inv) (b .loop-test .taken) (a .smaller .ensures))
+    omega (arith, stretch-fits (d .loop .inv) (b .loop-test .taken) (a .smaller .ensures))
 
 add-at-2 : tie.Need-add-at-2 Inv-loop μ-loop
 add-at-2 c =
     let a = c .before .before .before .before .before in
     let b = a .before in
     let d = b .before in
-    let e = d .before .before .before .before in
-    omega (arith, stretch-fits (e .pre .0) (e .pre .1) (d .loop .inv) (b .loop-test .taken) (a .smaller .ensures))
+    omega (arith, stretch-fits (d .loop .inv) (b .loop-test .taken) (a .smaller .ensures))
 
 loop-less : tie.Need-loop-less Inv-loop μ-loop
 loop-less c =
     let a = c .before .before .before .before .before in
     let b = a .before in
     let d = b .before in
-    let e = d .before .before .before .before in
-    omega (arith, b .loop-test .taken, some (e .pre .0) (e .pre .1) (d .loop .inv) (b .loop-test .taken) (a .smaller .ensures))
+    omega (arith, b .loop-test .taken, some (d .loop .inv) (b .loop-test .taken) (a .smaller .ensures))
 
 loop-again : tie.Need-loop-again Inv-loop μ-loop
 loop-again c =
@@ -73,8 +63,7 @@ loop-again c =
     let b = a .before .before .before in
     let d = b .before in
     let e = d .before in
-    let f = e .before .before .before .before in
-    holes-on (f .pre .0) (f .pre .1) (e .loop .inv) (d .loop-test .taken) (b .smaller .ensures) (a .singles .ensures)
+    holes-on (e .loop .inv) (d .loop-test .taken) (b .smaller .ensures) (a .singles .ensures)
 
 same-length : tie.Need-same-length Inv-loop μ-loop
 same-length c = c .before .loop .inv .read .size

@@ -53,11 +53,9 @@ loop-again c =
     let d = b .before .before in
     let e = d .before in
     let f = e .before in
-    let g = f .before .before .before in (
-      omega (arith, f .loop .inv .0),
-      omega arith,
-      double-on (g .args .start) (g .args .n) (g .pre .2) (f .loop .inv .2) (f .loop .inv .0) (e .loop-test .taken) (d .six-at .ensures) (b .both .ensures .0) (a .give .ensures),
-    )
+    let g = f .before .before .before in
+    (omega (arith, f .loop .inv .0), omega arith,
+    double-on (g .args .start) (g .args .n) (g .pre .2) (f .loop .inv .2) (f .loop .inv .0) (e .loop-test .taken) (d .six-at .ensures) (b .both .ensures .0) (a .give .ensures))
 
 same-length : tie.Need-same-length Inv-loop μ-loop
 same-length c = c .before .loop .inv .2 .size

@@ -11,16 +11,10 @@ holes-of-requires : tie.Need-holes-of-requires
 holes-of-requires c κs = c .before .before .pre .0 .single
 
 mul-next : tie.Need-mul-next
-mul-next c =
-    let a = c .before .before in
-    let b = a .before .before .before in
-    omega (arith, run-total (b .args .run) (a .holes-of .ensures), b .pre .0 .index)
+mul-next c = omega (arith, run-total (c .before .before .before .before .before .args .run) (c .before .before .holes-of .ensures), c .before .before .before .before .before .pre .0 .index)
 
 add-next : tie.Need-add-next
-add-next c =
-    let a = c .before .before in
-    let b = a .before .before .before in
-    omega (arith, run-total (b .args .run) (a .holes-of .ensures), b .pre .0 .index)
+add-next c = omega (arith, run-total (c .before .before .before .before .before .args .run) (c .before .before .holes-of .ensures), c .before .before .before .before .before .pre .0 .index)
 
 read-single-requires : tie.Need-read-single-requires
 read-single-requires c κs =

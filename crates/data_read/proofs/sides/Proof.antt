@@ -1,17 +1,13 @@
 -- `data_read::sides` meets its contract. Invariant: two pairs are read in each of i rounds. Assumes nothing.
 use native.Mathlib.Omega.{arith}
-use Prim.Native.Nat.{_*_, _-_}
-use Rattle.walk.specs.Addresses.{RoundAt}
-use Rattle.walk.proofs.Addresses.{offsets-small, rounds-start, round-small, rounds-on}
-use Rattle.data_read.specs.Runs.{ReadOn, pairElement}
-use Rattle.data_read.proofs.Gatherings.{read-none}
-use Rattle.data_read.proofs.Places.{round-fits, round-gives, round-on, round-end}
+use Prim.Native.Nat.{_-_}
+use Rattle.walk.proofs.Addresses.{offsets-small}
+use Rattle.data_read.proofs.Places.{Rounds, rounds-begin, round-fits, round-gives, round-on, all-read}
 use Rattle.data_read.proofs.sides.Statement.{statement}
 use Rattle.data_read.proofs.sides.Tie as tie
 
 abbrev Inv-loop : tie.InvT-loop
-Inv-loop st₀ q d grid part₀ ports places j start step n at₀ next₀ hop i₀ st part at next i =
-    RoundAt ports places j start step n at next i × ReadOn q j (4 * i) (pairElement ports places j start step 1) d grid st₀ part₀ st part
+Inv-loop st₀ q d grid part₀ ports places j start step n at₀ next₀ hop i₀ st part at next i = Rounds ports places 1 j start step n q d grid st₀ part₀ at next i st part
 
 abbrev μ-loop : tie.MeasureT-loop
 μ-loop st₀ q d grid part₀ ports places j start step n at₀ next₀ hop i₀ st part at next i = n - i
@@ -41,59 +37,40 @@ loop-holds : tie.Need-loop-holds Inv-loop μ-loop
 loop-holds c =
     let a = c .before .before in
     let b = a .before .before .before in
-    (rounds-start (b .pre .0) (a .port-offsets .ensures), read-none (b .pre .1))
+    rounds-begin (b .args .n) (b .pre .0) (b .pre .1) (a .port-offsets .ensures)
 
 six-at-requires : tie.Need-six-at-requires Inv-loop μ-loop
-six-at-requires c κs =
-    let a = c .before in
-    let b = a .before .before .before in
-    let d = b .before .before .before in
-    round-fits (d .args .n) (d .pre .0) (d .pre .1) (b .port-offsets .ensures) (a .loop .inv .0) (a .loop .inv .1) (c .loop-test .taken) .0
+six-at-requires c κs = round-fits (c .before .loop .inv) (c .loop-test .taken) .0
 
 six-at-requires-2 : tie.Need-six-at-requires-2 Inv-loop μ-loop
-six-at-requires-2 c κs =
-    let a = c .before in
-    let b = a .before in
-    let d = b .before .before .before in
-    let e = d .before .before .before in
-    round-fits (e .args .n) (e .pre .0) (e .pre .1) (d .port-offsets .ensures) (b .loop .inv .0) (b .loop .inv .1) (a .loop-test .taken) .1
+six-at-requires-2 c κs = round-fits (c .before .before .loop .inv) (c .before .loop-test .taken) .1
 
 mul-give : tie.Need-mul-give Inv-loop μ-loop
-mul-give c = omega (arith, c .before .before .before .before .before .before .before .before .before .before .pre .1 .table .order)
+mul-give c = omega (arith, c .before .before .before .before .loop .inv .reading .table .order)
 
 four-requires : tie.Need-four-requires Inv-loop μ-loop
-four-requires c κs = c .before .before .before .before .before .before .before .before .before .before .pre .1 .table
+four-requires c κs = c .before .before .before .before .loop .inv .reading .table
 
 give-requires : tie.Need-give-requires Inv-loop μ-loop
-give-requires c κs =
-    let a = c .before in
-    let b = a .before .before .before .before in
-    let d = b .before in
-    let e = d .before .before .before in
-    let f = e .before .before .before in
-    round-gives (f .args .n) (f .pre .0) (f .pre .1) (e .port-offsets .ensures) (d .loop .inv .0) (d .loop .inv .1) (b .loop-test .taken) (a .four .ensures .1)
+give-requires c κs = round-gives (c .before .before .before .before .before .before .loop .inv) (c .before .before .before .before .before .loop-test .taken) (c .before .four .ensures .1)
 
 add-at-2 : tie.Need-add-at-2 Inv-loop μ-loop
 add-at-2 c =
     let a = c .before .before .before .before .before .before .before .before in
     let b = a .before in
-    let d = b .before .before .before in
-    let e = d .before .before .before in
-    omega (arith, round-small (e .pre .0) (d .port-offsets .ensures) (b .loop .inv .0) (a .loop-test .taken), e .pre .0 .short)
+    omega (arith, round-fits (b .loop .inv) (a .loop-test .taken), b .loop .inv .pairs .short)
 
 add-next-3 : tie.Need-add-next-3 Inv-loop μ-loop
 add-next-3 c =
     let a = c .before .before .before .before .before .before .before .before in
     let b = a .before in
-    let d = b .before .before .before in
-    let e = d .before .before .before in
-    omega (arith, round-small (e .pre .0) (d .port-offsets .ensures) (b .loop .inv .0) (a .loop-test .taken), e .pre .0 .short)
+    omega (arith, round-fits (b .loop .inv) (a .loop-test .taken), b .loop .inv .pairs .short)
 
 add-i : tie.Need-add-i Inv-loop μ-loop
 add-i c =
     let a = c .before .before .before .before .before .before .before .before in
-    let b = a .before .before .before .before .before .before .before in
-    omega (arith, b .pre .0 .index, a .loop-test .taken)
+    let b = a .before in
+    omega (arith, round-fits (b .loop .inv) (a .loop-test .taken))
 
 loop-less : tie.Need-loop-less Inv-loop μ-loop
 loop-less c = omega arith
@@ -106,22 +83,13 @@ loop-again c =
     let e = d .before in
     let f = e .before in
     let g = f .before in
-    let h = g .before .before .before in
-    let i = h .before .before .before in (
-      rounds-on (i .pre .0) (h .port-offsets .ensures) (g .loop .inv .0) (f .loop-test .taken),
-      round-on (i .args .n) (i .pre .0) (i .pre .1) (h .port-offsets .ensures) (g .loop .inv .0) (g .loop .inv .1) (f .loop-test .taken) (e .six-at .ensures) (d .six-at2 .ensures)
-          (b .four .ensures .0) (a .give .ensures),
-    )
+    round-on (g .loop .inv) (f .loop-test .taken) (e .six-at .ensures) (d .six-at2 .ensures) (b .four .ensures .0) (a .give .ensures)
 
 same-length : tie.Need-same-length Inv-loop μ-loop
-same-length c = c .before .loop .inv .1 .size
+same-length c = c .before .loop .inv .read .size
 
 returns : tie.Need-returns Inv-loop μ-loop
-returns c =
-    let a = c .before in
-    let b = a .before .before .before in
-    let d = b .before .before .before in
-    round-end (d .args .n) (d .pre .0) (d .pre .1) (b .port-offsets .ensures) (a .loop .inv .0) (a .loop .inv .1) (c .loop-test .left)
+returns c = all-read (omega (arith, c .before .loop .inv .round .rounds)) (omega (arith, c .loop-test .left)) (c .before .loop .inv .read)
 
 pub sides-spec : {M : Type 1} → statement M
 sides-spec =
