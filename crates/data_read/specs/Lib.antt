@@ -1,2 +1,3 @@
 pub mod Reading
-pub mod Gathering
+pub mod Runs
+pub mod Areas

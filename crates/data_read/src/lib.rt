@@ -1,249 +1,391 @@
-// The bits of PBCH and of the users, read from a grid (TS 36.211 6.6, 6.3): each channel's section of the payload, symbols two by two
-// and 24 bits at a time.
+// The bits of PBCH and of the users, read from a grid (TS 36.211 6.6, 6.3): each channel's section of the payload. Its places go run by run, on
+// two ports or four two pairs of places at a time, and bits come from an order's table of levels.
 use areas::Area;
-use data::Row;
+use constellation::symbol_of;
+use element_pairs::apart_at;
+use element_pairs::six_at;
+use element_pairs::three_at;
 use gold::Registers;
+use section_bits::give;
+use walk::Holes;
+use walk::Run;
+use walk::port_offsets;
 ghost use mathlib.Core.Path.{_≡_};
-ghost use mathlib.Core.Bool.{false};
 ghost use Prim.Native.Nat.{_+_, _*_, _≤_, _<_, _^_};
 ghost use lib.ListN.{length};
-ghost use Rattle.layout.specs.Owners.{carriers};
 ghost use Rattle.payload.specs.Sections.{sectionBytes};
 ghost use Rattle.recovery.specs.Recovery.{sectionOf};
-ghost use Rattle.areas.specs.Masks.{centreOut};
+ghost use Rattle.walk.specs.Addresses.{PairsIn, RunIn};
+ghost use Rattle.walk.specs.Forms.{HolesOf, Stretch};
+ghost use Rattle.walk.specs.Runs.{runCount};
 ghost use Rattle.areas.specs.Areas.{areaCount};
-ghost use Rattle.data_read.specs.Reading.{areaBit, SectionIn};
-ghost use Rattle.data_read.specs.Gathering.{bitsAt, SymbolIn, withThree, PushIn, Pushed, PlaceIn, Placed, StepIn, Stepped, LastIn, Lasted, FlushIn, Flushed, Begun, Goes, HalfIn};
+ghost use Rattle.data_read.specs.Reading.{areaBit, AreaReads};
+ghost use Rattle.data_read.specs.Runs.{bothOf, Table, Reading, ReadOn, pairElement, runElement, BeforePairs, HolesIn, holedElement, RunOpen};
+ghost use Rattle.data_read.specs.Areas.{symbolElement, RunsIn};
 
-// A walk that reads a channel's places: the register pair, the byte that is due, the scrambled bits that are read and not put, `got`
-// of them, the index of the next place, and the place before it.
-struct Gather {
-    r: Registers,
-    at: usize,
-    word: u32,
-    got: u32,
+// The bits of two symbols, whose elements are one number.
+fn both(d: &[u8; 32], q: u64, v: u64) -> u64
+    requires { ⌜ Table q (now d) ⌝ }
+    ensures { λ w. ⌜ (w ≡ bothOf q (now (d .entry)) v) × (w < 2 ^ (2 * q)) ⌝ }
+{
+    (symbol_of(d, v) << q) + symbol_of(d, v / 16777216)
+}
+
+// The bits of two pairs of symbols.
+fn four(d: &[u8; 32], q: u64, x: u64, y: u64) -> u64
+    requires { ⌜ Table q (now d) ⌝ }
+    ensures { λ w. ⌜ (w ≡ bothOf q (now (d .entry)) x * 2 ^ (2 * q) + bothOf q (now (d .entry)) y) × (w < 2 ^ (4 * q)) ⌝ }
+{
+    (both(d, q, x) << (2 * q)) + both(d, q, y)
+}
+
+// Twice n pairs of places side by side: pair i at `start` + `step` × i.
+fn sides(
+    st: &mut [u64; 8],
+    q: u64,
+    d: &[u8; 32],
+    grid: &[u8],
+    part: &mut [u8],
+    ports: u8,
+    places: usize,
     j: usize,
-    before: usize,
-}
-
-// 2 to the power n.
-fn power(n: u32) -> u32
-    requires { ⌜ n ≤ 24 ⌝ }
-    ensures { λ p. ⌜ p ≡ 2 ^ n ⌝ }
+    start: usize,
+    step: usize,
+    n: usize,
+)
+    requires { ⌜ PairsIn ports places 1 j start step (2 * n) (now grid) × Reading q j (4 * n) (now d) (now st) (now part) ⌝ }
+    ensures { λ _. ⌜ ReadOn q j (4 * n) (pairElement ports places j start step 1) (now (d .entry)) (now (grid .entry)) (now (st .entry)) (now (part .entry)) (now (st .exit)) (now (part .exit)) ⌝ }
 {
-    16777216 >> (24 - n)
-}
-
-// The bits of the symbol at an element. Callers know that it is a constellation point.
-fn bits_at(grid: &[u8], e: usize, q: u32) -> u32
-    requires { ⌜ SymbolIn q (now grid) e ⌝ }
-    ensures { λ v. ⌜ (v ≡ bitsAt q (now (grid .entry)) e) × (v < 2 ^ q) ⌝ }
-{
-    let el = grid::get(grid, e);
-    modulation::bits(q, el.i, el.j)
-}
-
-// 24 bits as three bytes.
-fn put(v: u32, at: usize, part: &mut [u8])
-    requires { ⌜ (at ≤ 100000) × (at + 2 < length (now part)) ⌝ }
-    ensures { λ _. ⌜ now (part .exit) ≡ withThree v at (now (part .entry)) ⌝ }
-{
-    part[at] = (v / 65536 % 256) as u8;
-    part[at + 1] = (v / 256 % 256) as u8;
-    part[at + 2] = (v % 256) as u8;
-}
-
-// n bits of two symbols after those that are held, at the odd place t; 24 make three bytes.
-fn push(w: Gather, n: u32, v: u32, t: usize, part: &mut [u8]) -> Gather
-    requires { ⌜ PushIn n v w (now part) ⌝ }
-    ensures { λ r. ⌜ Pushed n v w (now (part .entry)) r (now (part .exit)) ⌝ }
-{
-    let r = w.r;
-    let at = w.at;
-    let word = w.word * power(n) + v;
-    let got = w.got + n;
-    let j = w.j + 1;
-    if got < 24 {
-        return Gather {
-            r: r,
-            at: at,
-            word: word,
-            got: got,
-            j: j,
-            before: t,
-        };
-    }
-    put(word ^ gold::word(r, 24), at, part);
-    Gather {
-        r: gold::advance(r, 24),
-        at: at + 3,
-        word: 0,
-        got: 0,
-        j: j,
-        before: t,
+    let p = port_offsets(ports, places, j);
+    let mut at = 3 * (p.own + start);
+    let mut next = 3 * (p.next + start + step);
+    let hop = 6 * step;
+    let mut i: usize = 0;
+    while i < n {
+        let x = six_at(grid, at);
+        let y = six_at(grid, next);
+        give(st, 4 * q, four(d, q, x, y), part);
+        at += hop;
+        next += hop;
+        i += 1;
     }
 }
 
-// The next place of a channel, t: with the place before it when it ends a pair.
-fn place(
-    w: Gather,
+// The same where a hole is between the two places of a pair.
+fn aparts(
+    st: &mut [u64; 8],
+    q: u64,
+    d: &[u8; 32],
+    grid: &[u8],
+    part: &mut [u8],
     ports: u8,
     places: usize,
-    q: u32,
-    grid: &[u8],
-    part: &mut [u8],
-    t: usize,
-) -> Gather
-    requires { ⌜ PlaceIn ports places q (now grid) t w (now part) ⌝ }
-    ensures { λ r. ⌜ Placed ports places q (now (grid .entry)) t w (now (part .entry)) r (now (part .exit)) ⌝ }
+    j: usize,
+    start: usize,
+    n: usize,
+)
+    requires { ⌜ PairsIn ports places 2 j start 3 (2 * n) (now grid) × Reading q j (4 * n) (now d) (now st) (now part) ⌝ }
+    ensures { λ _. ⌜ ReadOn q j (4 * n) (pairElement ports places j start 3 2) (now (d .entry)) (now (grid .entry)) (now (st .entry)) (now (part .entry)) (now (st .exit)) (now (part .exit)) ⌝ }
 {
-    let r = w.r;
-    if w.j % 2 == 0 {
-        return Gather {
-            r: r,
-            at: w.at,
-            word: w.word,
-            got: w.got,
-            j: w.j + 1,
-            before: t,
-        };
+    let p = port_offsets(ports, places, j);
+    let mut at = 3 * (p.own + start);
+    let mut next = 3 * (p.next + start + 3);
+    let mut i: usize = 0;
+    while i < n {
+        let x = apart_at(grid, at);
+        let y = apart_at(grid, next);
+        give(st, 4 * q, four(d, q, x, y), part);
+        at += 18;
+        next += 18;
+        i += 1;
     }
-    let turn = (w.j / 2 % 2) as u8;
-    let own = base::wide(precoding::own_port(ports, turn)) * places;
-    let first = bits_at(grid, own + w.before, q);
-    let second = bits_at(grid, own + t, q);
-    push(w, 2 * q, first * power(q) + second, t, part)
 }
 
-// Place t, if it is the channel's.
-fn place_if(
-    own: bool,
-    w: Gather,
+// One pair, side by side.
+fn pair(
+    st: &mut [u64; 8],
+    q: u64,
+    d: &[u8; 32],
+    grid: &[u8],
+    part: &mut [u8],
     ports: u8,
     places: usize,
-    q: u32,
+    j: usize,
+    start: usize,
+)
+    requires { ⌜ PairsIn ports places 1 j start 2 1 (now grid) × Reading q j 2 (now d) (now st) (now part) ⌝ }
+    ensures { λ _. ⌜ ReadOn q j 2 (pairElement ports places j start 2 1) (now (d .entry)) (now (grid .entry)) (now (st .entry)) (now (part .entry)) (now (st .exit)) (now (part .exit)) ⌝ }
+{
+    let p = port_offsets(ports, places, j);
+    let x = six_at(grid, 3 * (p.own + start));
+    give(st, 2 * q, both(d, q, x), part);
+}
+
+// Half blocks with all six places open: where their number is odd, one pair is left after those read two by two.
+fn all_six(
+    st: &mut [u64; 8],
+    q: u64,
+    d: &[u8; 32],
     grid: &[u8],
     part: &mut [u8],
-    t: usize,
-) -> Gather
-    requires { ⌜ StepIn own ports places q (now grid) t w (now part) ⌝ }
-    ensures { λ r. ⌜ Stepped own ports places q (now (grid .entry)) t w (now (part .entry)) r (now (part .exit)) ⌝ }
+    ports: u8,
+    places: usize,
+    j: usize,
+    first: usize,
+    halves: usize,
+)
+    requires { ⌜ PairsIn ports places 1 j first 2 (3 * halves) (now grid) × Reading q j (6 * halves) (now d) (now st) (now part) ⌝ }
+    ensures { λ _. ⌜ ReadOn q j (6 * halves) (pairElement ports places j first 2 1) (now (d .entry)) (now (grid .entry)) (now (st .entry)) (now (part .entry)) (now (st .exit)) (now (part .exit)) ⌝ }
 {
-    if own {
-        return place(w, ports, places, q, grid, part, t);
+    let n = 3 * halves / 2;
+    sides(st, q, d, grid, part, ports, places, j, first, 2, n);
+    if 3 * halves % 2 == 1 {
+        pair(
+            st,
+            q,
+            d,
+            grid,
+            part,
+            ports,
+            places,
+            j + 4 * n,
+            first + 4 * n,
+        );
     }
-    w
 }
 
-// Half block b of a row, which is not left out.
-fn read_six(
-    start: Gather,
-    a: Area,
-    row: Row,
-    b: usize,
-    q: u32,
+// How many holes are before the first place of a half block with two pairs side by side.
+fn before_pairs(mask: usize) -> usize
+    ensures { λ r. ⌜ BeforePairs mask r ⌝ }
+{
+    if mask == 54 { 1 } else { 0 }
+}
+
+// A run on two ports or four, from the channel's index j on.
+fn read_pairs(
+    st: &mut [u64; 8],
+    q: u64,
+    d: &[u8; 32],
     grid: &[u8],
     part: &mut [u8],
-) -> Gather
-    requires { ⌜ HalfIn a row b q (now grid) start (now part) × (centreOut (a .cell .blocks) (row .out) b ≡ false) ⌝ }
-    ensures { λ r. ⌜ Goes a q (now (grid .entry)) (row .base + 6 * b) (row .base + 6 * b + 6) start (now (part .entry)) r (now (part .exit)) ⌝ }
+    run: Run,
+    j: usize,
+    ports: u8,
+    places: usize,
+)
+    requires { ⌜ RunIn ports places j run (now grid) × Reading q j (runCount run) (now d) (now st) (now part) ⌝ }
+    ensures { λ _. ⌜ ReadOn q j (runCount run) (runElement ports places j run) (now (d .entry)) (now (grid .entry)) (now (st .entry)) (now (part .entry)) (now (st .exit)) (now (part .exit)) ⌝ }
 {
-    let t = row.base + 6 * b;
-    let mut w = start;
-    let mut r: usize = 0;
-    while r < 6 {
-        let own = (row.mask >> r) % 2 == 1;
-        w = place_if(own, w, a.cell.ports, row.places, q, grid, part, t + r);
-        r += 1;
-    }
-    w
-}
-
-// Half block b of a row.
-fn read_half(w: Gather, a: Area, row: Row, b: usize, q: u32, grid: &[u8], part: &mut [u8]) -> Gather
-    requires { ⌜ HalfIn a row b q (now grid) w (now part) ⌝ }
-    ensures { λ r. ⌜ Goes a q (now (grid .entry)) (row .base + 6 * b) (row .base + 6 * b + 6) w (now (part .entry)) r (now (part .exit)) ⌝ }
-{
-    let blocks = base::wide(a.cell.blocks);
-    if data::centre_out(blocks, row.out, b) {
-        return w;
-    }
-    read_six(w, a, row, b, q, grid, part)
-}
-
-// The area's places of symbol s.
-fn read_row(start: Gather, a: Area, s: usize, q: u32, grid: &[u8], part: &mut [u8]) -> Gather
-    requires { ⌜ (a .first ≤ s) × (s < a .last) × Begun a q (now grid) (s * carriers (a .cell)) start (now part) ⌝ }
-    ensures { λ r. ⌜ Goes a q (now (grid .entry)) (s * carriers (a .cell)) (s * carriers (a .cell) + carriers (a .cell)) start (now (part .entry)) r (now (part .exit)) ⌝ }
-{
-    let row = data::row_of(a, s);
-    let to = a.to;
-    let mut w = start;
-    let mut b = a.from;
-    while b < to {
-        w = read_half(w, a, row, b, q, grid, part);
-        b += 1;
-    }
-    w
-}
-
-// The last of an odd number of places, which occurs with one port only.
-fn read_last(w: Gather, q: u32, grid: &[u8]) -> Gather
-    requires { ⌜ LastIn q (now grid) w ⌝ }
-    ensures { λ r. ⌜ Lasted q (now (grid .entry)) w r ⌝ }
-{
-    let r = w.r;
-    if w.j % 2 == 1 {
-        return Gather {
-            r: r,
-            at: w.at,
-            word: w.word * power(q) + bits_at(grid, w.before, q),
-            got: w.got + q,
-            j: w.j,
-            before: w.before,
-        };
-    }
-    w
-}
-
-// The bits that are still held, as the last bytes, filled with zeros.
-fn flush(w: Gather, part: &mut [u8])
-    requires { ⌜ FlushIn w (now part) ⌝ }
-    ensures { λ _. ⌜ Flushed w (now (part .entry)) (now (part .exit)) ⌝ }
-{
-    let got = w.got;
-    if got == 0 {
+    let first = run.first;
+    let halves = run.halves;
+    let mask = run.mask;
+    if mask == 63 {
+        all_six(st, q, d, grid, part, ports, places, j, first, halves);
         return;
     }
-    let mut v = (w.word ^ gold::word(w.r, got)) * power(24 - got);
-    let mut at = w.at;
-    while at < part.len() {
-        part[at] = (v / 65536 % 256) as u8;
-        v = v % 65536 * 256;
-        at += 1;
+    if mask == 45 {
+        aparts(st, q, d, grid, part, ports, places, j, first, halves);
+        return;
+    }
+    let start = first + before_pairs(mask);
+    sides(st, q, d, grid, part, ports, places, j, start, 3, halves);
+}
+
+// n places side by side on one port.
+fn singles(
+    st: &mut [u64; 8],
+    q: u64,
+    d: &[u8; 32],
+    grid: &[u8],
+    part: &mut [u8],
+    j: usize,
+    start: usize,
+    n: usize,
+)
+    requires { ⌜ (3 * (start + n) ≤ length (now grid)) × (start + n ≤ 16800) × Reading q j n (now d) (now st) (now part) ⌝ }
+    ensures { λ _. ⌜ ReadOn q j n (_+_ start) (now (d .entry)) (now (grid .entry)) (now (st .entry)) (now (part .entry)) (now (st .exit)) (now (part .exit)) ⌝ }
+{
+    let mut at = 3 * start;
+    let mut i: usize = 0;
+    while i < n {
+        let x = three_at(grid, at);
+        give(st, q, symbol_of(d, x), part);
+        at += 3;
+        i += 1;
     }
 }
 
-// The section of an area's bits, with symbols of q bits scrambled by what the register pair gives. Callers have compared the area: each
-// symbol is a constellation point of the order.
-pub fn read_area(r: Registers, a: Area, q: u32, grid: &[u8], part: &mut [u8])
-    requires { ⌜ SectionIn a q (now grid) × (length (now part) ≡ sectionBytes (q * areaCount a)) ⌝ }
+// Twice n places side by side on one port, two in each round.
+fn doubles(
+    st: &mut [u64; 8],
+    q: u64,
+    d: &[u8; 32],
+    grid: &[u8],
+    part: &mut [u8],
+    j: usize,
+    start: usize,
+    n: usize,
+)
+    requires { ⌜ (3 * (start + 2 * n) ≤ length (now grid)) × (start + 2 * n ≤ 16800) × Reading q j (2 * n) (now d) (now st) (now part) ⌝ }
+    ensures { λ _. ⌜ ReadOn q j (2 * n) (_+_ start) (now (d .entry)) (now (grid .entry)) (now (st .entry)) (now (part .entry)) (now (st .exit)) (now (part .exit)) ⌝ }
+{
+    let mut at = 3 * start;
+    let mut i: usize = 0;
+    while i < n {
+        let x = six_at(grid, at);
+        give(st, 2 * q, both(d, q, x), part);
+        at += 6;
+        i += 1;
+    }
+}
+
+// The places before the first hole: where they begin, and how many they are.
+struct FirstStretch {
+    at: usize,
+    left: usize,
+}
+
+// If the first place is a hole, those from it to the next one.
+fn first_stretch(first: usize, lead: usize, each: usize) -> FirstStretch
+    requires { ⌜ (first ≤ 16800) × (lead ≤ each) × (0 < each) ⌝ }
+    ensures { λ r. ⌜ Stretch first lead each 0 (r .at) (r .left) ⌝ }
+{
+    if lead == 0 {
+        return FirstStretch {
+            at: first + 1,
+            left: each,
+        };
+    }
+    FirstStretch {
+        at: first,
+        left: lead,
+    }
+}
+
+// The places of a run with holes on one port, stretch after stretch between them: `lead` places before the first hole, then `each`.
+fn between(
+    st: &mut [u64; 8],
+    q: u64,
+    d: &[u8; 32],
+    grid: &[u8],
+    part: &mut [u8],
+    first: usize,
+    j: usize,
+    lead: usize,
+    each: usize,
+    total: usize,
+)
+    requires { ⌜ HolesIn j first lead each total (now grid) × Reading q j total (now d) (now st) (now part) ⌝ }
+    ensures { λ _. ⌜ ReadOn q j total (holedElement first lead each) (now (d .entry)) (now (grid .entry)) (now (st .entry)) (now (part .entry)) (now (st .exit)) (now (part .exit)) ⌝ }
+{
+    let s = first_stretch(first, lead, each);
+    let mut at = s.at;
+    let mut left = s.left;
+    let mut k: usize = 0;
+    while k < total {
+        let n = areas::smaller(left, total - k);
+        singles(st, q, d, grid, part, j + k, at, n);
+        k += n;
+        at += n + 1;
+        left = each;
+    }
+}
+
+// A run on one port, from the channel's index j on, by its holes.
+fn read_single(
+    st: &mut [u64; 8],
+    q: u64,
+    d: &[u8; 32],
+    grid: &[u8],
+    part: &mut [u8],
+    run: Run,
+    j: usize,
+    h: Holes,
+    places: usize,
+)
+    requires { ⌜ RunOpen 1 places j run (now grid) × HolesOf (run .mask) h × Reading q j (runCount run) (now d) (now st) (now part) ⌝ }
+    ensures { λ _. ⌜ ReadOn q j (runCount run) (runElement 1 places j run) (now (d .entry)) (now (grid .entry)) (now (st .entry)) (now (part .entry)) (now (st .exit)) (now (part .exit)) ⌝ }
+{
+    let first = run.first;
+    let halves = run.halves;
+    if h.each == 0 {
+        doubles(st, q, d, grid, part, j, first, 3 * halves);
+        return;
+    }
+    let total = h.count * halves;
+    between(st, q, d, grid, part, first, j, h.lead, h.each, total);
+}
+
+// A run of half blocks, from the channel's index j on; the index after it.
+fn read_run(
+    st: &mut [u64; 8],
+    q: u64,
+    d: &[u8; 32],
+    grid: &[u8],
+    part: &mut [u8],
+    run: Run,
+    j: usize,
+    ports: u8,
+    places: usize,
+) -> usize
+    requires { ⌜ RunOpen ports places j run (now grid) × Reading q j (runCount run) (now d) (now st) (now part) ⌝ }
+    ensures { λ x. ⌜ (x ≡ j + runCount run) × ReadOn q j (runCount run) (runElement ports places j run) (now (d .entry)) (now (grid .entry)) (now (st .entry)) (now (part .entry)) (now (st .exit)) (now (part .exit)) ⌝ }
+{
+    let h = walk::holes_of(run.mask);
+    let next = j + h.count * run.halves;
+    if ports == 1 {
+        read_single(st, q, d, grid, part, run, j, h, places);
+        return next;
+    }
+    read_pairs(st, q, d, grid, part, run, j, ports, places);
+    next
+}
+
+// All runs of an area, by its tables.
+fn read_runs(
+    st: &mut [u64; 8],
+    q: u64,
+    d: &[u8; 32],
+    grid: &[u8],
+    part: &mut [u8],
+    a: Area,
+    rows: &[u8; 45],
+    spans: &[u8; 512],
+)
+    requires { ⌜ RunsIn a q (now rows) (now spans) (now d) (now grid) (now st) (now part) ⌝ }
+    ensures { λ _. ⌜ ReadOn q 0 (areaCount a) (symbolElement a) (now (d .entry)) (now (grid .entry)) (now (st .entry)) (now (part .entry)) (now (st .exit)) (now (part .exit)) ⌝ }
+{
+    let symbols = 2 * layout::slot_length(a.cell);
+    let carriers = 12 * base::wide(a.cell.blocks);
+    let places = symbols * carriers;
+    let mut c = walk::start(rows);
+    let mut j: usize = 0;
+    while c.s < symbols {
+        let run = walk::run_at(c, carriers, rows, spans);
+        j = read_run(st, q, d, grid, part, run, j, a.cell.ports, places);
+        c = walk::next(c, rows);
+    }
+}
+
+// The section of an area's bits, with symbols of q bits scrambled by what the register pair gives. The table is that of
+// `constellation::set_axis`, and the masks are those of `areas::row_masks`. Callers have compared the area: each symbol is a constellation point of
+// the order.
+pub fn read_area(
+    r: Registers,
+    a: Area,
+    q: u32,
+    d: &[u8; 32],
+    masks: &[u8; 14],
+    grid: &[u8],
+    part: &mut [u8],
+)
+    requires { ⌜ AreaReads a q (now d) (now masks) (now grid) × (length (now part) ≡ sectionBytes (q * areaCount a)) ⌝ }
     ensures { λ _. ⌜ now (part .exit) ≡ sectionOf (areaBit a q (now (grid .entry)) r) (q * areaCount a) ⌝ }
 {
-    let mut w = Gather {
-        r: r,
-        at: 0,
-        word: 0,
-        got: 0,
-        j: 0,
-        before: 0,
-    };
-    let last = a.last;
-    let mut s = a.first;
-    while s < last {
-        w = read_row(w, a, s, q, grid, part);
-        s += 1;
-    }
-    let end = read_last(w, q, grid);
-    flush(end, part);
+    let mut rows: [u8; 45] = [0; 45];
+    let mut spans: [u8; 512] = [0; 512];
+    areas::set_tables(a, masks, &mut rows, &mut spans);
+    let mut st = section_bits::begin(r);
+    read_runs(&mut st, q as u64, d, grid, part, a, &rows, &spans);
+    section_bits::flush(&st, part);
 }

@@ -1,6 +1,7 @@
 -- What the calls of the sections need, and how far each leaves the payload. Assumes nothing beyond what reading needs.
 use Prim.Native.Nat.{ℕ, _+_, _-_, _*_, _≤_, _<_}
 use mathlib.Core.Path.{_≡_, refl, sym, ap, ap₂, subst, _∙_}
+use mathlib.Core.Bool.{true}
 use mathlib.Core.List.{List, []}
 use native.Mathlib.Omega.{arith}
 use lib.ListN.{length, take, drop}
@@ -28,7 +29,9 @@ use Rattle.recovery.proofs.Channels.{pbch-length}
 use Rattle.areas.specs.declared.Area.{Area}
 use Rattle.areas.specs.Areas.{areaCount, pbchArea, userArea}
 use Rattle.areas.proofs.AreaOwners.{pbch-in, user-in, pbch-count, user-count}
-use Rattle.data_read.specs.Reading.{areaBit, SectionIn}
+use Rattle.areas.specs.Tables.{RowMasks}
+use Rattle.constellation.specs.Axis.{Axis}
+use Rattle.data_read.specs.Reading.{areaBit, AreaReads}
 use Rattle.data_read.proofs.AreaBits.{pbch-section, user-section}
 use Rattle.control.specs.Reading.{ackFrom, ReadIn}
 use Rattle.control.proofs.ReadingOwners.{acks-are, read-in}
@@ -85,12 +88,28 @@ module _ (w : List ℕ) (p : Plan) (g : List ℕ) {before : List ℕ} (start : R
       pbch-bits : 2 * areaCount (pbchArea (p .cell) (p .frame)) ≡ pbchBits (p .cell) (p .frame)
       pbch-bits = ap (λ (n : ℕ). 2 * n) (pbch-count w p ok z) ∙ sym (pbch-size w p ok) ∙ pbch-length w p ok
 
-      pub pbch-section-in : SectionIn a 2 g × (length (take (end - 0) (drop 0 before)) ≡ sectionBytes (2 * areaCount a))
-      pbch-section-in =
-          subst (λ (b : Area). SectionIn b 2 g × (length (take (end - 0) (drop 0 before)) ≡ sectionBytes (2 * areaCount b))) (sym ea) (
-            record { area = pbch-in w p ok 2 0 g (omega arith, omega arith, omega arith) (omega arith) (start .room); known = pbch-known w p g given (start .made) z; pairs = pbch-even w p g given z },
+      pub pbch-section-in :
+          {d masks : List ℕ} → Axis 2 d → RowMasks (a .cell) (a .frame) (a .signals) (a .leaves) 14 masks
+          → AreaReads a 2 d masks g × (length (take (end - 0) (drop 0 before)) ≡ sectionBytes (2 * areaCount a))
+      pbch-section-in {d} {masks} axis =
+          subst
+          (λ (b : Area).
+          RowMasks (b .cell) (b .frame) (b .signals) (b .leaves) 14 masks
+          → AreaReads b 2 d masks g × (length (take (end - 0) (drop 0 before)) ≡ sectionBytes (2 * areaCount b)))
+          (sym ea) (λ bytes. (
+            record {
+              section =
+                  record {
+                    area = pbch-in w p ok 2 0 g (omega arith, omega arith, omega arith) (omega arith) (start .room);
+                    known = pbch-known w p g given (start .made) z;
+                    pairs = pbch-even w p g given z;
+                  };
+              signals = λ many. (omega arith, λ e. omega arith);
+              axis = axis;
+              bytes = bytes;
+            },
             mid-len 0 end before pbch-room ∙ omega (arith, pbch-bits),
-          )
+          ))
 
       pub pbch-read :
           (r : Registers) → r ≡ pairAt (initOf p PbchChannel) (firstBit p PbchChannel) → (ys : List ℕ) → ys ≡ sectionOf (areaBit a 2 g r) (2 * areaCount a)
@@ -145,6 +164,9 @@ module _ (w : List ℕ) (p : Plan) (g : List ℕ) {before : List ℕ} (start : R
     unfolding Among
     going-begins = (valid w p ok .cell, valid w p ok .frame, subst (UserIn (p .cell)) (sym user-is) (user-valid w p ok [] i in-i))
 
+    pub going-order : (2 ≤ u .order) × (u .order ≤ 6)
+    going-order = let o = user-order w p ok i in-i in rw user-is (o .1, o .2)
+
     module _ (end : ℕ) (ee : end ≡ from + sectionBytes (computedBits (p .cell) (p .frame) u)) where
       ends : end ≡ from + sectionBytes (userBits w p i)
       ends = section-end w p ok [] i in-i u from end user-is ee
@@ -166,16 +188,25 @@ module _ (w : List ℕ) (p : Plan) (g : List ℕ) {before : List ℕ} (start : R
         area-is : a ≡ userArea (p .cell) (p .frame) (nthUser w p i)
         area-is = ea ∙ ap (userArea (p .cell) (p .frame)) user-is
 
-        pub going-in : SectionIn a (u .order) g × (length (take (end - from) (drop from payload)) ≡ sectionBytes (u .order * areaCount a))
+        abbrev InUser : List ℕ → List ℕ → Area → User → Type 0
+        InUser d masks b v = AreaReads b (v .order) d masks g × (length (take (end - from) (drop from payload)) ≡ sectionBytes (v .order * areaCount b))
+
+        pub going-in : {d masks : List ℕ} → Axis (u .order) d → RowMasks (p .cell) (p .frame) (p .cell .ports) true 14 masks → InUser d masks a u
         unfolding nthUser
-        going-in =
+        going-in {d} {masks} axis bytes =
             let U : User = nthUser w p i in
-            subst (λ (b : Area). SectionIn b (u .order) g × (length (take (end - from) (drop from payload)) ≡ sectionBytes (u .order * areaCount b))) (sym area-is)
-            (subst (λ (v : User). SectionIn (userArea (p .cell) (p .frame) U) (v .order) g × (length (take (end - from) (drop from payload)) ≡ sectionBytes (v .order * areaCount (userArea (p .cell) (p .frame) U)))) (sym user-is) (
+            subst (λ (b : Area). InUser d masks b u) (sym area-is)
+            (subst (λ (v : User). InUser d masks (userArea (p .cell) (p .frame) U) v) (sym user-is) (
               record {
-                area = user-in w p ok (U .order) 0 g (user-order w p ok i in-i) (omega arith) (start .room) i in-i (record { rnti = 0; order = 0; first = 0; count = 0 });
-                known = user-known w p g given (start .made) i in-i;
-                pairs = user-even w p g given i in-i;
+                section =
+                    record {
+                      area = user-in w p ok (U .order) 0 g (user-order w p ok i in-i) (omega arith) (start .room) i in-i (record { rnti = 0; order = 0; first = 0; count = 0 });
+                      known = user-known w p g given (start .made) i in-i;
+                      pairs = user-even w p g given i in-i;
+                    };
+                signals = λ many. (many, start .room .not-three);
+                axis = subst (λ (v : User). Axis (v .order) d) user-is axis;
+                bytes = bytes;
               },
               mid-len from end payload (going-room .1) ∙ (omega (arith, ends) ∙ ap sectionBytes (sym user-bits)),
             ))

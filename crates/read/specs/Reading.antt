@@ -11,6 +11,7 @@ use Rattle.payload.specs.Payload.{payloadLength}
 use Rattle.grid.specs.Writing.{Room}
 use Rattle.subframe.specs.Grid.{gridOf}
 use Rattle.recovery.specs.Recovery.{payloadIn}
+use Rattle.constellation.specs.Axis.{Axis}
 
 -- an accepted plan, a grid that the payload read from it makes, and a payload of the plan's length
 pub record Readable (w : List ℕ) (p : Plan) (grid payload : List ℕ) : Type 0 where
@@ -23,3 +24,7 @@ pub record Readable (w : List ℕ) (p : Plan) (grid payload : List ℕ) : Type 0
 pub record ReadTo (w : List ℕ) (p : Plan) (grid : List ℕ) (n : ℕ) (payload : List ℕ) : Type 0 where
   pub size : length payload ≡ payloadLength w p
   pub done : take n payload ≡ take n (payloadIn w p grid)
+
+-- the table of an order's levels, or of none where the order is 0
+abbrev pub AxisOf : ℕ → List ℕ → Type 0
+AxisOf have d = (length d ≡ 32) × ((have ≡ 0 → ⊥) → Axis have d)

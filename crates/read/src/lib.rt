@@ -6,12 +6,14 @@ use plan::Checked;
 use plan::Plan;
 use plan::Refusal;
 ghost use mathlib.Core.Path.{_≡_};
+ghost use Prim.Native.Nat.{_≤_, _<_};
 ghost use Rattle.payload.specs.Sections.{sectionBytes};
 ghost use Rattle.payload.specs.Payload.{pbchBits, usersStart};
 ghost use Rattle.recovery.specs.Recovery.{payloadIn};
 ghost use Rattle.read.specs.Read.{Reads, readAnswer};
 ghost use Rattle.read.specs.Equation.{readOf, payloadAfter};
-ghost use Rattle.read.specs.Reading.{Readable, ReadTo};
+ghost use Rattle.constellation.specs.Axis.{Axis};
+ghost use Rattle.read.specs.Reading.{Readable, ReadTo, AxisOf};
 
 // The count of user elements, ports not multiplied, or the refusal.
 pub enum ReadBack {
@@ -27,10 +29,16 @@ fn read_pbch(plan: &[u8], p: Plan, grid: &[u8], payload: &mut [u8])
     if p.frame.subframe == 0 {
         let end = payload::section_bytes(payload::pbch_bits(p.cell, p.frame));
         let area = areas::pbch_area(p.cell, p.frame);
+        let mut masks: [u8; 14] = [0; 14];
+        areas::row_masks(area.cell, area.frame, area.signals, area.leaves, &mut masks);
+        let mut d: [u8; 32] = [0; 32];
+        constellation::set_axis(&mut d, 2);
         data_read::read_area(
             started(p, Channel::Pbch),
             area,
             2,
+            &d,
+            &masks,
             grid,
             &mut payload[0..end],
         );
@@ -48,12 +56,27 @@ fn read_acks(plan: &[u8], p: Plan, grid: &[u8], payload: &mut [u8])
     control::read_his(r, p.cell, p.his, plan, grid, &mut payload[start..end]);
 }
 
+// The table of an order's levels, where `have` is the order whose table it is, or 0.
+fn axis_for(d: &mut [u8; 32], have: u8, order: u8)
+    requires { ⌜ AxisOf have (now d) × (0 < order) × (order ≤ 8) ⌝ }
+    ensures { λ _. ⌜ Axis order (now (d .exit)) ⌝ }
+{
+    if have == order {
+        return;
+    }
+    constellation::set_axis(d, order as u32);
+}
+
 // The users' sections: each starts where the one before ends, and is lent on for writing.
 fn read_users(plan: &[u8], p: Plan, grid: &[u8], payload: &mut [u8])
     requires { ⌜ Readable (now plan) p (now grid) (now payload) × ReadTo (now plan) p (now grid) (usersStart p) (now payload) ⌝ }
     ensures { λ _. ⌜ now (payload .exit) ≡ payloadIn (now (plan .entry)) p (now (grid .entry)) ⌝ }
 {
     let shape = counts::shape_of(p.cell, p.frame);
+    let mut masks: [u8; 14] = [0; 14];
+    areas::row_masks(p.cell, p.frame, p.cell.ports, true, &mut masks);
+    let mut d: [u8; 32] = [0; 32];
+    let mut have: u8 = 0;
     let mut at = p.users.at;
     let mut start = payload::users_start(p);
     let mut i: usize = 0;
@@ -62,7 +85,17 @@ fn read_users(plan: &[u8], p: Plan, grid: &[u8], payload: &mut [u8])
         let end = start + payload::section_bytes(payload::user_bits(p.cell, shape, u));
         let area = areas::user_area(p.cell, p.frame, u);
         let r = started(p, Channel::User(u));
-        data_read::read_area(r, area, u.order as u32, grid, &mut payload[start..end]);
+        axis_for(&mut d, have, u.order);
+        have = u.order;
+        data_read::read_area(
+            r,
+            area,
+            u.order as u32,
+            &d,
+            &masks,
+            grid,
+            &mut payload[start..end],
+        );
         start = end;
         at = plan::next_at(plan, at);
         i += 1;

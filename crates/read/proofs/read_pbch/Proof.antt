@@ -1,44 +1,79 @@
 -- `read::read_pbch` meets its contract: the first section is PBCH's. Assumes nothing.
-use mathlib.Core.Path.{ap, _∙_}
 use native.Mathlib.Omega.{arith}
-use borrow.Author.Needs.{needs}
+use mathlib.Core.Path.{ap, _∙_}
 use Rattle.payload.specs.Sections.{sectionBytes}
 use Rattle.read.proofs.Turns.{pbch-begins, pbch-wide, pbch-absent, pbch-room, pbch-section-in, pbch-read}
+use borrow.Author.Needs.{needs}
 use Rattle.read.proofs.read_pbch.Statement.{statement}
 use Rattle.read.proofs.read_pbch.Tie as tie
 
 pbch-bits-requires : tie.Need-pbch-bits-requires
-pbch-bits-requires c κs = tt
+pbch-bits-requires c κs = search needs
 
 section-bytes-requires : tie.Need-section-bytes-requires
-section-bytes-requires c κs = tt
+section-bytes-requires c κs = search needs
 
 pbch-area-requires : tie.Need-pbch-area-requires
-pbch-area-requires c κs = pbch-wide (c .before .before .before .before .before .before .before .args .plan .now) (c .before .before .before .before .before .before .before .args .p) (c .before .before .before .before .before .before .before .args .grid .now) (c .before .before .before .before .before .before .before .pre)
+pbch-area-requires c κs =
+    let a = c .before .before .before .before .before .before .before in
+    pbch-wide (a .args .plan .now) (a .args .p) (a .args .grid .now) (a .pre)
+
+row-masks-requires : tie.Need-row-masks-requires
+row-masks-requires c κs = search needs
+
+set-axis-requires : tie.Need-set-axis-requires
+set-axis-requires c κs = search needs
 
 started-requires : tie.Need-started-requires
-started-requires c κs = pbch-begins (c .before .before .before .before .before .before .before .before .args .plan .now) (c .before .before .before .before .before .before .before .before .args .p) (c .before .before .before .before .before .before .before .before .args .grid .now) (c .before .before .before .before .before .before .before .before .pre)
+started-requires c κs =
+    let a = c .before .before .before .before .before .before .before .before .before .before .before .before in
+    pbch-begins (a .args .plan .now) (a .args .p) (a .args .grid .now) (a .pre)
 
 sub-read-area : tie.Need-sub-read-area
-sub-read-area c = omega arith
+sub-read-area c = search needs
 
 part-read-area-start : tie.Need-part-read-area-start
-part-read-area-start c = omega arith
+part-read-area-start c = search needs
 
 part-read-area-end : tie.Need-part-read-area-end
-part-read-area-end c = pbch-room (c .before .before .before .before .before .before .before .before .before .args .plan .now) (c .before .before .before .before .before .before .before .before .before .args .p) (c .before .before .before .before .before .before .before .before .before .args .grid .now) (c .before .before .before .before .before .before .before .before .before .pre) _ (c .before .before .section-bytes .ensures ∙ ap sectionBytes (c .before .before .before .pbch-bits .ensures))
+part-read-area-end c =
+    let a = c .before .before .before .before .before .before .before .before in
+    let b = a .before in
+    let d = b .before .before .before .before .before .before in
+    pbch-room (d .args .plan .now) (d .args .p) (d .args .grid .now) (d .pre)
+    _ (a .section-bytes .ensures ∙ ap sectionBytes (b .pbch-bits .ensures))
 
 read-area-requires : tie.Need-read-area-requires
-read-area-requires c κs = pbch-section-in (c .before .before .before .before .before .before .before .before .before .before .args .plan .now) (c .before .before .before .before .before .before .before .before .before .before .args .p) (c .before .before .before .before .before .before .before .before .before .before .args .grid .now) (c .before .before .before .before .before .before .before .before .before .before .pre) _ (c .before .before .before .section-bytes .ensures ∙ ap sectionBytes (c .before .before .before .before .pbch-bits .ensures)) (c .before .before .before .before .before .if1 .taken) _ (c .before .before .pbch-area .ensures)
+read-area-requires c κs =
+    let a = c .before .before .before .before in
+    let b = a .before .before in
+    let d = b .before .before in
+    let e = d .before in
+    let f = e .before in
+    let g = f .before in
+    let h = g .before .before .before .before .before in
+    pbch-section-in (h .args .plan .now) (h .args .p) (h .args .grid .now) (h .pre)
+    _ (e .section-bytes .ensures ∙ ap sectionBytes (f .pbch-bits .ensures)) (g .if1 .taken) _ (d .pbch-area .ensures) (a .set-axis .ensures) (b .row-masks .ensures)
 
 same-length : tie.Need-same-length
 same-length c = search needs
 
 returns : tie.Need-returns
-returns c = pbch-read (c .before .before .before .before .before .before .before .before .before .before .before .before .before .args .plan .now) (c .before .before .before .before .before .before .before .before .before .before .before .before .before .args .p) (c .before .before .before .before .before .before .before .before .before .before .before .before .before .args .grid .now) (c .before .before .before .before .before .before .before .before .before .before .before .before .before .pre) _ (c .before .before .before .before .before .before .section-bytes .ensures ∙ ap sectionBytes (c .before .before .before .before .before .before .before .pbch-bits .ensures)) (c .before .before .before .before .before .before .before .before .if1 .taken) _ (c .before .before .before .before .before .pbch-area .ensures) _ (c .before .before .before .before .started .ensures) _ (c .before .before .read-area .ensures)
+returns c =
+    let a = c .before .before in
+    let b = a .before .before .before .before in
+    let d = b .before .before .before .before .before in
+    let e = d .before in
+    let f = e .before in
+    let g = f .before in
+    let h = g .before .before .before .before .before in
+    pbch-read (h .args .plan .now) (h .args .p) (h .args .grid .now) (h .pre)
+    _ (e .section-bytes .ensures ∙ ap sectionBytes (f .pbch-bits .ensures)) (g .if1 .taken) _ (d .pbch-area .ensures) _ (b .started .ensures) _ (a .read-area .ensures)
 
 returns-2 : tie.Need-returns-2
-returns-2 c = pbch-absent (c .before .before .before .before .before .args .plan .now) (c .before .before .before .before .before .args .p) (c .before .before .before .before .before .args .grid .now) (c .before .before .before .before .before .pre) (c .if1 .left)
+returns-2 c =
+    let a = c .before .before .before .before .before in
+    pbch-absent (a .args .plan .now) (a .args .p) (a .args .grid .now) (a .pre) (c .if1 .left)
 
 pub read-pbch-spec : {M : Type 1} → statement M
 read-pbch-spec =
@@ -47,6 +82,8 @@ read-pbch-spec =
     pbch-bits-requires
     section-bytes-requires
     pbch-area-requires
+    row-masks-requires
+    set-axis-requires
     started-requires
     sub-read-area
     part-read-area-start
