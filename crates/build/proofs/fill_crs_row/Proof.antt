@@ -24,30 +24,24 @@ uses-requires c κs = tt
 
 map-requires : tie.Need-map-requires Inv-loop μ-loop
 map-requires c κs =
-    let a = c .before .before .before in
-    let b = a .before .before in
-    let d = b .before .before .before .before in
-    crs-in (d .pre .0) (b .loop .inv .1 .size) _ _ (d .pre .1) (a .if1 .taken)
+    let a = c .before .before .before .before .before in
+    crs-in (a .before .before .before .before .pre .0) (a .loop .inv .1 .size) _ _ (a .before .before .before .before .pre .1) (c .before .before .before .if1 .taken)
 
 add-q : tie.Need-add-q Inv-loop μ-loop
-add-q c =
-    let a = c .before .before in
-    let b = a .before .before .before .before .before .before in
-    omega (arith, a .if1 .taken, b .pre .0 .room .most)
+add-q c = omega (arith, c .before .before .if1 .taken, c .before .before .before .before .before .before .before .before .pre .0 .room .most)
 
 loop-less : tie.Need-loop-less Inv-loop μ-loop
 loop-less c = omega (arith, c .before .before .if1 .taken)
 
 loop-again : tie.Need-loop-again Inv-loop μ-loop
 loop-again c =
-    let a = c .before in
-    let b = a .before in
-    let d = b .before .before in
-    let e = d .before .before .before .before in (
-      omega (arith, b .if1 .taken),
+    let a = c .before .before .before .before in
+    let b = a .before .before .before .before in (
+      omega (arith, c .before .before .if1 .taken),
       ⊎-elim
-          (λ x. rw (x .5) (crs-more (e .pre .0) (e .args .s) (d .loop .q) (d .loop .inv .1) (e .args .payload .now) (sym (a .uses .ensures) ∙ x .0 .taken) (b .if1 .taken) (x .2 .ensures)))
-          (λ x. rw (x .1) (crs-pass (e .pre .0) (e .args .s) (d .loop .q) (d .loop .inv .1) (sym (a .uses .ensures) ∙ x .0 .left)))
+          (λ x. rw (x .5) (crs-more (b .pre .0) (b .args .s) (a .loop .q) (a .loop .inv .1) (b .args .payload .now) (sym (c .before .uses .ensures) ∙ x .0 .taken) (c .before .before .if1 .taken)
+          (x .2 .ensures)))
+          (λ x. rw (x .1) (crs-pass (b .pre .0) (b .args .s) (a .loop .q) (a .loop .inv .1) (sym (c .before .uses .ensures) ∙ x .0 .left)))
           (c .if2 .came),
     )
 
@@ -57,20 +51,7 @@ same-length c = c .before .before .loop .inv .1 .size
 returns : tie.Need-returns Inv-loop μ-loop
 returns c =
     let a = c .before .before in
-    let b = a .before .before .before .before in
-    crs-end (b .pre .0) (b .args .s) _ (a .loop .inv .0) (c .if1 .left) (a .loop .inv .1)
+    crs-end (a .before .before .before .before .pre .0) (a .before .before .before .before .args .s) _ (a .loop .inv .0) (c .if1 .left) (a .loop .inv .1)
 
 pub fill-crs-row-spec : {M : Type 1} → statement M
-fill-crs-row-spec =
-    tie.close
-    (tie.spec
-    Inv-loop
-    μ-loop
-    loop-holds
-    uses-requires
-    map-requires
-    add-q
-    loop-less
-    loop-again
-    same-length
-    returns)
+fill-crs-row-spec = tie.close (tie.spec Inv-loop μ-loop loop-holds uses-requires map-requires add-q loop-less loop-again same-length returns)

@@ -19,23 +19,19 @@ in-slot-requires c κs = tt
 add-result : tie.Need-add-result
 add-result c =
     let a = c .before .before .before in
-    let b = a .before .before in
-    omega (arith, c .before .before .in-slot .ensures, a .wide .ensures, in-slot-le (b .args .cell) (a .wide .result), b .fits .s)
+    omega (arith, c .before .before .in-slot .ensures, a .wide .ensures, in-slot-le (a .before .before .args .cell) (a .wide .result), a .before .before .fits .s)
 
 returns : tie.Need-returns
 returns c =
-    let a = c .before .before .before in
-    let b = a .before .before in
-    uses-first (b .args .cell) (b .args .port) (b .args .s) _ (c .before .before .in-slot .ensures ∙ ap (inSlot (b .args .cell)) (a .wide .ensures)) (c .before .if1 .taken)
-    (c .if2 .taken)
+    let a = c .before .before .before .before .before in
+    uses-first (a .args .cell) (a .args .port) (a .args .s) _ (c .before .before .in-slot .ensures ∙ ap (inSlot (a .args .cell)) (c .before .before .before .wide .ensures))
+    (c .before .if1 .taken) (c .if2 .taken)
 
 returns-2 : tie.Need-returns-2
 returns-2 c =
-    let a = c .before .before .before in
-    let b = a .before in
-    let d = b .before in
-    uses-third (d .args .cell) (d .args .port) (d .args .s) _ (c .before .before .in-slot .ensures ∙ ap (inSlot (d .args .cell)) (a .wide .ensures)) _ (b .slot-length .ensures)
-    (c .before .if1 .taken) (c .if2 .left)
+    let a = c .before .before .before .before .before in
+    uses-third (a .args .cell) (a .args .port) (a .args .s) _ (c .before .before .in-slot .ensures ∙ ap (inSlot (a .args .cell)) (c .before .before .before .wide .ensures)) _
+    (c .before .before .before .before .slot-length .ensures) (c .before .if1 .taken) (c .if2 .left)
 
 returns-3 : tie.Need-returns-3
 returns-3 c =
