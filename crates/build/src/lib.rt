@@ -167,7 +167,8 @@ fn fill_users(
     }
 }
 
-// Every channel over silence, with one table and one row of masks for all of them, since the stack is small. Whoever calls has the plan from the plan check, and has compared the lengths and the spare bits.
+// Every channel over silence, with one table and one row of masks for all of them, since the stack is small. Whoever calls has the plan from
+// the plan check, and has compared the lengths and the spare bits.
 pub fn fill(plan: &[u8], p: Plan, payload: &[u8], grid: &mut [u8])
     requires { ⌜ Ready (now plan) p (now payload) (now grid) ⌝ }
     ensures { λ _. ⌜ now (grid .exit) ≡ gridOf (now (plan .entry)) p (now (payload .entry)) ⌝ }

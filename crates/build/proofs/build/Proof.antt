@@ -22,88 +22,68 @@ refusal-requires c κs = search needs
 
 returns : tie.Need-returns
 returns c =
-    let a = c .before .before .before in
-    let b = a .before .before .before .before in
-    way-refused (b .args .plan .now) (b .args .payload .now) (b .args .grid .now) _ (a .check .ensures) (c .before .before .match .keys2) _ (c .refusal .ensures)
+    let a = c .before .before in
+    let b = a .before .before .before .before .before in
+    way-refused (b .args .plan .now) (b .args .payload .now) (b .args .grid .now) _ (a .before .check .ensures) (a .match .keys2) _ (c .refusal .ensures)
 
 grid-length-requires : tie.Need-grid-length-requires
 grid-length-requires c κs = search needs
 
 returns-2 : tie.Need-returns-2
 returns-2 c =
-    let a = c .before .before .before in
-    let b = a .before .before in
-    let d = b .before .before .before .before in
-    way-grid (d .args .plan .now) (d .args .payload .now) (d .args .grid .now) _ (sym (b .check .ensures) ∙ a .checked .given .1) _ (c .before .grid-length .ensures) (c .if1 .taken)
+    let a = c .before .before .before .before .before .before .before .before .before in
+    way-grid (a .args .plan .now) (a .args .payload .now) (a .args .grid .now) _
+    (sym (c .before .before .before .before .before .check .ensures) ∙ c .before .before .before .checked .given .1) _ (c .before .grid-length .ensures) (c .if1 .taken)
 
 payload-length-requires : tie.Need-payload-length-requires
 payload-length-requires c κs = (sym (c .before .before .before .before .before .check .ensures) ∙ c .before .before .before .checked .given .1)
 
 returns-3 : tie.Need-returns-3
 returns-3 c =
-    let a = c .before .before .before in
-    let b = a .before .before in
-    let d = b .before .before in
-    let e = d .before .before .before .before in
-    way-payload (e .args .plan .now) (e .args .payload .now) (e .args .grid .now) _ (sym (d .check .ensures) ∙ b .checked .given .1)
-    (c .before .before .if1 .left ∙ a .grid-length .ensures) _ (c .before .payload-length .ensures) (c .if2 .taken)
+    let a = c .before .before .before .before .before in
+    let b = a .before .before .before .before .before .before in
+    way-payload (b .args .plan .now) (b .args .payload .now) (b .args .grid .now) _ (sym (a .before .before .check .ensures) ∙ a .checked .given .1)
+    (c .before .before .if1 .left ∙ c .before .before .before .grid-length .ensures) _ (c .before .payload-length .ensures) (c .if2 .taken)
 
 spare-clear-requires : tie.Need-spare-clear-requires
 spare-clear-requires c κs =
     let a = c .before .before .before .before .before in
-    let b = a .before .before in
-    ((sym (b .check .ensures) ∙ a .checked .given .1), (c .if2 .left ∙ c .before .payload-length .ensures))
+    ((sym (a .before .before .check .ensures) ∙ a .checked .given .1), (c .if2 .left ∙ c .before .payload-length .ensures))
 
 returns-4 : tie.Need-returns-4
 returns-4 c =
-    let a = c .before .before .before in
-    let b = a .before in
-    let d = b .before in
-    let e = d .before .before in
-    let f = e .before .before in
-    let g = f .before .before .before .before in
-    way-spare (g .args .plan .now) (g .args .payload .now) (g .args .grid .now) _ (sym (f .check .ensures) ∙ e .checked .given .1) (b .if1 .left ∙ d .grid-length .ensures)
-    (c .before .before .if2 .left ∙ a .payload-length .ensures) _ (c .before .spare-clear .ensures) (not-true _ (c .if3 .taken))
+    let a = c .before .before .before .before in
+    let b = a .before .before .before .before .before .before .before .before .before in
+    way-spare (b .args .plan .now) (b .args .payload .now) (b .args .grid .now) _
+    (sym (a .before .before .before .before .before .check .ensures) ∙ a .before .before .before .checked .given .1) (a .if1 .left ∙ a .before .grid-length .ensures)
+    (c .before .before .if2 .left ∙ c .before .before .before .payload-length .ensures) _ (c .before .spare-clear .ensures) (not-true _ (c .if3 .taken))
 
 fill-requires : tie.Need-fill-requires
 fill-requires c κs =
-    let a = c .before .before .before in
-    let b = a .before in
-    let d = b .before in
-    let e = d .before in
-    let f = e .before .before in
-    let g = f .before .before in
-    let i = g .before .before .before .before in
-    way-ready (i .args .plan .now) (i .args .payload .now) (i .args .grid .now) _ (sym (g .check .ensures) ∙ f .checked .given .1) (d .if1 .left ∙ e .grid-length .ensures)
-    (a .if2 .left ∙ b .payload-length .ensures) _ (c .before .before .spare-clear .ensures) (not-false _ (c .before .if3 .left))
+    let a = c .before .before .before .before in
+    let b = a .before .before .before .before .before .before in
+    way-ready (b .before .before .before .before .args .plan .now) (b .before .before .before .before .args .payload .now) (b .before .before .before .before .args .grid .now) _
+    (sym (b .check .ensures) ∙ a .before .before .before .before .checked .given .1) (a .before .if1 .left ∙ a .before .before .grid-length .ensures)
+    (c .before .before .before .if2 .left ∙ a .payload-length .ensures) _ (c .before .before .spare-clear .ensures) (not-false _ (c .before .if3 .left))
 
 users-count-requires : tie.Need-users-count-requires
 users-count-requires c κs =
     let a = c .before .before .before .before .before .before .before .before .before .before .before in
-    let b = a .before .before in
-    (sym (b .check .ensures) ∙ a .checked .given .1)
+    (sym (a .before .before .check .ensures) ∙ a .checked .given .1)
 
 same-length : tie.Need-same-length
 same-length c =
-    let a = c .before .before .before in
-    let b = a .before .before .before .before .before .before in
-    let d = b .before in
-    ap length (a .fill .ensures) ∙ grid-size _ _ _ ∙ sym (b .if1 .left ∙ d .grid-length .ensures)
+    let a = c .before .before .before .before .before .before .before .before .before in
+    ap length (c .before .before .before .fill .ensures) ∙ grid-size _ _ _ ∙ sym (a .if1 .left ∙ a .before .grid-length .ensures)
 
 returns-5 : tie.Need-returns-5
 returns-5 c =
-    let a = c .before .before .before in
-    let b = a .before .before in
-    let d = b .before in
-    let e = d .before in
-    let f = e .before in
-    let g = f .before in
-    let i = g .before in
-    let j = i .before .before in
-    let k = j .before .before in
-    let m = k .before .before .before .before in
-    way-built (m .args .plan .now) (m .args .payload .now) (m .args .grid .now) _ (sym (k .check .ensures) ∙ j .checked .given .1) (g .if1 .left ∙ i .grid-length .ensures)
-    (e .if2 .left ∙ f .payload-length .ensures) _ (d .spare-clear .ensures) (not-false _ (b .if3 .left)) _ (c .users-count .ensures) _ (a .fill .ensures)
+    let a = c .before .before .before .before .before .before in
+    let b = a .before .before .before .before .before .before in
+    let d = b .before .before .before .before .before .before in
+    way-built (d .args .plan .now) (d .args .payload .now) (d .args .grid .now) _ (sym (b .before .before .check .ensures) ∙ b .checked .given .1)
+    (a .before .before .before .if1 .left ∙ a .before .before .before .before .grid-length .ensures) (a .before .if2 .left ∙ a .before .before .payload-length .ensures) _
+    (a .spare-clear .ensures) (not-false _ (c .before .before .before .before .before .if3 .left)) _ (c .users-count .ensures) _ (c .before .before .before .fill .ensures)
 
 pub build-spec : {M : Type 1} → statement M
 build-spec =

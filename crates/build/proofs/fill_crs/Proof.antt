@@ -21,49 +21,31 @@ slot-length-requires : tie.Need-slot-length-requires Inv-loop μ-loop
 slot-length-requires c κs = tt
 
 mul-rows : tie.Need-mul-rows Inv-loop μ-loop
-mul-rows c =
-    let a = c .before .before .before .before in
-    omega (arith, c .slot-length .ensures, symbols-most (a .args .p .cell))
+mul-rows c = omega (arith, c .slot-length .ensures, symbols-most (c .before .before .before .before .args .p .cell))
 
 loop-holds : tie.Need-loop-holds Inv-loop μ-loop
-loop-holds c =
-    let a = c .before .before .before .before in
-    (omega arith, rows-none (a .pre))
+loop-holds c = (omega arith, rows-none (c .before .before .before .before .pre))
 
 cast-fill-crs-row : tie.Need-cast-fill-crs-row Inv-loop μ-loop
-cast-fill-crs-row c =
-    let a = c .before in
-    let b = a .before .before .before .before .before in
-    omega (arith, a .loop .inv .0, symbols-most (b .args .p .cell))
+cast-fill-crs-row c = omega (arith, c .before .loop .inv .0, symbols-most (c .before .before .before .before .before .before .args .p .cell))
 
 fill-crs-row-requires : tie.Need-fill-crs-row-requires Inv-loop μ-loop
 fill-crs-row-requires c κs =
-    let a = c .before in
-    let b = a .before in
-    let d = b .before in
-    let e = d .before .before .before .before in
-    (ready-kept (e .pre) (b .loop .inv .1 .size), omega (arith, a .loop-test .taken, d .slot-length .ensures))
+    let a = c .before .before in
+    (ready-kept (a .before .before .before .before .before .pre) (a .loop .inv .1 .size), omega (arith, c .before .loop-test .taken, a .before .slot-length .ensures))
 
 add-s : tie.Need-add-s Inv-loop μ-loop
 add-s c =
-    let a = c .before .before .before .before .before in
-    let b = a .before .before .before .before .before in
-    omega (arith, a .loop .inv .0, symbols-most (b .args .p .cell))
+    omega (arith, c .before .before .before .before .before .loop .inv .0, symbols-most (c .before .before .before .before .before .before .before .before .before .before .args .p .cell))
 
 loop-less : tie.Need-loop-less Inv-loop μ-loop
-loop-less c =
-    let a = c .before .before .before .before in
-    let b = a .before .before in
-    omega (arith, a .loop-test .taken, b .slot-length .ensures)
+loop-less c = omega (arith, c .before .before .before .before .loop-test .taken, c .before .before .before .before .before .before .slot-length .ensures)
 
 loop-again : tie.Need-loop-again Inv-loop μ-loop
 loop-again c =
-    let a = c .before .before in
+    let a = c .before .before .before .before in
     let b = a .before .before in
-    let d = b .before in
-    let e = d .before in
-    let f = e .before .before .before .before in
-    (omega (arith, b .loop-test .taken, e .slot-length .ensures), rows-more (f .pre) _ (d .loop .inv .1) (a .fill-crs-row .ensures))
+    (omega (arith, a .loop-test .taken, b .slot-length .ensures), rows-more (b .before .before .before .before .pre) _ (a .before .loop .inv .1) (c .before .before .fill-crs-row .ensures))
 
 same-length : tie.Need-same-length Inv-loop μ-loop
 same-length c = c .before .loop .inv .1 .size
@@ -71,23 +53,7 @@ same-length c = c .before .loop .inv .1 .size
 returns : tie.Need-returns Inv-loop μ-loop
 returns c =
     let a = c .before in
-    let b = a .before in
-    let d = b .before .before .before .before in
-    rows-end (d .pre) _ _ (a .loop .inv .0) (c .loop-test .left) (ap (λ (x : ℕ). 2 * x) (b .slot-length .ensures)) (a .loop .inv .1)
+    rows-end (a .before .before .before .before .before .pre) _ _ (a .loop .inv .0) (c .loop-test .left) (ap (λ (x : ℕ). 2 * x) (a .before .slot-length .ensures)) (a .loop .inv .1)
 
 pub fill-crs-spec : {M : Type 1} → statement M
-fill-crs-spec =
-    tie.close
-    (tie.spec
-    Inv-loop
-    μ-loop
-    slot-length-requires
-    mul-rows
-    loop-holds
-    cast-fill-crs-row
-    fill-crs-row-requires
-    add-s
-    loop-less
-    loop-again
-    same-length
-    returns)
+fill-crs-spec = tie.close (tie.spec Inv-loop μ-loop slot-length-requires mul-rows loop-holds cast-fill-crs-row fill-crs-row-requires add-s loop-less loop-again same-length returns)

@@ -10,9 +10,7 @@ returns : tie.Need-returns
 returns c = having-made (c .set-table .ensures)
 
 returns-2 : tie.Need-returns-2
-returns-2 c =
-    let a = c .before in
-    having-same (c .if1 .left) (a .pre .0)
+returns-2 c = having-same (c .if1 .left) (c .before .pre .0)
 
 pub renew-spec : {M : Type 1} → statement M
 renew-spec = tie.close (tie.spec set-table-requires returns returns-2)

@@ -10,9 +10,7 @@ mul-n : tie.Need-mul-n
 mul-n c = omega (arith, c .before .before .pre .0 .index)
 
 sixes-requires : tie.Need-sixes-requires
-sixes-requires c κs =
-    let a = c .before .before .before .before in
-    (sixes-rounds (a .args .halves) (a .pre .0), a .pre .1)
+sixes-requires c κs = (sixes-rounds (c .before .before .before .before .args .halves) (c .before .before .before .before .pre .0), c .before .before .before .before .pre .1)
 
 mul-if1 : tie.Need-mul-if1
 mul-if1 c = omega (arith, c .before .before .before .before .before .before .before .pre .0 .index)
@@ -33,30 +31,28 @@ add-pair-2 c =
 
 pair-requires : tie.Need-pair-requires
 pair-requires c κs =
-    let a = c .before .before in
-    let b = a .before .before .before in
-    let d = b .before .before .before .before .before in
-    (sixes-last (d .args .halves) (d .pre .0) (b .sixes .ensures .size) (a .if1 .taken), sixes-sending (d .args .j) (d .args .first) (d .args .halves) (b .sixes .ensures) (d .pre .1))
+    let a = c .before .before .before .before .before .before .before .before .before .before in (
+      sixes-last (a .args .halves) (a .pre .0) (c .before .before .before .before .before .sixes .ensures .size) (c .before .before .if1 .taken),
+      sixes-sending (a .args .j)
+          (a .args .first) (a .args .halves) (c .before .before .before .before .before .sixes .ensures) (a .pre .1),
+    )
 
 same-length : tie.Need-same-length
 same-length c = search needs
 
 returns : tie.Need-returns
 returns c =
-    let a = c .before .before in
-    let b = a .before .before .before in
-    let d = b .before .before .before in
-    let e = d .before .before .before .before .before in
-    sixes-odd (e .args .j) (e .args .first) (e .args .halves) (d .sixes .ensures) (b .if1 .taken) (a .pair .ensures)
+    let a = c .before .before .before .before .before in
+    let b = a .before .before .before .before .before .before .before .before in
+    sixes-odd (b .args .j) (b .args .first) (b .args .halves) (a .before .before .before .sixes .ensures) (a .if1 .taken) (c .before .before .pair .ensures)
 
 same-length-2 : tie.Need-same-length-2
 same-length-2 c = search needs
 
 returns-2 : tie.Need-returns-2
 returns-2 c =
-    let a = c .before .before .before in
-    let b = a .before .before .before .before .before in
-    sixes-even (b .args .j) (b .args .first) (b .args .halves) (a .sixes .ensures) (c .if1 .left)
+    let a = c .before .before .before .before .before .before .before .before in
+    sixes-even (a .args .j) (a .args .first) (a .args .halves) (c .before .before .before .sixes .ensures) (c .if1 .left)
 
 pub all-six-spec : {M : Type 1} → statement M
 all-six-spec =

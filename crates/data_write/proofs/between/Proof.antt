@@ -26,59 +26,40 @@ smaller-requires : tie.Need-smaller-requires Inv-loop μ-loop
 smaller-requires c κs = tt
 
 add-singles : tie.Need-add-singles Inv-loop μ-loop
-add-singles c =
-    let a = c .before .before .before in
-    let b = a .before .before .before .before .before in
-    omega (arith, b .pre .0 .index, a .loop-test .taken)
+add-singles c = omega (arith, c .before .before .before .before .before .before .before .before .pre .0 .index, c .before .before .before .loop-test .taken)
 
 singles-requires : tie.Need-singles-requires Inv-loop μ-loop
 singles-requires c κs =
-    let a = c .before .before in
-    let b = a .before in
-    let d = b .before in
-    let e = d .before .before .before .before in
-    (stretch-in (e .pre .0) (d .loop .inv) (b .loop-test .taken) (a .smaller .ensures), later-sending (e .pre .1) (d .loop .inv .done .stands))
+    let a = c .before .before .before in
+    let b = a .before .before .before .before .before in
+    (stretch-in (b .pre .0) (a .before .loop .inv) (a .loop-test .taken) (c .before .before .smaller .ensures), later-sending (b .pre .1) (a .before .loop .inv .done .stands))
 
 add-k : tie.Need-add-k Inv-loop μ-loop
 add-k c =
     let a = c .before .before .before .before .before in
-    let b = a .before in
-    let d = b .before in
-    let e = d .before .before .before .before in
-    omega (arith, e .pre .0 .index, b .loop-test .taken, stretch-small (e .pre .0) (d .loop .inv) (b .loop-test .taken) (a .smaller .ensures))
+    let b = a .before .before .before .before .before .before in
+    omega (arith, b .pre .0 .index, a .before .loop-test .taken, stretch-small (b .pre .0) (a .before .before .loop .inv) (a .before .loop-test .taken) (a .smaller .ensures))
 
 add-at : tie.Need-add-at Inv-loop μ-loop
 add-at c =
     let a = c .before .before .before .before .before in
-    let b = a .before in
-    let d = b .before in
-    let e = d .before .before .before .before in
-    omega (arith, stretch-small (e .pre .0) (d .loop .inv) (b .loop-test .taken) (a .smaller .ensures))
+    omega (arith, stretch-small (a .before .before .before .before .before .before .pre .0) (a .before .before .loop .inv) (a .before .loop-test .taken) (a .smaller .ensures))
 
 add-at-2 : tie.Need-add-at-2 Inv-loop μ-loop
 add-at-2 c =
     let a = c .before .before .before .before .before in
-    let b = a .before in
-    let d = b .before in
-    let e = d .before .before .before .before in
-    omega (arith, stretch-small (e .pre .0) (d .loop .inv) (b .loop-test .taken) (a .smaller .ensures))
+    omega (arith, stretch-small (a .before .before .before .before .before .before .pre .0) (a .before .before .loop .inv) (a .before .loop-test .taken) (a .smaller .ensures))
 
 loop-less : tie.Need-loop-less Inv-loop μ-loop
 loop-less c =
     let a = c .before .before .before .before .before in
     let b = a .before in
-    let d = b .before in
-    let e = d .before .before .before .before in
-    omega (arith, b .loop-test .taken, some (e .pre .0) (d .loop .inv) (b .loop-test .taken) (a .smaller .ensures))
+    omega (arith, b .loop-test .taken, some (b .before .before .before .before .before .pre .0) (b .before .loop .inv) (b .loop-test .taken) (a .smaller .ensures))
 
 loop-again : tie.Need-loop-again Inv-loop μ-loop
 loop-again c =
-    let a = c .before .before in
-    let b = a .before .before .before in
-    let d = b .before in
-    let e = d .before in
-    let f = e .before .before .before .before in
-    holes-on (f .pre .0) (e .loop .inv) (d .loop-test .taken) (b .smaller .ensures) (a .singles .ensures)
+    holes-on (c .before .before .before .before .before .before .before .before .before .before .before .pre .0) (c .before .before .before .before .before .before .before .loop .inv)
+    (c .before .before .before .before .before .before .loop-test .taken) (c .before .before .before .before .before .smaller .ensures) (c .before .before .singles .ensures)
 
 same-length : tie.Need-same-length Inv-loop μ-loop
 same-length c = c .before .loop .inv .done .size

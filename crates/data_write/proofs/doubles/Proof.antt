@@ -25,10 +25,7 @@ loop-holds c = singles-start
 
 take-requires : tie.Need-take-requires Inv-loop μ-loop
 take-requires c κs =
-    let a = c .before in
-    let b = a .before in
-    let d = b .before .before .before in
-    double-takes (d .pre .0) (d .pre .1) (b .loop .inv) (a .loop-test .taken)
+    double-takes (c .before .before .before .before .before .pre .0) (c .before .before .before .before .before .pre .1) (c .before .before .loop .inv) (c .before .loop-test .taken)
 
 shr-number : tie.Need-shr-number Inv-loop μ-loop
 shr-number c = omega (arith, c .before .before .before .before .before .before .pre .1 .order)
@@ -45,22 +42,17 @@ joint-requires c κs = (c .before .before .number .ensures .1, c .before .number
 put-six-requires : tie.Need-put-six-requires Inv-loop μ-loop
 put-six-requires c κs =
     let a = c .before .before .before .before .before .before in
-    let b = a .before in
-    let d = b .before .before .before in
-    double-fits (d .pre .0) (d .pre .1) (b .loop .inv) (a .loop-test .taken) .0
+    double-fits (a .before .before .before .before .pre .0) (a .before .before .before .before .pre .1) (a .before .loop .inv) (a .loop-test .taken) .0
 
 add-at : tie.Need-add-at Inv-loop μ-loop
 add-at c =
     let a = c .before .before .before .before .before .before .before .before .before in
-    let b = a .before in
-    let d = b .before .before .before in
-    omega (arith, double-fits (d .pre .0) (d .pre .1) (b .loop .inv) (a .loop-test .taken))
+    omega (arith, double-fits (a .before .before .before .before .pre .0) (a .before .before .before .before .pre .1) (a .before .loop .inv) (a .loop-test .taken))
 
 add-i : tie.Need-add-i Inv-loop μ-loop
 add-i c =
     let a = c .before .before .before .before .before .before .before .before .before in
-    let b = a .before .before .before .before in
-    omega (arith, b .pre .0 .index, a .loop-test .taken)
+    omega (arith, a .before .before .before .before .pre .0 .index, a .loop-test .taken)
 
 loop-less : tie.Need-loop-less Inv-loop μ-loop
 loop-less c = omega arith
@@ -68,15 +60,10 @@ loop-less c = omega arith
 loop-again : tie.Need-loop-again Inv-loop μ-loop
 loop-again c =
     let a = c .before .before in
-    let b = a .before in
-    let d = b .before .before in
-    let e = d .before in
-    let f = e .before in
-    let g = f .before .before in
-    let h = g .before in
-    let i = h .before .before .before in
-    doubles-on (i .pre .0) (i .pre .1) (h .loop .inv) (g .loop-test .taken) (f .take .ensures)
-    (b .joint .ensures ∙ ap₂ jointOf (e .number .ensures .0) (d .number2 .ensures .0)) (a .put-six .kept .0) (a .put-six .ensures)
+    let b = a .before .before .before .before in
+    let d = b .before .before .before in
+    doubles-on (d .before .before .before .before .pre .0) (d .before .before .before .before .pre .1) (d .before .loop .inv) (d .loop-test .taken) (b .before .take .ensures)
+    (a .before .joint .ensures ∙ ap₂ jointOf (b .number .ensures .0) (a .before .before .before .number2 .ensures .0)) (a .put-six .kept .0) (a .put-six .ensures)
 
 same-length : tie.Need-same-length Inv-loop μ-loop
 same-length c = c .before .loop .inv .done .size

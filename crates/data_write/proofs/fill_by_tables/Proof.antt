@@ -13,26 +13,21 @@ begin-requires c κs = search needs
 fill-runs-requires : tie.Need-fill-runs-requires
 fill-runs-requires c κs =
     let a = c .before .before .before .before in
-    let b = a .before in
-    let d = b .before .before .before .before .before in
-    runs-in (d .pre) (b .set-tables .ensures) (a .begin .ensures)
+    runs-in (a .before .before .before .before .before .before .pre) (a .before .set-tables .ensures) (a .begin .ensures)
 
 end-requires : tie.Need-end-requires
 end-requires c κs =
-    let a = c .before .before .before in
-    let b = a .before .before .before .before .before in
-    let d = b .before .before .before .before .before .before in
-    a .fill-runs .ensures .stands (d .args .r) (begins (d .args .q) (b .begin .ensures)) .most
+    let a = c .before .before .before .before .before .before .before .before in
+    let b = a .before .before .before .before .before .before in
+    c .before .before .before .fill-runs .ensures .stands (b .args .r) (begins (b .args .q) (a .begin .ensures)) .most
 
 same-length : tie.Need-same-length
 same-length c = search needs
 
 returns : tie.Need-returns
 returns c =
-    let a = c .before .before .before .before in
-    let b = a .before .before .before .before .before in
-    let d = b .before .before .before .before .before .before in
-    area-filled (d .pre) (b .begin .ensures) (a .fill-runs .ensures) (c .end .ensures)
+    let a = c .before .before .before .before .before .before .before .before .before in
+    area-filled (a .before .before .before .before .before .before .pre) (a .begin .ensures) (c .before .before .before .before .fill-runs .ensures) (c .end .ensures)
 
 pub fill-by-tables-spec : {M : Type 1} → statement M
 fill-by-tables-spec =

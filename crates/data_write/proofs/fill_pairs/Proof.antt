@@ -39,11 +39,9 @@ same-length c = search needs
 
 returns : tie.Need-returns
 returns c =
-    let a = c .before .before in
-    let b = a .before .before .before in
-    let d = b .before .before .before in
-    run-done (d .pre .0) (six-pairs (b .if1 .taken)) (omega arith) (omega arith) (3 * d .args .run .halves) (d .args .run .first) (omega arith) (omega arith)
-    (d .args .j + 6 * d .args .run .halves) (omega arith) (a .all-six .ensures)
+    let a = c .before .before .before .before .before .before .before .before in
+    run-done (a .pre .0) (six-pairs (c .before .before .before .before .before .if1 .taken)) (omega arith) (omega arith) (3 * a .args .run .halves) (a .args .run .first)
+    (omega arith) (omega arith) (a .args .j + 6 * a .args .run .halves) (omega arith) (c .before .before .all-six .ensures)
 
 quads-requires : tie.Need-quads-requires
 quads-requires c κs =
@@ -76,11 +74,9 @@ same-length-2 c = search needs
 
 returns-2 : tie.Need-returns-2
 returns-2 c =
-    let a = c .before .before in
-    let b = a .before .before .before in
-    let d = b .before .before .before .before in
-    run-done (d .pre .0) (left-pairs (b .if2 .taken)) (omega arith) (omega arith) (2 * d .args .run .halves) (d .args .run .first) (omega arith) (omega arith)
-    (d .args .j + 4 * d .args .run .halves) (omega arith) (a .quads .ensures)
+    let a = c .before .before .before .before .before .before .before .before .before in
+    run-done (a .pre .0) (left-pairs (c .before .before .before .before .before .if2 .taken)) (omega arith) (omega arith) (2 * a .args .run .halves) (a .args .run .first)
+    (omega arith) (omega arith) (a .args .j + 4 * a .args .run .halves) (omega arith) (c .before .before .quads .ensures)
 
 add-quads : tie.Need-add-quads
 add-quads c =
@@ -118,19 +114,15 @@ same-length-3 c = search needs
 
 returns-3 : tie.Need-returns-3
 returns-3 c =
-    let a = c .before .before in
-    let b = a .before .before .before in
-    let d = b .before .before .before .before .before in
-    run-done (d .pre .0) (right-pairs (b .if3 .taken)) (omega arith) (omega arith) (2 * d .args .run .halves) (d .args .run .first + 1) (omega arith) (omega arith)
-    (d .args .j + 4 * d .args .run .halves) (omega arith) (a .quads2 .ensures)
+    let a = c .before .before .before .before .before .before .before .before .before .before in
+    run-done (a .pre .0) (right-pairs (c .before .before .before .before .before .if3 .taken)) (omega arith) (omega arith) (2 * a .args .run .halves) (a .args .run .first + 1)
+    (omega arith) (omega arith) (a .args .j + 4 * a .args .run .halves) (omega arith) (c .before .before .quads2 .ensures)
 
 quads-apart-requires : tie.Need-quads-apart-requires
 quads-apart-requires c κs =
-    let a = c .before .before in
-    let b = a .before in
-    let d = b .before in
-    let e = d .before .before .before in (
-      run-in (e .pre .0) (apart-pairs (form-last (e .pre .0 .form) (d .if1 .left) (b .if2 .left) (a .if3 .left))) (omega arith) (omega arith) (2 * e .args .run .halves)
+    let e = c .before .before .before .before .before .before .before in (
+      run-in (e .pre .0) (apart-pairs (form-last (e .pre .0 .form) (c .before .before .before .before .if1 .left) (c .before .before .before .if2 .left)
+          (c .before .before .if3 .left))) (omega arith) (omega arith) (2 * e .args .run .halves)
           (e .args .run .first) (omega arith) (omega arith),
       e .pre .1,
     )
@@ -166,13 +158,10 @@ same-length-4 c = search needs
 
 returns-4 : tie.Need-returns-4
 returns-4 c =
-    let a = c .before .before in
-    let b = a .before .before .before in
-    let d = b .before in
-    let e = d .before in
-    let f = e .before .before .before in
-    run-done (f .pre .0) (apart-pairs (form-last (f .pre .0 .form) (e .if1 .left) (d .if2 .left) (b .if3 .left))) (omega arith) (omega arith) (2 * f .args .run .halves)
-    (f .args .run .first) (omega arith) (omega arith) (f .args .j + 4 * f .args .run .halves) (omega arith) (a .quads-apart .ensures)
+    let a = c .before .before .before .before .before in
+    let b = a .before .before .before .before .before in
+    run-done (b .pre .0) (apart-pairs (form-last (b .pre .0 .form) (a .before .before .if1 .left) (a .before .if2 .left) (a .if3 .left))) (omega arith) (omega arith)
+    (2 * b .args .run .halves) (b .args .run .first) (omega arith) (omega arith) (b .args .j + 4 * b .args .run .halves) (omega arith) (c .before .before .quads-apart .ensures)
 
 pub fill-pairs-spec : {M : Type 1} → statement M
 fill-pairs-spec =

@@ -8,8 +8,7 @@ use Rattle.data_write.proofs.fill_run.Tie as tie
 fill-single-requires : tie.Need-fill-single-requires
 fill-single-requires c κs =
     let a = c .before .before in
-    let b = a .before .before .before in
-    (b .pre .0 .single (a .if1 .taken), one-sending (b .pre .1) (a .if1 .taken))
+    (a .before .before .before .pre .0 .single (a .if1 .taken), one-sending (a .before .before .before .pre .1) (a .if1 .taken))
 
 same-length : tie.Need-same-length
 same-length c = search needs
@@ -19,9 +18,8 @@ returns c = one-filled (c .before .before .before .before .before .if1 .taken) (
 
 fill-pairs-requires : tie.Need-fill-pairs-requires
 fill-pairs-requires c κs =
-    let a = c .before .before in
-    let b = a .before .before .before in
-    (b .pre .0 .pairs (omega (arith, b .pre .0 .some, a .if1 .left)), pairs-sending (b .pre .1) (a .if1 .left))
+    let a = c .before .before .before .before .before in
+    (a .pre .0 .pairs (omega (arith, a .pre .0 .some, c .before .before .if1 .left)), pairs-sending (a .pre .1) (c .before .before .if1 .left))
 
 same-length-2 : tie.Need-same-length-2
 same-length-2 c = search needs

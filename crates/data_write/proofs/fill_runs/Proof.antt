@@ -35,61 +35,48 @@ loop-holds c = area-begins (c .before .before .before .before .before .pre) (c .
 
 run-at-requires : tie.Need-run-at-requires Inv-loop μ-loop
 run-at-requires c κs =
-    let b = c .before .before in
-    let d = b .before .before in
-    let e = d .before in
-    let f = e .before .before .before in
-    cursor-in (f .pre) (b .loop .inv) (inside (f .args .a .cell) (e .slot-length .ensures) (c .if1 .taken)) (carriers-are (f .args .a .cell) (d .wide .ensures))
+    let a = c .before .before .before .before .before .before .before .before in
+    cursor-in (a .pre) (c .before .before .loop .inv) (inside (a .args .a .cell) (c .before .before .before .before .before .slot-length .ensures) (c .if1 .taken))
+    (carriers-are (a .args .a .cell) (c .before .before .before .before .wide .ensures))
 
 fill-run-requires : tie.Need-fill-run-requires Inv-loop μ-loop
 fill-run-requires c κs =
-    let b = c .before .before in
-    let d = b .before in
-    let e = d .before .before in
-    let f = e .before .before in
-    let g = f .before in
-    let h = g .before .before .before in (
-      area-run (h .pre) (e .loop .inv) (inside (h .args .a .cell) (g .slot-length .ensures) (d .if1 .taken)) (carriers-are (h .args .a .cell) (f .wide .ensures))
-          (places-are (h .args .a .cell) (g .slot-length .ensures) (f .wide .ensures)) (b .run-at .ensures .0) (b .run-at .ensures .1),
-      area-sending (h .pre) (e .loop .inv)
-          (inside (h .args .a .cell) (g .slot-length .ensures) (d .if1 .taken)),
+    let a = c .before .before .before .before .before .before .before in
+    let h = c .before .before .before .before .before .before .before .before .before .before .before in (
+      area-run (h .pre) (c .before .before .before .before .before .loop .inv) (inside (h .args .a .cell) (a .before .slot-length .ensures) (c .before .before .before .if1 .taken))
+          (carriers-are (h .args .a .cell) (a .wide .ensures))
+          (places-are (h .args .a .cell) (a .before .slot-length .ensures) (a .wide .ensures)) (c .before .before .run-at .ensures .0) (c .before .before .run-at .ensures .1),
+      area-sending (h .pre) (c .before .before .before .before .before .loop .inv)
+          (inside (h .args .a .cell) (a .before .slot-length .ensures) (c .before .before .before .if1 .taken)),
     )
 
 next-requires : tie.Need-next-requires Inv-loop μ-loop
 next-requires c κs =
-    let a = c .before .before .before .before .before .before in
-    let b = a .before .before .before .before .before in
-    let d = b .before .before .before in
-    omega (arith, extent-small (d .pre) (b .slot-length .ensures), a .if1 .taken)
+    let a = c .before .before .before .before .before .before .before .before .before .before .before in
+    omega (arith, extent-small (a .before .before .before .pre) (a .slot-length .ensures), c .before .before .before .before .before .before .if1 .taken)
 
 loop-less : tie.Need-loop-less Inv-loop μ-loop
 loop-less c =
     let a = c .before .before .before .before .before .before .before in
     let b = a .before .before in
-    let d = b .before .before .before .before .before .before in
-    less _ (d .args .rows .now) (b .loop .c) (c .next .ensures .0) (a .if1 .taken) (c .next .ensures .1)
+    less _ (b .before .before .before .before .before .before .args .rows .now) (b .loop .c) (c .next .ensures .0) (a .if1 .taken) (c .next .ensures .1)
 
 loop-again : tie.Need-loop-again Inv-loop μ-loop
 loop-again c =
-    let b = c .before .before .before in
-    let d = b .before .before .before in
-    let e = d .before in
-    let f = e .before .before in
-    let g = f .before .before in
-    let h = g .before in
-    let i = h .before .before .before in
-    area-on (i .pre) (f .loop .inv) (inside (i .args .a .cell) (h .slot-length .ensures) (e .if1 .taken)) (carriers-are (i .args .a .cell) (g .wide .ensures))
-    (places-are (i .args .a .cell) (h .slot-length .ensures) (g .wide .ensures)) (d .run-at .ensures .0) (c .next .ensures .0) (b .fill-run .ensures)
+    let a = c .before .before .before .before .before .before in
+    let b = a .before .before .before .before .before in
+    let d = b .before .before .before .before in
+    area-on (d .pre) (a .before .before .before .loop .inv) (inside (d .args .a .cell) (b .before .slot-length .ensures) (a .before .if1 .taken))
+    (carriers-are (d .args .a .cell) (b .wide .ensures)) (places-are (d .args .a .cell) (b .before .slot-length .ensures) (b .wide .ensures)) (a .run-at .ensures .0)
+    (c .next .ensures .0) (c .before .before .before .fill-run .ensures)
 
 same-length : tie.Need-same-length Inv-loop μ-loop
 same-length c = c .before .before .loop .inv .size
 
 returns : tie.Need-returns Inv-loop μ-loop
 returns c =
-    let b = c .before .before in
-    let d = b .before .before .before in
-    let e = d .before .before .before in
-    area-ends (e .pre) (symbols-are (e .args .a .cell) (d .slot-length .ensures)) (b .loop .inv) (c .if1 .left)
+    let a = c .before .before .before .before .before in
+    area-ends (a .before .before .before .pre) (symbols-are (a .before .before .before .args .a .cell) (a .slot-length .ensures)) (c .before .before .loop .inv) (c .if1 .left)
 
 pub fill-runs-spec : {M : Type 1} → statement M
 fill-runs-spec =

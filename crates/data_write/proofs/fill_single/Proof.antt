@@ -16,51 +16,39 @@ mul-doubles c = omega (arith, c .before .before .before .before .before .before 
 
 doubles-requires : tie.Need-doubles-requires
 doubles-requires c κs =
-    let a = c .before .before in
-    let b = a .before .before .before in
-    let d = b .before .before .before in
-    (doubles-in (d .pre .0) (b .holes-of .ensures) (a .if1 .taken), d .pre .1)
+    let a = c .before .before .before .before .before in
+    (doubles-in (a .before .before .before .pre .0) (a .holes-of .ensures) (c .before .before .if1 .taken), a .before .before .before .pre .1)
 
 add-result : tie.Need-add-result
 add-result c =
     let a = c .before .before .before .before .before .before .before .before in
-    let b = a .before .before .before in
-    omega (arith, single-total (b .pre .0) (a .holes-of .ensures), b .pre .0 .index)
+    omega (arith, single-total (a .before .before .before .pre .0) (a .holes-of .ensures), a .before .before .before .pre .0 .index)
 
 same-length : tie.Need-same-length
 same-length c = search needs
 
 returns : tie.Need-returns
 returns c =
-    let a = c .before .before in
-    let b = a .before .before .before in
-    let d = b .before .before .before in
-    let e = d .before .before .before in
-    doubles-filled (e .pre .0) (d .holes-of .ensures) (b .if1 .taken) (a .doubles .ensures)
+    let a = c .before .before .before .before .before in
+    doubles-filled (a .before .before .before .before .before .before .pre .0) (a .before .before .before .holes-of .ensures) (a .if1 .taken) (c .before .before .doubles .ensures)
 
 between-requires : tie.Need-between-requires
 between-requires c κs =
-    let a = c .before .before in
-    let b = a .before .before .before in
-    let d = b .before .before .before in
-    (holes-in (d .pre .0) (b .holes-of .ensures) (a .if1 .left), d .pre .1)
+    let a = c .before .before .before .before .before in
+    (holes-in (a .before .before .before .pre .0) (a .holes-of .ensures) (c .before .before .if1 .left), a .before .before .before .pre .1)
 
 add-result-2 : tie.Need-add-result-2
 add-result-2 c =
     let a = c .before .before .before .before .before .before .before .before in
-    let b = a .before .before .before in
-    omega (arith, single-total (b .pre .0) (a .holes-of .ensures), b .pre .0 .index)
+    omega (arith, single-total (a .before .before .before .pre .0) (a .holes-of .ensures), a .before .before .before .pre .0 .index)
 
 same-length-2 : tie.Need-same-length-2
 same-length-2 c = search needs
 
 returns-2 : tie.Need-returns-2
 returns-2 c =
-    let a = c .before .before in
-    let b = a .before .before .before in
-    let d = b .before .before .before in
-    let e = d .before .before .before in
-    holes-filled (e .pre .0) (d .holes-of .ensures) (b .if1 .left) (a .between .ensures)
+    let a = c .before .before .before .before .before in
+    holes-filled (a .before .before .before .before .before .before .pre .0) (a .before .before .before .holes-of .ensures) (a .if1 .left) (c .before .before .between .ensures)
 
 pub fill-single-spec : {M : Type 1} → statement M
 fill-single-spec =

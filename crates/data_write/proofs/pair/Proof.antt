@@ -14,10 +14,7 @@ mul-take : tie.Need-mul-take
 mul-take c = omega (arith, c .before .before .before .before .pre .1 .order)
 
 take-requires : tie.Need-take-requires
-take-requires c κs =
-    let a = c .before in
-    let b = a .before .before .before in
-    one-takes (b .pre .0) (b .pre .1) (a .port-offsets .ensures)
+take-requires c κs = one-takes (c .before .before .before .before .pre .0) (c .before .before .before .before .pre .1) (c .before .port-offsets .ensures)
 
 shr-number : tie.Need-shr-number
 shr-number c = omega (arith, c .before .before .before .before .before .pre .1 .order)
@@ -31,20 +28,17 @@ number-requires-2 c κs = tt
 add-put-pair : tie.Need-add-put-pair
 add-put-pair c =
     let a = c .before .before .before .before .before .before in
-    let b = a .before .before .before in
-    omega (arith, offsets-small (b .pre .0) (a .port-offsets .ensures))
+    omega (arith, offsets-small (a .before .before .before .pre .0) (a .port-offsets .ensures))
 
 mul-put-pair : tie.Need-mul-put-pair
 mul-put-pair c =
     let a = c .before .before .before .before .before .before in
-    let b = a .before .before .before in
-    omega (arith, offsets-small (b .pre .0) (a .port-offsets .ensures))
+    omega (arith, offsets-small (a .before .before .before .pre .0) (a .port-offsets .ensures))
 
 mul-put-pair-2 : tie.Need-mul-put-pair-2
 mul-put-pair-2 c =
     let a = c .before .before .before .before .before .before .before in
-    let b = a .before .before .before in
-    omega (arith, offsets-small (b .pre .0) (a .port-offsets .ensures))
+    omega (arith, offsets-small (a .before .before .before .pre .0) (a .port-offsets .ensures))
 
 joint-requires : tie.Need-joint-requires
 joint-requires c κs = (c .before .before .before .before .number .ensures .1, c .before .before .before .number2 .ensures .1)
@@ -55,8 +49,7 @@ partners-requires c κs = (c .before .before .before .before .before .number .en
 put-pair-requires : tie.Need-put-pair-requires
 put-pair-requires c κs =
     let a = c .before .before .before .before .before .before .before .before .before in
-    let b = a .before .before .before in
-    one-fits (b .pre .0) (b .pre .1) (a .port-offsets .ensures)
+    one-fits (a .before .before .before .pre .0) (a .before .before .before .pre .1) (a .port-offsets .ensures)
 
 same-length : tie.Need-same-length
 same-length c = search needs
@@ -64,15 +57,10 @@ same-length c = search needs
 returns : tie.Need-returns
 returns c =
     let a = c .before .before in
-    let b = a .before in
-    let d = b .before in
-    let e = d .before .before .before .before in
-    let f = e .before in
-    let g = f .before in
-    let h = g .before .before in
-    let i = h .before .before .before in
-    one-done (i .pre .0) (i .pre .1) (h .port-offsets .ensures) (g .take .ensures)
-    (from-table (f .number .ensures .0) (e .number2 .ensures .0) (d .joint .ensures) (b .partners .ensures)) (a .put-pair .ensures)
+    let b = a .before .before .before .before .before .before in
+    let d = b .before .before .before .before in
+    one-done (d .before .before .before .pre .0) (d .before .before .before .pre .1) (d .port-offsets .ensures) (b .before .before .take .ensures)
+    (from-table (b .before .number .ensures .0) (b .number2 .ensures .0) (a .before .before .joint .ensures) (a .before .partners .ensures)) (a .put-pair .ensures)
 
 pub pair-spec : {M : Type 1} → statement M
 pair-spec =

@@ -55,19 +55,11 @@ same-length c = search needs
 
 returns : tie.Need-returns
 returns c =
-    let a = c .before .before in
-    let b = a .before in
-    let d = b .before in
-    let e = d .before .before .before .before in
-    let f = e .before in
-    let g = f .before in
-    let h = g .before .before in
-    let i = h .before in
-    let j = i .before in
-    let k = j .before in
-    let m = k .before in
-    round-made (m .take .ensures) (from-table (k .number .ensures .0) (j .number2 .ensures .0) (g .joint .ensures) (f .partners .ensures))
-    (from-table (i .number3 .ensures .0) (h .number4 .ensures .0) (d .joint2 .ensures) (b .partners2 .ensures)) (e .put-pair .ensures) (a .put-pair2 .ensures)
+    let a = c .before .before .before .before .before .before .before .before in
+    let b = a .before .before .before .before .before in
+    round-made (b .before .before .before .take .ensures) (from-table (b .before .before .number .ensures .0) (b .before .number2 .ensures .0) (a .before .before .joint .ensures)
+    (a .before .partners .ensures)) (from-table (b .number3 .ensures .0) (a .before .before .before .before .number4 .ensures .0)
+    (c .before .before .before .before .joint2 .ensures) (c .before .before .before .partners2 .ensures)) (a .put-pair .ensures) (c .before .before .put-pair2 .ensures)
 
 pub round-spec : {M : Type 1} → statement M
 round-spec =

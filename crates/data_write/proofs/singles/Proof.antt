@@ -20,10 +20,7 @@ loop-holds c = singles-start
 
 take-requires : tie.Need-take-requires Inv-loop μ-loop
 take-requires c κs =
-    let a = c .before in
-    let b = a .before in
-    let d = b .before .before .before in
-    single-takes (d .pre .0) (d .pre .1) (b .loop .inv) (a .loop-test .taken)
+    single-takes (c .before .before .before .before .before .pre .0) (c .before .before .before .before .before .pre .1) (c .before .before .loop .inv) (c .before .loop-test .taken)
 
 number-requires : tie.Need-number-requires Inv-loop μ-loop
 number-requires c κs = tt
@@ -31,22 +28,17 @@ number-requires c κs = tt
 put-three-requires : tie.Need-put-three-requires Inv-loop μ-loop
 put-three-requires c κs =
     let a = c .before .before .before .before in
-    let b = a .before in
-    let d = b .before .before .before in
-    single-fits (d .pre .0) (d .pre .1) (b .loop .inv) (a .loop-test .taken) .0
+    single-fits (a .before .before .before .before .pre .0) (a .before .before .before .before .pre .1) (a .before .loop .inv) (a .loop-test .taken) .0
 
 add-at : tie.Need-add-at Inv-loop μ-loop
 add-at c =
     let a = c .before .before .before .before .before .before .before in
-    let b = a .before in
-    let d = b .before .before .before in
-    omega (arith, single-fits (d .pre .0) (d .pre .1) (b .loop .inv) (a .loop-test .taken))
+    omega (arith, single-fits (a .before .before .before .before .pre .0) (a .before .before .before .before .pre .1) (a .before .loop .inv) (a .loop-test .taken))
 
 add-i : tie.Need-add-i Inv-loop μ-loop
 add-i c =
     let a = c .before .before .before .before .before .before .before in
-    let b = a .before .before .before .before in
-    omega (arith, b .pre .0 .index, a .loop-test .taken)
+    omega (arith, a .before .before .before .before .pre .0 .index, a .loop-test .taken)
 
 loop-less : tie.Need-loop-less Inv-loop μ-loop
 loop-less c = omega arith
@@ -54,12 +46,9 @@ loop-less c = omega arith
 loop-again : tie.Need-loop-again Inv-loop μ-loop
 loop-again c =
     let a = c .before .before in
-    let b = a .before in
-    let d = b .before .before in
-    let e = d .before .before in
-    let f = e .before in
-    let g = f .before .before .before in
-    singles-on (g .pre .0) (g .pre .1) (f .loop .inv) (e .loop-test .taken) (d .take .ensures) (b .number .ensures .0) (a .put-three .kept .0) (a .put-three .ensures)
+    let b = a .before .before .before .before .before in
+    singles-on (b .before .before .before .before .pre .0) (b .before .before .before .before .pre .1) (b .before .loop .inv) (b .loop-test .taken)
+    (a .before .before .before .take .ensures) (a .before .number .ensures .0) (a .put-three .kept .0) (a .put-three .ensures)
 
 same-length : tie.Need-same-length Inv-loop μ-loop
 same-length c = c .before .loop .inv .done .size
