@@ -178,7 +178,8 @@ module _ {q u : ℕ} {f : Form} (o : FormOf q u f) where
           let same = or-masked (s .same) (bitXor x (x / 2)) (f .same) (w .1) in
           let fixed = or-masked (s .fixed) (bitXor x (f .fixed)) (f .fixes) (z .1) in
           let b = masked-both o x (same .1) (fixed .1) in
-          (none-or (bitOr (s .bad) (bitAnd (s .same) (f .same))) (bitAnd (s .fixed) (f .fixes)) (none-or (s .bad) (bitAnd (s .same) (f .same)) (bad .0) (same .0)) (fixed .0), b, told-partners b (bad .1))
+          let first = none-or (s .bad) (bitAnd (s .same) (f .same)) (bad .0) (same .0) in
+          (none-or (bitOr (s .bad) (bitAnd (s .same) (f .same))) (bitAnd (s .fixed) (f .fixes)) first (fixed .0), b, told-partners b (bad .1))
 
       pub sums-none : toldBy f s ≡ 0 → Both q u x → Partners u x y → toldBy f (sumsWith f s x y) ≡ 0
       sums-none e b p =

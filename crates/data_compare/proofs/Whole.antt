@@ -173,7 +173,10 @@ module _ {a : Area} {q unit : ℕ} {masks g : List ℕ} (i : CompareIn a q unit 
     n-below : n < areaCount a
     n-below = below a places-some e h
 
-    which : (port ≡ ownPort (a .cell .ports) (n / 2 % 2)) ⊎ ((port ≡ ownPort (a .cell .ports) (n / 2 % 2) → ⊥) × (port ≡ otherPort (a .cell .ports) (n / 2 % 2)))
+    abbrev Which : Type 0
+    Which = (port ≡ ownPort (a .cell .ports) (n / 2 % 2)) ⊎ ((port ≡ ownPort (a .cell .ports) (n / 2 % 2) → ⊥) × (port ≡ otherPort (a .cell .ports) (n / 2 % 2)))
+
+    which : Which
     which = sends-which (a .cell .ports) (n / 2 % 2) port (sends-port a places-some e h)
 
     more : (port ≡ ownPort (a .cell .ports) (n / 2 % 2) → ⊥) → port ≡ otherPort (a .cell .ports) (n / 2 % 2) → a .cell .ports ≡ 1 → ⊥
@@ -191,7 +194,7 @@ module _ {a : Area} {q unit : ℕ} {masks g : List ℕ} (i : CompareIn a q unit 
     unfolding areaSent
     right-value = pick which
       where
-        pick : (port ≡ ownPort (a .cell .ports) (n / 2 % 2)) ⊎ ((port ≡ ownPort (a .cell .ports) (n / 2 % 2) → ⊥) × (port ≡ otherPort (a .cell .ports) (n / 2 % 2))) → elementIn g e ≡ placed (a .cell .ports) (n / 2 % 2) unit d n port
+        pick : Which → elementIn g e ≡ placed (a .cell .ports) (n / 2 % 2) unit d n port
         pick (inl is) = on-first is ∙ sym (on-own (a .cell .ports) (n / 2 % 2) unit (n % 2) (d n) (d (beside n)) port is)
         pick (inr (not-own, is)) = on-second not-own is ∙ sym (on-other (a .cell .ports) (n / 2 % 2) unit (n % 2) (d n) (d (beside n)) port not-own is)
 
@@ -201,7 +204,7 @@ module _ {a : Area} {q unit : ℕ} {masks g : List ℕ} (i : CompareIn a q unit 
         other-below : (a .cell .ports ≡ 1 → ⊥) → beside n < areaCount a
         other-below o = omega (arith, i .pairs o, n-below)
 
-        pick : (port ≡ ownPort (a .cell .ports) (n / 2 % 2)) ⊎ ((port ≡ ownPort (a .cell .ports) (n / 2 % 2) → ⊥) × (port ≡ otherPort (a .cell .ports) (n / 2 % 2))) → weightOf (elementIn g e) ≡ 3
+        pick : Which → weightOf (elementIn g e) ≡ 3
         pick (inl is) =
             let z = levels-nonzero q (d n) (i .area .order) (r n n-below .known) in
             ap weightOf (on-first is) ∙ weight-three U (d n) (unit-some (a .cell .ports) unit (i .some)) (z .0) (z .1)
