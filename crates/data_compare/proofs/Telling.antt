@@ -1,7 +1,7 @@
 -- WHAT BITS TELL: laws on masks, or and exclusive or that are 0, and on tests one after another. Assumes nothing.
-use Prim.Native.Nat.{ℕ, zero, suc, _+_, _-_, _*_, _/_, _%_, _^_, _≤_, _<_, min, max}
+use Prim.Native.Nat.{ℕ, zero, suc, _+_, _-_, _*_, _/_, _%_, _^_, _≤_, _<_, min}
 use mathlib.Core.Path.{_≡_, refl, sym, ap, ap₂, _∙_}
-use native.Mathlib.Nat.{mod-lt, mod-eq-of-lt, zero-min, zero-max, max-zero, min-le-left}
+use native.Mathlib.Nat.{mod-lt, mod-eq-of-lt, zero-min, min-le-left}
 use native.Mathlib.Decide.{decLe, ℕ-discrete}
 use native.Mathlib.Omega.{arith}
 use lib.Arith.{bin-ind}
@@ -11,19 +11,12 @@ use Rattle.element_pairs.proofs.Puts.{or-none, none-or}
 use Rattle.data_compare.specs.Tests.{Tells}
 
 -- ---- a mask over an or
-digit : (x y z : ℕ) → x < 2 → y < 2 → min (max x y) z ≡ bitOr (min x z) (min y z)
-digit zero y z l m = rw (zero-max y, zero-min z) refl
-digit (suc zero) zero z l m = rw (max-zero 1, zero-min z) (sym (or-zero-r (min 1 z)))
+digit : (x y z : ℕ) → x < 2 → y < 2 → min (bitOr x y) z ≡ bitOr (min x z) (min y z)
+digit zero y z l m = rw (zero-min z) refl
+digit (suc zero) zero z l m = rw (zero-min z) (sym (or-zero-r (min 1 z)))
 digit (suc zero) (suc zero) z l m = sym (or-self (min 1 z))
 digit (suc zero) (suc (suc y)) z l m = absurd (omega arith)
 digit (suc (suc x)) y z l m = absurd (omega arith)
-
-max-digit : (x y : ℕ) → x < 2 → y < 2 → bitOr x y ≡ max x y
-max-digit zero y l m = sym (zero-max y)
-max-digit (suc zero) zero l m = refl
-max-digit (suc zero) (suc zero) l m = refl
-max-digit (suc zero) (suc (suc y)) l m = absurd (omega arith)
-max-digit (suc (suc x)) y l m = absurd (omega arith)
 
 and-or : (a b m : ℕ) → bitAnd (bitOr a b) m ≡ bitOr (bitAnd a m) (bitAnd b m)
 and-or =
@@ -31,10 +24,9 @@ and-or =
     (λ a ih b m.
     let la : a % 2 < 2 = omega arith in
     let lb : b % 2 < 2 = omega arith in
-    let o : bitOr a b % 2 ≡ max (a % 2) (b % 2) = or-mod a b 1 ∙ max-digit (a % 2) (b % 2) la lb in
     and-step (bitOr a b) m
     ∙ ap₂ (λ (x y : ℕ). x * 2 + y) (ap (λ (x : ℕ). bitAnd x (m / 2)) (or-shr a b 1) ∙ ih (b / 2) (m / 2))
-    (ap (λ (x : ℕ). min x (m % 2)) o ∙ digit (a % 2) (b % 2) (m % 2) la lb)
+    (ap (λ (x : ℕ). min x (m % 2)) (or-mod a b 1) ∙ digit (a % 2) (b % 2) (m % 2) la lb)
     ∙ sym
     (ap₂ bitOr (and-step a m) (and-step b m)
     ∙ or-block 1 (bitAnd (a / 2) (m / 2)) (bitAnd (b / 2) (m / 2)) (min (a % 2) (m % 2)) (min (b % 2) (m % 2)) (low (a % 2) (m % 2) la) (low (b % 2) (m % 2) lb)))

@@ -14,7 +14,7 @@ use lib.ListN.{length}
 use borrow.Author.Tests.{eq-eqb, ne-eqb, eqb-true}
 use Rattle.base.proofs.Tests.{by-test}
 use Rattle.base.specs.declared.Pair.{Pair}
-use Rattle.base.specs.Bytes.{byteOf, elementOf}
+use Rattle.base.specs.Bytes.{byteOf, elementOf, pairOf}
 use Rattle.base.proofs.Rows.{at-div, at-mod}
 use Rattle.modulation.specs.Symbols.{Order}
 use Rattle.modulation.specs.Marks.{isSymbol}
@@ -24,7 +24,7 @@ use Rattle.precoding.specs.Places.{ownPort, otherPort, partnerOf, beside, place
 use Rattle.precoding.proofs.Ports.{on-own, on-other}
 use Rattle.plan.proofs.Counts.{blocks-least}
 use Rattle.plan.proofs.Listed.{and-left, and-right}
-use Rattle.base.specs.Counts.{cnt}
+use Rattle.base.specs.Counts.{cnt, nth}
 use Rattle.base.proofs.Counts.{cnt-most}
 use Rattle.places.specs.Places.{placesOf}
 use Rattle.places.proofs.Numbers.{first-row}
@@ -36,12 +36,63 @@ use Rattle.compare.proofs.Comparing.{nonzero-one}
 use Rattle.compare.proofs.PortWeights.{port-weight}
 use Rattle.areas.specs.declared.Area.{Area}
 use Rattle.areas.specs.Areas.{areaAt, areaCount, areaIndex, areaSends}
+use Rattle.walk.proofs.Addresses.{own-turn}
 use Rattle.data_compare.specs.declared.Form.{Form}
 use Rattle.data_compare.specs.Symbols.{areaPlace, areaSymbol, areaSent, AreaHolds, AreaCompared, CompareIn}
 use Rattle.data_compare.specs.Tests.{FormOf}
-use Rattle.data_compare.specs.Places.{Through}
+use Rattle.data_compare.specs.Places.{Through, Right}
 use Rattle.data_compare.proofs.AreaSymbols.{place-in, at-place, index-back, place-back, index-below}
-use Rattle.data_compare.proofs.Fitted.{Fits, ownAt, otherAt, right-fits, fits-right}
+
+-- ---- what stands at an area's place, by its symbols
+abbrev ownAt : Area → ℕ → ℕ
+ownAt a j = ownPort (a .cell .ports) (j / 2 % 2) * placesOf (a .cell) + areaPlace a j
+
+abbrev otherAt : Area → ℕ → ℕ
+otherAt a j = otherPort (a .cell .ports) (j / 2 % 2) * placesOf (a .cell) + areaPlace a j
+
+record Fits (a : Area) (q unit : ℕ) (g : List ℕ) (j : ℕ) : Type 0 where
+  pub known : isSymbol q (areaSymbol a g j) ≡ true
+  pub own : elementIn g (ownAt a j) ≡ elementOf (unitOn (a .cell .ports) unit) (areaSymbol a g j)
+  pub other :
+      (a .cell .ports ≡ 1 → ⊥)
+      → elementIn g (otherAt a j) ≡ elementOf (unitOn (a .cell .ports) unit) (partnerOf (j % 2) (areaSymbol a g (beside j)))
+
+module _ (a : Area) (q unit : ℕ) (g : List ℕ) (j : ℕ) where
+  abbrev portsIn : ℕ
+  portsIn = a .cell .ports
+
+  abbrev placesIn : ℕ
+  placesIn = placesOf (a .cell)
+
+  abbrev unitIn : ℕ
+  unitIn = unitOn (a .cell .ports) unit
+
+  -- a symbol, by the own port of index j
+  symbol-is : (k : ℕ) → k / 2 % 2 ≡ j / 2 % 2 → areaSymbol a g k ≡ pairOf (elementIn g (ownPort portsIn (j / 2 % 2) * placesIn + nth (areaAt a) placesIn k))
+  unfolding areaSymbol areaPlace
+  symbol-is k e = ap (λ (x : ℕ). pairOf (elementIn g (x * placesIn + nth (areaAt a) placesIn k))) (own-turn portsIn (k / 2) (j / 2 % 2) (omega arith))
+
+  same-turn : beside j / 2 % 2 ≡ j / 2 % 2
+  same-turn = omega arith
+
+  right-fits : Right (areaAt a) portsIn placesIn q unitIn g j → Fits a q unit g j
+  unfolding areaPlace
+  right-fits r =
+      let e = symbol-is j refl in
+      record {
+        known = ap (isSymbol q) e ∙ r .own .known;
+        own = r .own .levels ∙ ap (elementOf unitIn) (sym e);
+        other = λ n. r .other n ∙ ap (λ (d : Pair). elementOf unitIn (partnerOf (j % 2) d)) (sym (symbol-is (beside j) same-turn));
+      }
+
+  fits-right : Fits a q unit g j → Right (areaAt a) portsIn placesIn q unitIn g j
+  unfolding areaPlace
+  fits-right r =
+      let e = symbol-is j refl in
+      record {
+        own = record { levels = r .own ∙ ap (elementOf unitIn) e; known = ap (isSymbol q) (sym e) ∙ r .known };
+        other = λ n. r .other n ∙ ap (λ (d : Pair). elementOf unitIn (partnerOf (j % 2) d)) (symbol-is (beside j) same-turn);
+      }
 
 -- ---- bytes that are not 0
 weight-three : (u : ℕ) (d : Pair) → (u ≡ 0 → ⊥) → (byteOf (d .re) ≡ 0 → ⊥) → (byteOf (d .im) ≡ 0 → ⊥) → weightOf (elementOf u d) ≡ 3
@@ -173,7 +224,10 @@ module _ {a : Area} {q unit : ℕ} {masks g : List ℕ} (i : CompareIn a q unit 
     n-below : n < areaCount a
     n-below = below a places-some e h
 
-    which : (port ≡ ownPort (a .cell .ports) (n / 2 % 2)) ⊎ ((port ≡ ownPort (a .cell .ports) (n / 2 % 2) → ⊥) × (port ≡ otherPort (a .cell .ports) (n / 2 % 2)))
+    abbrev Which : Type 0
+    Which = (port ≡ ownPort (a .cell .ports) (n / 2 % 2)) ⊎ ((port ≡ ownPort (a .cell .ports) (n / 2 % 2) → ⊥) × (port ≡ otherPort (a .cell .ports) (n / 2 % 2)))
+
+    which : Which
     which = sends-which (a .cell .ports) (n / 2 % 2) port (sends-port a places-some e h)
 
     more : (port ≡ ownPort (a .cell .ports) (n / 2 % 2) → ⊥) → port ≡ otherPort (a .cell .ports) (n / 2 % 2) → a .cell .ports ≡ 1 → ⊥
@@ -191,7 +245,7 @@ module _ {a : Area} {q unit : ℕ} {masks g : List ℕ} (i : CompareIn a q unit 
     unfolding areaSent
     right-value = pick which
       where
-        pick : (port ≡ ownPort (a .cell .ports) (n / 2 % 2)) ⊎ ((port ≡ ownPort (a .cell .ports) (n / 2 % 2) → ⊥) × (port ≡ otherPort (a .cell .ports) (n / 2 % 2))) → elementIn g e ≡ placed (a .cell .ports) (n / 2 % 2) unit d n port
+        pick : Which → elementIn g e ≡ placed (a .cell .ports) (n / 2 % 2) unit d n port
         pick (inl is) = on-first is ∙ sym (on-own (a .cell .ports) (n / 2 % 2) unit (n % 2) (d n) (d (beside n)) port is)
         pick (inr (not-own, is)) = on-second not-own is ∙ sym (on-other (a .cell .ports) (n / 2 % 2) unit (n % 2) (d n) (d (beside n)) port not-own is)
 
@@ -201,7 +255,7 @@ module _ {a : Area} {q unit : ℕ} {masks g : List ℕ} (i : CompareIn a q unit 
         other-below : (a .cell .ports ≡ 1 → ⊥) → beside n < areaCount a
         other-below o = omega (arith, i .pairs o, n-below)
 
-        pick : (port ≡ ownPort (a .cell .ports) (n / 2 % 2)) ⊎ ((port ≡ ownPort (a .cell .ports) (n / 2 % 2) → ⊥) × (port ≡ otherPort (a .cell .ports) (n / 2 % 2))) → weightOf (elementIn g e) ≡ 3
+        pick : Which → weightOf (elementIn g e) ≡ 3
         pick (inl is) =
             let z = levels-nonzero q (d n) (i .area .order) (r n n-below .known) in
             ap weightOf (on-first is) ∙ weight-three U (d n) (unit-some (a .cell .ports) unit (i .some)) (z .0) (z .1)

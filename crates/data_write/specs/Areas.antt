@@ -18,6 +18,7 @@ use Rattle.walk.specs.Tables.{inTables, AtIndex}
 use Rattle.walk.specs.Parts.{sentPart}
 use Rattle.areas.specs.declared.Area.{Area}
 use Rattle.areas.specs.Areas.{areaCount, areaSends, areaElement, AreaIn}
+pub use Rattle.areas.specs.Areas.{SignalsIn}
 use Rattle.areas.specs.Tables.{RowMasks, AreaTables}
 use Rattle.data_write.specs.Sent.{sentElement, groupOf, TableOf, Sending}
 use Rattle.data_write.specs.OnePort.{SingleIn}
@@ -37,10 +38,6 @@ portsOf a = a .cell .ports
 
 abbrev pub groupIn : Area → ℕ → ℕ
 groupIn a q = groupOf (portsOf a) q
-
--- on two ports or four, an area leaves out the reference signals of two ports or four
-abbrev pub SignalsIn : Area → Type 0
-SignalsIn a = 2 ≤ portsOf a → (2 ≤ a .signals) × (a .signals ≡ 3 → ⊥)
 
 -- what all runs of an area need
 pub record RunsIn (a : Area) (q : ℕ) (rows spans t bits st grid : List ℕ) : Type 0 where

@@ -8,7 +8,7 @@ use native.Mathlib.Nat.{mod-mod}
 use native.Mathlib.Decide.{decLe, ℕ-discrete}
 use native.Mathlib.Omega.{arith}
 use borrow.Author.Tests.{eq-eqb, ne-eqb}
-use lib.Bits.{bitOr, bitXor, or-add-and, xor-add-and, and-le-l, and-le-r, or-zero-l, xor-self}
+use lib.Bits.{bitOr, bitXor, or-add-and, xor-add-and, and-le-l, and-le-r, or-zero-l}
 use lib.Dec.{eqb}
 use lib.ListN.{length, getD, set, length-set}
 use lib.Pow.{field, mod-pow-add, mod-mod-pow}
@@ -16,7 +16,7 @@ use lib.Seq.{getD-set-same, getD-set-other}
 use Rattle.base.specs.declared.Element.{Element}
 use Rattle.base.specs.Bytes.{byteIn}
 use Rattle.grid.specs.Elements.{elementIn}
-use Rattle.element_pairs.specs.Numbers.{digit, elementFrom, upper, Put, OnePut, TwoPut, HalfRead, OneRead, TwoRead, PairCompared}
+use Rattle.element_pairs.specs.Numbers.{digit, elementFrom, upper, Put, OnePut, TwoPut, HalfRead, OneRead, TwoRead}
 
 -- ---- bytes
 pub put-one : (at v x : ℕ) (g : List ℕ) → at < length g → x ≡ digit v 0 → Put at 1 v g (set g at x)
@@ -259,16 +259,3 @@ module _ (e v : ℕ) {x : ℕ} {g : List ℕ} (p : OneRead (3 * e) g x) where
 
   pub same-none : v < 16777216 → elementIn g e ≡ elementFrom v → bitXor x v ≡ 0
   same-none l q = ap (λ (k : ℕ). bitXor k v) (same-one (p .few) l (sym (p .element e refl) ∙ q)) ∙ xor-self v
-
-pub pair-compared :
-    {gap at across v w x y : ℕ} {g : List ℕ} → TwoRead gap at g x → TwoRead gap (at + across) g y
-    → PairCompared gap at across v w g (bitOr (bitXor x v) (bitXor y w))
-pair-compared {v = v} {w} {x} {y} p q =
-    record {
-      x = x;
-      y = y;
-      own = p;
-      other = q;
-      zero = λ e. let z = or-none (bitXor x v) (bitXor y w) e in (xor-none x v (z .0), xor-none y w (z .1));
-      same = λ a b. none-or (bitXor x v) (bitXor y w) (ap (λ (k : ℕ). bitXor k v) a ∙ xor-self v) (ap (λ (k : ℕ). bitXor k w) b ∙ xor-self w);
-    }

@@ -59,12 +59,3 @@ pub record PairPut (gap at across v w : ℕ) (before after : List ℕ) : Type 0 
   pub middle : List ℕ
   pub own : TwoPut gap at v before middle
   pub other : TwoPut gap (at + across) w middle after
-
--- two elements on each of two ports, beside two numbers: r is 0 just when they are the same
-pub record PairCompared (gap at across v w : ℕ) (g : List ℕ) (r : ℕ) : Type 0 where
-  pub x : ℕ
-  pub y : ℕ
-  pub own : TwoRead gap at g x
-  pub other : TwoRead gap (at + across) g y
-  pub zero : r ≡ 0 → (x ≡ v) × (y ≡ w)
-  pub same : x ≡ v → y ≡ w → r ≡ 0

@@ -3,7 +3,7 @@
 ghost use mathlib.Core.Path.{_≡_};
 ghost use Prim.Native.Nat.{_+_, _<_};
 ghost use lib.ListN.{length};
-ghost use Rattle.element_pairs.specs.Numbers.{Put, OnePut, TwoPut, PairPut, HalfRead, OneRead, TwoRead, PairCompared};
+ghost use Rattle.element_pairs.specs.Numbers.{Put, OnePut, TwoPut, PairPut, HalfRead, OneRead, TwoRead};
 
 fn put_two(grid: &mut [u8], at: usize, v: u32)
     requires { ⌜ at + 1 < length (now grid) ⌝ }
@@ -112,21 +112,4 @@ pub fn apart_at(grid: &[u8], at: usize) -> u64
 {
     let a = three_at(grid, at);
     a + three_at(grid, at + 6) * 16777216
-}
-
-// The bits in which a pair of places differs from two numbers.
-pub fn differ(grid: &[u8], at: usize, across: usize, v: u64, w: u64) -> u64
-    requires { ⌜ at + across + 5 < length (now grid) ⌝ }
-    ensures { λ r. ⌜ PairCompared 1 at across v w (now (grid .entry)) r ⌝ }
-{
-    let x = six_at(grid, at) ^ v;
-    x | (six_at(grid, at + across) ^ w)
-}
-
-pub fn differ_apart(grid: &[u8], at: usize, across: usize, v: u64, w: u64) -> u64
-    requires { ⌜ at + across + 8 < length (now grid) ⌝ }
-    ensures { λ r. ⌜ PairCompared 2 at across v w (now (grid .entry)) r ⌝ }
-{
-    let x = apart_at(grid, at) ^ v;
-    x | (apart_at(grid, at + across) ^ w)
 }

@@ -1,23 +1,19 @@
--- THE LAWS OF PLACES ON ONE PORT: a stretch of a run's places between holes, and one place written or
--- compared as one number. Assumes nothing.
+-- THE LAWS OF PLACES ON ONE PORT: a stretch of a run's places between holes, and one place or two written as one number. Assumes nothing.
 use Prim.Native.Nat.{ℕ, _+_, _-_, _*_, _/_, _≤_, _<_}
-use mathlib.Core.Path.{_≡_, refl, sym, ap, ap₂, _∙_, subst}
+use mathlib.Core.Path.{_≡_, refl, sym, ap, ap₂, _∙_}
 use mathlib.Core.Bool.{Bool, true, false, _||_}
 use mathlib.Core.List.{List}
 use native.Mathlib.Nat.{add-mul, one-mul, zero-mul}
 use native.Mathlib.Omega.{arith}
 use lib.Dec.{eqb}
-use borrow.Author.Tests.{eqb-true, eq-eqb}
+use borrow.Author.Tests.{eqb-true}
 use Rattle.base.proofs.Rows.{at-div}
 use Rattle.base.specs.declared.Element.{Element}
 use Rattle.precoding.specs.Places.{ownPort, otherPort}
 use Rattle.base.specs.Counts.{cnt}
-use Rattle.grid.specs.Elements.{elementIn}
 use Rattle.grid.specs.Writing.{Written}
 use Rattle.grid.proofs.Writing.{same}
-use Rattle.compare.specs.Comparing.{Holds}
-use Rattle.element_pairs.specs.Numbers.{elementFrom, upper, OnePut, TwoPut, OneRead}
-use Rattle.element_pairs.proofs.Puts.{same-one}
+use Rattle.element_pairs.specs.Numbers.{elementFrom, upper, OnePut, TwoPut}
 use Rattle.walk.specs.declared.Run.{Run}
 use Rattle.walk.specs.Runs.{runCount, placeAt, Laid, SinglesAt}
 use Rattle.walk.specs.Parts.{sentPart}
@@ -97,17 +93,6 @@ module _ (own : ℕ → Bool) (T t j : ℕ) (l : t < T) (is : own t ≡ true) (a
   module _ (W : ℕ → Element) (v : ℕ) (w : W t ≡ elementFrom v) {a : ℕ} (ia : a ≡ 3 * t) where
     pub one-written : {g h : List ℕ} → OnePut a v g h → Written (sentPart own 1 T j 1) W g h
     one-written p = same (λ e. sym (one-part e)) (λ e d. sym w ∙ ap W (eqb-true t e d)) (p .written t ia)
-
-    -- the number that stands there is this one just when the element holds its value
-    pub one-same : {x : ℕ} {g : List ℕ} → OneRead a g x → x ≡ v → Holds (sentPart own 1 T j 1) W g
-    one-same {g = g} r ex =
-        record {
-          elements = λ e d.
-              subst (λ (y : ℕ). elementIn g y ≡ W y) (eqb-true t e (sym (one-part e) ∙ d)) (r .element t ia ∙ ap elementFrom ex ∙ sym w);
-        }
-
-    pub one-found : {x : ℕ} {g : List ℕ} → OneRead a g x → v < 16777216 → Holds (sentPart own 1 T j 1) W g → x ≡ v
-    one-found r lv h = same-one (r .few) lv (sym (r .element t ia) ∙ h .elements t (one-part t ∙ eq-eqb t t refl) ∙ w)
 
 -- ---- two places side by side, as one number
 module _ (own : ℕ → Bool) (T t j : ℕ) (l : t + 1 < T) (first : own t ≡ true) (second : own (t + 1) ≡ true) (at-j : cnt own t ≡ j) (at-next : cnt own (t + 1) ≡ j + 1) where
