@@ -52,14 +52,4 @@ returns-2 c =
 
 pub read-run-spec : {M : Type 1} → statement M
 read-run-spec =
-    tie.close
-    (tie.spec
-    holes-of-requires
-    mul-next
-    add-next
-    read-single-requires
-    same-length
-    returns
-    read-pairs-requires
-    same-length-2
-    returns-2)
+    tie.close (tie.spec holes-of-requires mul-next add-next read-single-requires same-length returns read-pairs-requires same-length-2 returns-2)

@@ -77,18 +77,5 @@ returns-2 c =
 
 pub read-pbch-spec : {M : Type 1} → statement M
 read-pbch-spec =
-    tie.close
-    (tie.spec
-    pbch-bits-requires
-    section-bytes-requires
-    pbch-area-requires
-    row-masks-requires
-    set-axis-requires
-    started-requires
-    sub-read-area
-    part-read-area-start
-    part-read-area-end
-    read-area-requires
-    same-length
-    returns
-    returns-2)
+    tie.close (tie.spec pbch-bits-requires section-bytes-requires pbch-area-requires row-masks-requires set-axis-requires started-requires
+    sub-read-area part-read-area-start part-read-area-end read-area-requires same-length returns returns-2)

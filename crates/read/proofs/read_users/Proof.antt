@@ -170,29 +170,6 @@ returns c =
 
 pub read-users-spec : {M : Type 1} → statement M
 read-users-spec =
-    tie.close
-    (tie.spec
-    Inv-loop
-    μ-loop
-    shape-of-requires
-    row-masks-requires
-    users-start-requires
-    loop-holds
-    user-at-requires
-    user-bits-requires
-    section-bytes-requires
-    add-end
-    user-area-requires
-    started-requires
-    axis-for-requires
-    cast-read-area
-    sub-read-area
-    part-read-area-start
-    part-read-area-end
-    read-area-requires
-    next-at-requires
-    add-i
-    loop-less
-    loop-again
-    same-length
-    returns)
+    tie.close (tie.spec Inv-loop μ-loop shape-of-requires row-masks-requires users-start-requires loop-holds user-at-requires user-bits-requires
+    section-bytes-requires add-end user-area-requires started-requires axis-for-requires cast-read-area sub-read-area part-read-area-start
+    part-read-area-end read-area-requires next-at-requires add-i loop-less loop-again same-length returns)
