@@ -1,6 +1,6 @@
 -- `data_read::read_run` meets its contract. Assumes nothing.
 use native.Mathlib.Omega.{arith}
-use mathlib.Core.Path.{ap, _∙_}
+use mathlib.Core.Path.{ap}
 use Prim.Native.Nat.{ℕ, _+_}
 use Rattle.data_read.proofs.Places.{run-total, one-port, one-read, run-in}
 use borrow.Author.Needs.{needs}

@@ -1,6 +1,5 @@
 -- `read::axis_for` meets its contract: the table is there, or is made. Assumes nothing.
 use native.Mathlib.Omega.{arith}
-use mathlib.Core.List.{List}
 use Prim.Native.Nat.{ℕ}
 use mathlib.Core.Path.{subst}
 use Rattle.constellation.specs.Axis.{Axis}

@@ -1,5 +1,4 @@
 -- `read::read_pbch` meets its contract: the first section is PBCH's. Assumes nothing.
-use native.Mathlib.Omega.{arith}
 use mathlib.Core.Path.{ap, _∙_}
 use Rattle.payload.specs.Sections.{sectionBytes}
 use Rattle.read.proofs.Turns.{pbch-begins, pbch-wide, pbch-absent, pbch-room, pbch-section-in, pbch-read}

@@ -1,5 +1,4 @@
 -- `section_bits::put48` meets its contract. Assumes nothing.
-use native.Mathlib.Omega.{arith}
 use Rattle.section_bits.proofs.Gatherings.{puts48}
 use borrow.Author.Needs.{needs}
 use Rattle.section_bits.proofs.put48.Statement.{statement}
