@@ -62,7 +62,8 @@ module _ (w : List ℕ) (p : Plan) (ok : checkOf w ≡ accepted p) where
 
   pub user-section :
       (i : ℕ) → i < length (usersOf w p) → (g : List ℕ)
-      → sectionOf (areaBit (userArea (p .cell) (p .frame) (nthUser w p i)) (nthUser w p i .order) g (pairAt (userInit (p .cell) (p .frame) (nthUser w p i)) 0)) (nthUser w p i .order * areaCount (userArea (p .cell) (p .frame) (nthUser w p i)))
+      → sectionOf (areaBit (userArea (p .cell) (p .frame) (nthUser w p i)) (nthUser w p i .order) g (pairAt (userInit (p .cell) (p .frame) (nthUser w p i)) 0))
+      (nthUser w p i .order * areaCount (userArea (p .cell) (p .frame) (nthUser w p i)))
       ≡ sectionOf (userBit w p g i (nthUser w p i)) (userBits w p i)
   unfolding nthUser userBits
   user-section i in-i g =

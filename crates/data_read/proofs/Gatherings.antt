@@ -1,17 +1,16 @@
 -- THE LAWS OF READING: symbols one after the other, from any elements. Assumes what reading needs.
-use Prim.Native.Nat.{ℕ, _+_, _-_, _*_, _/_, _%_, _^_, _≤_, _<_}
+use Prim.Native.Nat.{ℕ, _+_, _-_, _*_, _/_, _^_, _≤_, _<_}
 use mathlib.Core.Path.{_≡_, refl, sym, ap, _∙_, subst}
 use mathlib.Core.List.{List}
 use native.Mathlib.Nat.{mul-add, mul-comm, mul-zero, mul-le-mul-left}
 use native.Mathlib.Decide.{decLe}
 use native.Mathlib.Omega.{arith}
-use lib.ListN.{length, getD}
-use Rattle.gold.specs.declared.Registers.{Registers}
+use lib.ListN.{getD}
 use Rattle.gold.specs.Sequence.{binary}
 use Rattle.codeword.specs.Bits48.{Groups}
 use Rattle.codeword.proofs.Taking.{few-left}
-use Rattle.section_bits.specs.Gathering.{Bits, bitsIn, State, Gathered, GiveIn, Gives}
-use Rattle.data_read.specs.Runs.{Table, Stands, Reading, ReadOn}
+use Rattle.section_bits.specs.Gathering.{Bits, bitsIn, State, GiveIn, Gives}
+use Rattle.data_read.specs.Runs.{Stands, Reading, ReadOn}
 
 -- the bits of c symbols after those of a
 pub bits-on : (q a c b : ℕ) → a + c ≡ b → q * a + c * q ≡ q * b

@@ -1,8 +1,8 @@
 -- THE LAWS OF PLACES: pairs on two ports or four, places on one port with holes and without, and a run by its form. Assumes what a run needs.
 use Prim.Native.Nat.{ℕ, _+_, _-_, _*_, _/_, _%_, _^_, _≤_, _<_}
-use mathlib.Core.Path.{_≡_, refl, sym, ap, ap₂, _∙_, subst}
+use mathlib.Core.Path.{_≡_, refl, sym, ap, _∙_, subst}
 use mathlib.Core.List.{List}
-use native.Mathlib.Nat.{mul-add, mul-comm, mul-assoc, mul-zero, mul-one, zero-mul, mul-le-mul}
+use native.Mathlib.Nat.{mul-comm, mul-assoc, mul-zero, mul-one, zero-mul}
 use native.Mathlib.Decide.{decLe, ℕ-discrete}
 use native.Mathlib.Omega.{arith}
 use lib.ListN.{length}
@@ -16,14 +16,14 @@ use Rattle.walk.specs.declared.Holes.{Holes}
 use Rattle.walk.specs.declared.PortOffsets.{PortOffsets}
 use Rattle.walk.specs.declared.Run.{Run}
 use Rattle.walk.specs.Addresses.{OffsetsAt, PairsIn, RoundAt, RunIn}
-use Rattle.walk.specs.Forms.{Holed, Paired, PairForm, all-six, pairs-left, pairs-right, pairs-apart, HolesOf, Stretch}
+use Rattle.walk.specs.Forms.{Paired, PairForm, all-six, pairs-left, pairs-right, pairs-apart, HolesOf, Stretch}
 use Rattle.walk.specs.Runs.{runCount, placeAt}
 use Rattle.walk.proofs.Addresses.{own-inside, rounds-start, at-own, next-at, fits-at, fits-next, round-small, rounds-on}
-use Rattle.walk.proofs.Forms.{place-63, six-pairs, left-pairs, right-pairs, apart-pairs}
+use Rattle.walk.proofs.Forms.{place-63, left-pairs, right-pairs}
 use Rattle.walk.proofs.Runs.{within-at, six-count}
 use Rattle.walk.proofs.Singles.{stretch-at, stretch-on}
 use Rattle.areas.specs.Tables.{Smaller}
-use Rattle.data_read.specs.Runs.{Table, bothOf, Stands, Reading, ReadOn, pairElement, holedElement, runElement, BeforePairs, HolesIn, RunOpen}
+use Rattle.data_read.specs.Runs.{bothOf, Stands, Reading, ReadOn, pairElement, holedElement, runElement, BeforePairs, HolesIn, RunOpen}
 use Rattle.data_read.proofs.Words.{both-bits, four-bits}
 use Rattle.data_read.proofs.Gatherings.{give-in, read-none, read-same, read-later, read-give, read-join}
 

@@ -1,5 +1,5 @@
 -- THE AREA, run after run, from its tables to its places, and its section. Assumes what reading an area needs.
-use Prim.Native.Nat.{ℕ, suc, _+_, _-_, _*_, _/_, _%_, _^_, _≤_, _<_}
+use Prim.Native.Nat.{ℕ, _+_, _-_, _*_, _/_, _%_, _^_, _≤_, _<_}
 use mathlib.Core.Path.{_≡_, refl, sym, ap, ap₂, _∙_, subst}
 use mathlib.Core.Bool.{Bool, true, cond}
 use mathlib.Core.List.{List}
@@ -7,7 +7,7 @@ use native.Mathlib.Nat.{zero-add, mul-zero, mul-comm, mod-eq-of-lt}
 use native.Mathlib.Omega.{arith}
 use lib.Dec.{eqb}
 use lib.ListN.{length, getD}
-use Rattle.base.specs.Bytes.{byteOf, signedOf, pairOf}
+use Rattle.base.specs.Bytes.{pairOf}
 use Rattle.base.specs.Counts.{cnt}
 use Rattle.base.specs.Digits.{dig, dig-two}
 use Rattle.base.proofs.Bytes.{level-back}
@@ -17,7 +17,7 @@ use Rattle.base.proofs.Tables.{filled}
 use Rattle.gold.specs.declared.Registers.{Registers}
 use Rattle.gold.specs.Sequence.{binary}
 use Rattle.gold.proofs.Window.{spelled}
-use Rattle.modulation.specs.Demapping.{Demapped, Word, demapOf}
+use Rattle.modulation.specs.Demapping.{demapOf}
 use Rattle.modulation.specs.Marks.{markOf, isSymbol}
 use Rattle.modulation.proofs.Constellation.{known-each}
 use Rattle.modulation.proofs.Marks.{bits-told}
@@ -31,7 +31,6 @@ use Rattle.layout.specs.Rules.{slotLength}
 use Rattle.payload.specs.Sections.{sectionBytes}
 use Rattle.places.specs.Places.{placesOf}
 use Rattle.places.proofs.Numbers.{symbols-most}
-use Rattle.grid.specs.Elements.{elementIn}
 use Rattle.recovery.specs.Recovery.{wordOf, sectionOf}
 use Rattle.element_pairs.specs.Numbers.{elementFrom}
 use Rattle.constellation.specs.Axis.{wordOf as tableWord}
@@ -50,7 +49,7 @@ use Rattle.areas.specs.Tables.{AreaTables}
 use Rattle.areas.proofs.Tables.{tables-count}
 use Rattle.data_compare.specs.Symbols.{areaPlace, areaSymbol}
 use Rattle.data_read.specs.Reading.{areaBit, AreaReads}
-use Rattle.data_read.specs.Runs.{Stands, Reading, ReadOn, runElement, RunOpen}
+use Rattle.data_read.specs.Runs.{Stands, Reading, ReadOn, runElement, RunOpen, RunRead}
 use Rattle.data_read.specs.Areas.{symbolElement, sentBit, RunsIn, Going}
 use Rattle.data_read.proofs.Gatherings.{read-none, read-later, read-join}
 
@@ -115,10 +114,10 @@ module _ {a : Area} {q : ℕ} {rows spans d g st part : List ℕ} (h : RunsIn a 
 
         pub area-on :
             {c′ : Cursor} {j′ : ℕ} {st″ part″ : List ℕ} → c′ ≡ cursorNext rows c
-            → (j′ ≡ j + runCount run) × ReadOn q j (runCount run) (runElement P (2 * slot * (12 * blocks)) j run) d g st′ part′ st″ part″
+            → RunRead q P (2 * slot * (12 * blocks)) j run d g st′ part′ j′ st″ part″
             → Going a q rows spans d g st part c′ j′ st″ part″
         area-on {c′} {j′} {st″} {part″} ec x =
-            let x′ : (j′ ≡ j + runCount runIs) × ReadOn q j (runCount runIs) (runElement P T j runIs) d g st′ part′ st″ part″ = rw (er, es, eb) at x in
+            let x′ : RunRead q P T j runIs d g st′ part′ j′ st″ part″ = rw (er, es, eb) at x in
             rw (ec, x′ .0)
             (record {
               comes = goes-on (h .tables .sets) (k .comes) l;

@@ -82,3 +82,7 @@ pub record RunOpen (P T j : ℕ) (run : Run) (grid : List ℕ) : Type 0 where
   pub pairs : 2 ≤ P → PairForm (run .mask)
   pub short : run .halves ≤ 255
   pub index : j + runCount run ≤ 16800
+
+-- it is read, and the index after it
+abbrev pub RunRead : ℕ → ℕ → ℕ → ℕ → Run → List ℕ → List ℕ → List ℕ → List ℕ → ℕ → List ℕ → List ℕ → Type 0
+RunRead q P T j run d g st part x st′ part′ = (x ≡ j + runCount run) × ReadOn q j (runCount run) (runElement P T j run) d g st part st′ part′

@@ -20,7 +20,7 @@ ghost use Rattle.walk.specs.Forms.{HolesOf, Stretch};
 ghost use Rattle.walk.specs.Runs.{runCount};
 ghost use Rattle.areas.specs.Areas.{areaCount};
 ghost use Rattle.data_read.specs.Reading.{areaBit, AreaReads};
-ghost use Rattle.data_read.specs.Runs.{bothOf, Table, Reading, ReadOn, pairElement, runElement, BeforePairs, HolesIn, holedElement, RunOpen};
+ghost use Rattle.data_read.specs.Runs.{bothOf, Table, Reading, ReadOn, pairElement, runElement, BeforePairs, HolesIn, holedElement, RunOpen, RunRead};
 ghost use Rattle.data_read.specs.Areas.{symbolElement, RunsIn};
 
 // The bits of two symbols, whose elements are one number.
@@ -329,7 +329,7 @@ fn read_run(
     places: usize,
 ) -> usize
     requires { ⌜ RunOpen ports places j run (now grid) × Reading q j (runCount run) (now d) (now st) (now part) ⌝ }
-    ensures { λ x. ⌜ (x ≡ j + runCount run) × ReadOn q j (runCount run) (runElement ports places j run) (now (d .entry)) (now (grid .entry)) (now (st .entry)) (now (part .entry)) (now (st .exit)) (now (part .exit)) ⌝ }
+    ensures { λ x. ⌜ RunRead q ports places j run (now (d .entry)) (now (grid .entry)) (now (st .entry)) (now (part .entry)) x (now (st .exit)) (now (part .exit)) ⌝ }
 {
     let h = walk::holes_of(run.mask);
     let next = j + h.count * run.halves;

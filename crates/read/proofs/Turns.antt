@@ -224,7 +224,8 @@ module _ (w : List ℕ) (p : Plan) (g : List ℕ) {before : List ℕ} (start : R
                   read-more w p g (so .read) end ys (going-room .0) end-room
                   (ey
                   ∙ ap₂ (λ (b : Area) (x : Registers). sectionOf (areaBit b (u .order) g x) (u .order * areaCount b)) ea er
-                  ∙ ap (λ (v : User). sectionOf (areaBit (userArea (p .cell) (p .frame) v) (v .order) g (pairAt (userInit (p .cell) (p .frame) v) 0)) (v .order * areaCount (userArea (p .cell) (p .frame) v))) user-is
+                  ∙ ap (λ (v : User). sectionOf (areaBit (userArea (p .cell) (p .frame) v) (v .order) g (pairAt (userInit (p .cell) (p .frame) v) 0))
+                  (v .order * areaCount (userArea (p .cell) (p .frame) v))) user-is
                   ∙ user-section w p ok i in-i g
                   ∙ sym (user-part w p g i in-i from end (so .section) ends));
             }

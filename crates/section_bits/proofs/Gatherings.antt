@@ -1,12 +1,11 @@
 -- THE SECTION as its bits are given: the start, 48 bits put, n bits more, and the end. Assumes what giving needs.
 use Prim.Native.Nat.{ℕ, _+_, _-_, _*_, _/_, _%_, _^_, _≤_, _<_}
-use mathlib.Core.Path.{_≡_, refl, sym, ap, ap₂, _∙_, subst}
+use mathlib.Core.Path.{_≡_, refl, sym, ap, ap₂, _∙_}
 use mathlib.Core.List.{List, [], _∷_}
-use native.Mathlib.Nat.{zero-add, mod-eq-of-lt, mod-lt}
+use native.Mathlib.Nat.{zero-add, mod-eq-of-lt}
 use native.Mathlib.Omega.{arith}
 use lib.Bits.{bitXor}
 use lib.ListN.{length, getD, set, length-set}
-use lib.Pow.{pow-pos}
 use lib.Seq.{getD-set-same, getD-set-other}
 use Rattle.base.proofs.Tables.{set-more}
 use Rattle.gold.specs.declared.Registers.{Registers}
@@ -22,8 +21,8 @@ use Rattle.codeword.specs.Streams.{outputs}
 use Rattle.codeword.specs.Bits48.{wideIn}
 use Rattle.codeword.proofs.Laws.{outputs-lt, scrambled-lt, word-scrambled}
 use Rattle.codeword.proofs.Taking.{first-held, others-held}
-use Rattle.section_bits.specs.Gathering.{withFour, withTwo, Bytes, upTo, Bits, bitsIn, State, Gathered, Begun, Puts48, GiveIn, Gives, LastBytes, PutLast, Flushed}
-use Rattle.section_bits.proofs.Packing.{shifted-in, six-put, first-byte, next-shifted, cut-two, outside, whole-bytes, last-word, joined-lt}
+use Rattle.section_bits.specs.Gathering.{withFour, withTwo, upTo, Bits, bitsIn, State, Gathered, Begun, Puts48, GiveIn, Gives, LastBytes, PutLast, Flushed}
+use Rattle.section_bits.proofs.Packing.{shifted-in, six-put, first-byte, next-shifted, cut-two, outside, whole-bytes, last-word}
 
 -- ---- the start
 pub begun : (r : Registers) {w : Wide} → w ≡ wideOf r → Begun r (w .x1 ∷ w .x2 ∷ 0 ∷ 0 ∷ 0 ∷ 0 ∷ 0 ∷ 0 ∷ [])

@@ -80,15 +80,17 @@ module _ (b : ℕ → ℕ) (two : Bits b) where
     pub six-put : Bytes b at part → Bytes b (at + 6) (withTwo (x % 65536) (at + 4) (withFour (x / 65536 % 4294967296) at part))
     six-put s =
         let z : at + 0 ≡ at = add-zero at in
-        let v = x / 65536 % 4294967296 / 16777216 % 256 in
+        let v = x / 65536 % 4294967296 in
         let none : Part 0 part = record { size = refl; bytes = rw z s } in
-        let first : Part 1 (set part at v) = subst (λ (i : ℕ). Part 1 (set part i v)) z (more 0 40 {v = v} (omega arith) (omega arith) none) in
-        let second = more 1 32 {v = x / 65536 % 4294967296 / 65536 % 256} (omega arith) (omega arith) first in
-        let third = more 2 24 {v = x / 65536 % 4294967296 / 256 % 256} (omega arith) (omega arith) second in
-        let fourth = more 3 16 {v = x / 65536 % 4294967296 % 256} (omega arith) (omega arith) third in
+        let first : Part 1 (set part at (v / 65536 / 256 % 256)) =
+        subst (λ (i : ℕ). Part 1 (set part i (v / 65536 / 256 % 256))) z (more 0 40 {v = v / 65536 / 256 % 256} (omega arith) (omega arith) none) in
+        let second = more 1 32 {v = v / 65536 % 256} (omega arith) (omega arith) first in
+        let third = more 2 24 {v = v / 256 % 256} (omega arith) (omega arith) second in
+        let fourth = more 3 16 {v = v % 256} (omega arith) (omega arith) third in
         let fifth = more 4 8 {v = x % 65536 / 256 % 256} (omega arith) (omega arith) fourth in
-        let w : at + 4 + 1 ≡ at + 5 = omega arith in
-        rw w (more 5 0 {v = x % 65536 % 256} (omega arith) (omega arith) fifth .bytes)
+        let w : at + 2 + 1 ≡ at + 3 = omega arith in
+        let u : at + 4 + 1 ≡ at + 5 = omega arith in
+        rw (w, u) (more 5 0 {v = x % 65536 % 256} (omega arith) (omega arith) fifth .bytes)
 
   -- ---- the last bytes: eight bits fewer before, eight zeros after
   pub first-byte : (k v : ℕ) → v ≡ binary b k 48 → v / 1099511627776 % 256 ≡ binary b k 8

@@ -14,13 +14,12 @@ use Rattle.codeword.specs.Streams.{outputs}
 use Rattle.codeword.specs.Bits48.{wideIn}
 
 -- ---- bytes
--- four and two bytes of a number in a list
-abbrev pub withFour : ℕ → ℕ → List ℕ → List ℕ
-withFour v at part =
-    set (set (set (set part at (v / 16777216 % 256)) (at + 1) (v / 65536 % 256)) (at + 2) (v / 256 % 256)) (at + 3) (v % 256)
-
+-- two and four bytes of a number in a list
 abbrev pub withTwo : ℕ → ℕ → List ℕ → List ℕ
 withTwo v at part = set (set part at (v / 256 % 256)) (at + 1) (v % 256)
+
+abbrev pub withFour : ℕ → ℕ → List ℕ → List ℕ
+withFour v at part = withTwo v (at + 2) (withTwo (v / 65536) at part)
 
 -- the first n bytes of a list are the bits x
 abbrev pub Bytes : (ℕ → ℕ) → ℕ → List ℕ → Type 0

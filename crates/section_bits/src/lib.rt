@@ -8,22 +8,20 @@ ghost use lib.ListN.{length, getD};
 ghost use Rattle.section_bits.specs.Gathering.{withFour, withTwo, Puts48, Begun, GiveIn, Gives, PutLast, State, Flushed};
 
 // Bytes of a word, its highest first.
-fn put_four(part: &mut [u8], at: usize, v: u32)
-    requires { ⌜ at + 3 < length (now part) ⌝ }
-    ensures { λ _. ⌜ now (part .exit) ≡ withFour v at (now (part .entry)) ⌝ }
-{
-    part[at] = (v / 16777216 % 256) as u8;
-    part[at + 1] = (v / 65536 % 256) as u8;
-    part[at + 2] = (v / 256 % 256) as u8;
-    part[at + 3] = (v % 256) as u8;
-}
-
 fn put_two(part: &mut [u8], at: usize, v: u32)
     requires { ⌜ at + 1 < length (now part) ⌝ }
     ensures { λ _. ⌜ now (part .exit) ≡ withTwo v at (now (part .entry)) ⌝ }
 {
     part[at] = (v / 256 % 256) as u8;
     part[at + 1] = (v % 256) as u8;
+}
+
+fn put_four(part: &mut [u8], at: usize, v: u32)
+    requires { ⌜ at + 3 < length (now part) ⌝ }
+    ensures { λ _. ⌜ now (part .exit) ≡ withFour v at (now (part .entry)) ⌝ }
+{
+    put_two(part, at, v / 65536);
+    put_two(part, at + 2, v);
 }
 
 // The state of a section, for an array that is lent: the 64 values of x1 and of x2 where the next byte begins, that byte, and a word whose

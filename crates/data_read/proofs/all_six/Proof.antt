@@ -35,9 +35,10 @@ pair-requires : tie.Need-pair-requires
 pair-requires c κs =
     let a = c .before .before in
     let b = a .before .before .before in
-    let d = b .before .before .before .before .before in
-    (sixes-last (d .args .halves) (d .pre .0) refl (a .if1 .taken),
-    sixes-reading (d .args .halves) (d .args .ports) (d .args .places) (d .args .first) (b .sides .ensures) (a .if1 .taken) (d .pre .1))
+    let d = b .before .before .before .before .before in (
+      sixes-last (d .args .halves) (d .pre .0) refl (a .if1 .taken),
+      sixes-reading (d .args .halves) (d .args .ports) (d .args .places) (d .args .first) (b .sides .ensures) (a .if1 .taken) (d .pre .1),
+    )
 
 same-length : tie.Need-same-length
 same-length c = search needs
@@ -61,17 +62,4 @@ returns-2 c =
 
 pub all-six-spec : {M : Type 1} → statement M
 all-six-spec =
-    tie.close
-    (tie.spec
-    mul-n
-    sides-requires
-    mul-if1
-    mul-pair
-    add-pair
-    mul-pair-2
-    add-pair-2
-    pair-requires
-    same-length
-    returns
-    same-length-2
-    returns-2)
+    tie.close (tie.spec mul-n sides-requires mul-if1 mul-pair add-pair mul-pair-2 add-pair-2 pair-requires same-length returns same-length-2 returns-2)

@@ -53,9 +53,11 @@ loop-again c =
     let d = b .before .before in
     let e = d .before in
     let f = e .before in
-    let g = f .before .before .before in
-    (omega (arith, f .loop .inv .0), omega arith,
-    double-on (g .args .start) (g .args .n) (g .pre .2) (f .loop .inv .2) (f .loop .inv .0) (e .loop-test .taken) (d .six-at .ensures) (b .both .ensures .0) (a .give .ensures))
+    let g = f .before .before .before in (
+      omega (arith, f .loop .inv .0),
+      omega arith,
+      double-on (g .args .start) (g .args .n) (g .pre .2) (f .loop .inv .2) (f .loop .inv .0) (e .loop-test .taken) (d .six-at .ensures) (b .both .ensures .0) (a .give .ensures),
+    )
 
 same-length : tie.Need-same-length Inv-loop μ-loop
 same-length c = c .before .loop .inv .2 .size
@@ -65,19 +67,5 @@ returns c = all-read (omega (arith, c .before .loop .inv .1)) (omega (arith, c .
 
 pub doubles-spec : {M : Type 1} → statement M
 doubles-spec =
-    tie.close
-    (tie.spec
-    Inv-loop
-    μ-loop
-    mul-at
-    loop-holds
-    six-at-requires
-    mul-give
-    both-requires
-    give-requires
-    add-at
-    add-i
-    loop-less
-    loop-again
-    same-length
-    returns)
+    tie.close (tie.spec Inv-loop μ-loop mul-at loop-holds six-at-requires mul-give both-requires give-requires add-at add-i loop-less loop-again
+    same-length returns)

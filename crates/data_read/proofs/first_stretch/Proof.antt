@@ -15,4 +15,5 @@ returns-2 : tie.Need-returns-2
 returns-2 c = stretch-lead (c .before .args .first) (c .before .args .lead) (c .before .args .each) (omega (arith, c .if1 .left)) (c .before .pre .1)
 
 pub first-stretch-spec : {M : Type 1} → statement M
-first-stretch-spec = tie.close (tie.spec add-t5 returns returns-2)
+first-stretch-spec =
+    tie.close (tie.spec add-t5 returns returns-2)

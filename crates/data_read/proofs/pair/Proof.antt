@@ -45,14 +45,4 @@ returns c =
 
 pub pair-spec : {M : Type 1} → statement M
 pair-spec =
-    tie.close
-    (tie.spec
-    port-offsets-requires
-    add-six-at
-    mul-six-at
-    six-at-requires
-    mul-give
-    both-requires
-    give-requires
-    same-length
-    returns)
+    tie.close (tie.spec port-offsets-requires add-six-at mul-six-at six-at-requires mul-give both-requires give-requires same-length returns)

@@ -33,11 +33,4 @@ returns c =
 
 pub read-area-spec : {M : Type 1} → statement M
 read-area-spec =
-    tie.close
-    (tie.spec
-    set-tables-requires
-    begin-requires
-    read-runs-requires
-    flush-requires
-    same-length
-    returns)
+    tie.close (tie.spec set-tables-requires begin-requires read-runs-requires flush-requires same-length returns)

@@ -14,9 +14,10 @@ all-six-requires : tie.Need-all-six-requires
 all-six-requires c κs =
     let a = c .before .before in
     let b = a .before .before .before in
-    let p = six-pairs (a .if1 .taken) in
-    (run-in (b .pre .0) (p) (omega arith) (omega arith) (3 * b .args .run .halves) (b .args .run .first) (omega arith) (omega arith),
-    read-fewer (b .pre .1) (omega (arith, run-total (b .pre .0) (p) (omega arith) (omega arith) (3 * b .args .run .halves) (b .args .run .first) (omega arith) (omega arith))))
+    let p = six-pairs (a .if1 .taken) in (
+      run-in (b .pre .0) (p) (omega arith) (omega arith) (3 * b .args .run .halves) (b .args .run .first) (omega arith) (omega arith),
+      read-fewer (b .pre .1) (omega (arith, run-total (b .pre .0) (p) (omega arith) (omega arith) (3 * b .args .run .halves) (b .args .run .first) (omega arith) (omega arith))),
+    )
 
 same-length : tie.Need-same-length
 same-length c = search needs
@@ -34,9 +35,10 @@ aparts-requires : tie.Need-aparts-requires
 aparts-requires c κs =
     let a = c .before .before in
     let b = a .before .before .before .before in
-    let p = apart-pairs (a .if2 .taken) in
-    (run-in (b .pre .0) (p) (omega arith) (omega arith) (2 * b .args .run .halves) (b .args .run .first) (omega arith) (omega arith),
-    read-fewer (b .pre .1) (omega (arith, run-total (b .pre .0) (p) (omega arith) (omega arith) (2 * b .args .run .halves) (b .args .run .first) (omega arith) (omega arith))))
+    let p = apart-pairs (a .if2 .taken) in (
+      run-in (b .pre .0) (p) (omega arith) (omega arith) (2 * b .args .run .halves) (b .args .run .first) (omega arith) (omega arith),
+      read-fewer (b .pre .1) (omega (arith, run-total (b .pre .0) (p) (omega arith) (omega arith) (2 * b .args .run .halves) (b .args .run .first) (omega arith) (omega arith))),
+    )
 
 same-length-2 : tie.Need-same-length-2
 same-length-2 c = search needs
@@ -66,9 +68,10 @@ sides-requires c κs =
     let b = a .before in
     let d = b .before in
     let e = d .before .before .before in
-    let o = pairs-beside (e .pre .0 .form) (d .if1 .left) (b .if2 .left) (a .before-pairs .ensures) in
-    (run-in (e .pre .0) (o .0) (omega arith) (o .1) (2 * e .args .run .halves) (e .args .run .first + a .before-pairs .result) (omega arith) (omega arith),
-    read-fewer (e .pre .1) (omega (arith, run-total (e .pre .0) (o .0) (omega arith) (o .1) (2 * e .args .run .halves) (e .args .run .first + a .before-pairs .result) (omega arith) (omega arith))))
+    let o = pairs-beside (e .pre .0 .form) (d .if1 .left) (b .if2 .left) (a .before-pairs .ensures) in (
+      run-in (e .pre .0) (o .0) (omega arith) (o .1) (2 * e .args .run .halves) (e .args .run .first + a .before-pairs .result) (omega arith) (omega arith),
+      read-fewer (e .pre .1) (omega (arith, run-total (e .pre .0) (o .0) (omega arith) (o .1) (2 * e .args .run .halves) (e .args .run .first + a .before-pairs .result) (omega arith) (omega arith))),
+    )
 
 same-length-3 : tie.Need-same-length-3
 same-length-3 c = search needs
@@ -86,16 +89,5 @@ returns-3 c =
 
 pub read-pairs-spec : {M : Type 1} → statement M
 read-pairs-spec =
-    tie.close
-    (tie.spec
-    all-six-requires
-    same-length
-    returns
-    aparts-requires
-    same-length-2
-    returns-2
-    before-pairs-requires
-    add-start
-    sides-requires
-    same-length-3
-    returns-3)
+    tie.close (tie.spec all-six-requires same-length returns aparts-requires same-length-2 returns-2 before-pairs-requires add-start sides-requires
+    same-length-3 returns-3)

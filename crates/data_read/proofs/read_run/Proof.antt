@@ -1,6 +1,6 @@
 -- `data_read::read_run` meets its contract. Assumes nothing.
 use native.Mathlib.Omega.{arith}
-use mathlib.Core.Path.{ap, _∙_}
+use mathlib.Core.Path.{ap}
 use Prim.Native.Nat.{ℕ, _+_}
 use Rattle.data_read.proofs.Places.{run-total, one-port, one-read, run-in}
 use borrow.Author.Needs.{needs}
@@ -52,14 +52,4 @@ returns-2 c =
 
 pub read-run-spec : {M : Type 1} → statement M
 read-run-spec =
-    tie.close
-    (tie.spec
-    holes-of-requires
-    mul-next
-    add-next
-    read-single-requires
-    same-length
-    returns
-    read-pairs-requires
-    same-length-2
-    returns-2)
+    tie.close (tie.spec holes-of-requires mul-next add-next read-single-requires same-length returns read-pairs-requires same-length-2 returns-2)

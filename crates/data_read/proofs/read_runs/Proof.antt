@@ -91,21 +91,5 @@ returns c =
 
 pub read-runs-spec : {M : Type 1} → statement M
 read-runs-spec =
-    tie.close
-    (tie.spec
-    Inv-loop
-    μ-loop
-    slot-length-requires
-    mul-symbols
-    wide-requires
-    mul-carriers
-    mul-places
-    start-requires
-    loop-holds
-    run-at-requires
-    read-run-requires
-    next-requires
-    loop-less
-    loop-again
-    same-length
-    returns)
+    tie.close (tie.spec Inv-loop μ-loop slot-length-requires mul-symbols wide-requires mul-carriers mul-places start-requires loop-holds
+    run-at-requires read-run-requires next-requires loop-less loop-again same-length returns)

@@ -47,13 +47,4 @@ returns-2 c =
 
 pub read-single-spec : {M : Type 1} → statement M
 read-single-spec =
-    tie.close
-    (tie.spec
-    mul-doubles
-    doubles-requires
-    same-length
-    returns
-    mul-total
-    between-requires
-    same-length-2
-    returns-2)
+    tie.close (tie.spec mul-doubles doubles-requires same-length returns mul-total between-requires same-length-2 returns-2)

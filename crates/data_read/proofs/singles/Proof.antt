@@ -54,7 +54,8 @@ loop-again c =
     let e = d .before in
     let f = e .before in
     let g = f .before .before .before in
-    (omega (arith, f .loop .inv .0), omega arith, single-on (g .args .start) (g .pre .2) (f .loop .inv .2) (f .loop .inv .0) (e .loop-test .taken) (d .three-at .ensures) (b .symbol-of .ensures) (a .give .ensures))
+    let o = single-on (g .args .start) (g .pre .2) (f .loop .inv .2) (f .loop .inv .0) (e .loop-test .taken) (d .three-at .ensures) (b .symbol-of .ensures) (a .give .ensures) in
+    (omega (arith, f .loop .inv .0), omega arith, o)
 
 same-length : tie.Need-same-length Inv-loop μ-loop
 same-length c = c .before .loop .inv .2 .size
@@ -64,18 +65,5 @@ returns c = all-read (c .before .loop .inv .1) (c .loop-test .left) (c .before .
 
 pub singles-spec : {M : Type 1} → statement M
 singles-spec =
-    tie.close
-    (tie.spec
-    Inv-loop
-    μ-loop
-    mul-at
-    loop-holds
-    three-at-requires
-    symbol-of-requires
-    give-requires
-    add-at
-    add-i
-    loop-less
-    loop-again
-    same-length
-    returns)
+    tie.close (tie.spec Inv-loop μ-loop mul-at loop-holds three-at-requires symbol-of-requires give-requires add-at add-i loop-less loop-again
+    same-length returns)

@@ -1,6 +1,5 @@
 -- `read::axis_for` meets its contract: the table is there, or is made. Assumes nothing.
 use native.Mathlib.Omega.{arith}
-use mathlib.Core.List.{List}
 use Prim.Native.Nat.{ℕ}
 use mathlib.Core.Path.{subst}
 use Rattle.constellation.specs.Axis.{Axis}
@@ -18,4 +17,5 @@ returns-2 : tie.Need-returns-2
 returns-2 c = search needs
 
 pub axis-for-spec : {M : Type 1} → statement M
-axis-for-spec = tie.close (tie.spec returns set-axis-requires returns-2)
+axis-for-spec =
+    tie.close (tie.spec returns set-axis-requires returns-2)

@@ -1,5 +1,4 @@
 -- `read::read_pbch` meets its contract: the first section is PBCH's. Assumes nothing.
-use native.Mathlib.Omega.{arith}
 use mathlib.Core.Path.{ap, _∙_}
 use Rattle.payload.specs.Sections.{sectionBytes}
 use Rattle.read.proofs.Turns.{pbch-begins, pbch-wide, pbch-absent, pbch-room, pbch-section-in, pbch-read}
@@ -77,18 +76,5 @@ returns-2 c =
 
 pub read-pbch-spec : {M : Type 1} → statement M
 read-pbch-spec =
-    tie.close
-    (tie.spec
-    pbch-bits-requires
-    section-bytes-requires
-    pbch-area-requires
-    row-masks-requires
-    set-axis-requires
-    started-requires
-    sub-read-area
-    part-read-area-start
-    part-read-area-end
-    read-area-requires
-    same-length
-    returns
-    returns-2)
+    tie.close (tie.spec pbch-bits-requires section-bytes-requires pbch-area-requires row-masks-requires set-axis-requires started-requires
+    sub-read-area part-read-area-start part-read-area-end read-area-requires same-length returns returns-2)

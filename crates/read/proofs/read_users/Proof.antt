@@ -126,7 +126,8 @@ read-area-requires c κs =
     let j = i .before .before in
     let k = j .before .before .before .before in
     let bits = d .section-bytes .ensures ∙ ap sectionBytes (bits-are (k .args .p .cell) (k .args .p .frame) (f .user-at .result) _ _ (j .shape-of .ensures) (e .user-bits .ensures)) in
-    going-in (k .args .plan .now) (k .args .p) (k .args .grid .now) (k .pre .0) (h .loop .inv .0) (g .if1 .taken) _ (f .user-at .ensures) _ (ap (λ (k : ℕ). h .loop .start + k) bits) _ (b .user-area .ensures) (a .axis-for .ensures) (i .row-masks .ensures)
+    going-in (k .args .plan .now) (k .args .p) (k .args .grid .now) (k .pre .0) (h .loop .inv .0) (g .if1 .taken) _ (f .user-at .ensures) _ (ap (λ (k : ℕ). h .loop .start + k) bits) _
+    (b .user-area .ensures) (a .axis-for .ensures) (i .row-masks .ensures)
 
 next-at-requires : tie.Need-next-at-requires Inv-loop μ-loop
 next-at-requires c κs = tt
@@ -170,29 +171,6 @@ returns c =
 
 pub read-users-spec : {M : Type 1} → statement M
 read-users-spec =
-    tie.close
-    (tie.spec
-    Inv-loop
-    μ-loop
-    shape-of-requires
-    row-masks-requires
-    users-start-requires
-    loop-holds
-    user-at-requires
-    user-bits-requires
-    section-bytes-requires
-    add-end
-    user-area-requires
-    started-requires
-    axis-for-requires
-    cast-read-area
-    sub-read-area
-    part-read-area-start
-    part-read-area-end
-    read-area-requires
-    next-at-requires
-    add-i
-    loop-less
-    loop-again
-    same-length
-    returns)
+    tie.close (tie.spec Inv-loop μ-loop shape-of-requires row-masks-requires users-start-requires loop-holds user-at-requires user-bits-requires
+    section-bytes-requires add-end user-area-requires started-requires axis-for-requires cast-read-area sub-read-area part-read-area-start
+    part-read-area-end read-area-requires next-at-requires add-i loop-less loop-again same-length returns)

@@ -1,63 +1,30 @@
 -- `section_bits::put_four` meets its contract. Assumes nothing.
-use native.Mathlib.Omega.{arith}
-use lib.ListN.{length-set}
+use mathlib.Core.Path.{ap, _∙_}
+use Prim.Native.Nat.{_+_}
+use Rattle.section_bits.specs.Gathering.{withTwo}
 use borrow.Author.Needs.{needs}
 use Rattle.section_bits.proofs.put_four.Statement.{statement}
 use Rattle.section_bits.proofs.put_four.Tie as tie
 
-cast-part : tie.Need-cast-part
-cast-part c = search needs
+put-two-requires : tie.Need-put-two-requires
+put-two-requires c κs = search needs
 
-slice-write-part : tie.Need-slice-write-part
-slice-write-part c = search needs
+add-put-two : tie.Need-add-put-two
+add-put-two c = search needs
 
-cast-part-2 : tie.Need-cast-part-2
-cast-part-2 c = search needs
-
-add-part : tie.Need-add-part
-add-part c = search needs
-
-slice-write-part-2 : tie.Need-slice-write-part-2
-slice-write-part-2 c = simp length-set (omega arith)
-
-cast-part-3 : tie.Need-cast-part-3
-cast-part-3 c = search needs
-
-add-part-2 : tie.Need-add-part-2
-add-part-2 c = search needs
-
-slice-write-part-3 : tie.Need-slice-write-part-3
-slice-write-part-3 c = simp length-set (omega arith)
-
-cast-part-4 : tie.Need-cast-part-4
-cast-part-4 c = search needs
-
-add-part-3 : tie.Need-add-part-3
-add-part-3 c = search needs
-
-slice-write-part-4 : tie.Need-slice-write-part-4
-slice-write-part-4 c = search needs
+put-two-requires-2 : tie.Need-put-two-requires-2
+put-two-requires-2 c κs = search needs
 
 same-length : tie.Need-same-length
 same-length c = search needs
 
 returns : tie.Need-returns
-returns c = search needs
+returns c =
+    let a = c .before .before in
+    let b = a .before .before .before .before in
+    let d = b .before .before .before in
+    a .put-two2 .ensures ∙ ap (withTwo (d .args .v) (d .args .at + 2)) (b .put-two .ensures)
 
 pub put-four-spec : {M : Type 1} → statement M
 put-four-spec =
-    tie.close
-    (tie.spec
-    cast-part
-    slice-write-part
-    cast-part-2
-    add-part
-    slice-write-part-2
-    cast-part-3
-    add-part-2
-    slice-write-part-3
-    cast-part-4
-    add-part-3
-    slice-write-part-4
-    same-length
-    returns)
+    tie.close (tie.spec put-two-requires add-put-two put-two-requires-2 same-length returns)
