@@ -9,7 +9,9 @@ carriers-requires : tie.Need-carriers-requires
 carriers-requires c κs = search needs
 
 mul-t4 : tie.Need-mul-t4
-mul-t4 c = let b = c .before in omega (arith, row-base (b .args .a) (b .args .s) (b .pre .1) (b .pre .2) (c .carriers .result) (c .carriers .ensures) (omega arith))
+mul-t4 c =
+    let b = c .before in
+    omega (arith, row-base (b .args .a) (b .args .s) (b .pre .1) (b .pre .2) (c .carriers .result) (c .carriers .ensures) (omega arith))
 
 places-requires : tie.Need-places-requires
 places-requires c κs = search needs
@@ -23,7 +25,8 @@ leaves-row-requires c κs = let b = c .before .before .before in row-number (b .
 returns : tie.Need-returns
 returns c =
     let b = c .before .before .before .before in
-    row-made (b .args .a) (b .args .s) _ _ _ _ (b .pre .0) (b .pre .1) (c .before .before .before .carriers .ensures) (c .before .before .places .ensures) (c .before .row-mask .ensures) (c .leaves-row .ensures)
+    row-made (b .args .a) (b .args .s) _ _ _ _ (b .pre .0) (b .pre .1)
+    (c .before .before .before .carriers .ensures) (c .before .before .places .ensures) (c .before .row-mask .ensures) (c .leaves-row .ensures)
 
 pub row-of-spec : {M : Type 1} → statement M
 row-of-spec =
