@@ -15,7 +15,7 @@ use Rattle.base.specs.Choice.{one}
 use Rattle.layout.specs.Rules.{inSyncArea, crsSymbol, slotLength, marked, middle, inPbchArea}
 use Rattle.counts.specs.Users.{taken as takenRow}
 use Rattle.places.specs.Halves.{without, takenHalf}
-use Rattle.layout.proofs.Pilot.{firstOf, hits, first-pair, second-pair, no-pair}
+use Rattle.layout.proofs.Pilot.{crsFirst, hits, first-pair, second-pair, no-pair}
 use Rattle.walk.specs.Forms.{PairForm, all-six, pairs-left, pairs-right, pairs-apart, SingleForm, paired, hole-0, hole-1, hole-2, hole-3, hole-4, hole-5}
 use Rattle.areas.specs.declared.Area.{Area}
 use Rattle.areas.specs.Masks.{bitIf, maskBut, Masks, centreOut, leavesRow}
@@ -116,13 +116,13 @@ module _ (c : Cell) (P s : ℕ) where
         pairs = λ m n. form-pairs v x P h (ports m n);
       }
 
-  pub mask-first : crsSymbol c 0 s ≡ true → Masks c P s (maskBut (firstOf c 0 s) (ltb 0 P) (ltb 1 P))
+  pub mask-first : crsSymbol c 0 s ≡ true → Masks c P s (maskBut (crsFirst c 0 s) (ltb 0 P) (ltb 1 P))
   unfolding without
-  mask-first e = but-mask (firstOf c 0 s) 0 (omega arith) (λ m n q. omega arith) (λ r. ap not (first-pair c s P r e))
+  mask-first e = but-mask (crsFirst c 0 s) 0 (omega arith) (λ m n q. omega arith) (λ r. ap not (first-pair c s P r e))
 
-  pub mask-second : crsSymbol c 2 s ≡ true → Masks c P s (maskBut (firstOf c 2 s) (ltb 2 P) (ltb 3 P))
+  pub mask-second : crsSymbol c 2 s ≡ true → Masks c P s (maskBut (crsFirst c 2 s) (ltb 2 P) (ltb 3 P))
   unfolding without
-  mask-second e = but-mask (firstOf c 2 s) 2 (omega arith) (λ m n. n) (λ r. ap not (second-pair c s P r e))
+  mask-second e = but-mask (crsFirst c 2 s) 2 (omega arith) (λ m n. n) (λ r. ap not (second-pair c s P r e))
 
   pub mask-none : crsSymbol c 0 s ≡ false → crsSymbol c 2 s ≡ false → Masks c P s 63
   unfolding without

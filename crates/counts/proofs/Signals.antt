@@ -10,7 +10,7 @@ use Rattle.base.proofs.Computed.{allBelow, below-at}
 use Rattle.base.specs.Choice.{one}
 use Rattle.plan.specs.declared.Cell.{Cell}
 use Rattle.layout.specs.Rules.{crsSymbol, crsBelow}
-use Rattle.layout.proofs.Pilot.{firstOf, hits, not-both, first-pair, second-pair, no-pair}
+use Rattle.layout.proofs.Pilot.{crsFirst, hits, not-both, first-pair, second-pair, no-pair}
 use Rattle.counts.specs.Sums.{sumTo}
 use Rattle.counts.specs.Users.{signals}
 use Rattle.counts.proofs.Logic.{everyWay, by-table}
@@ -43,7 +43,7 @@ pub refs : (c : Cell) (P s : ℕ) → Refs c P s
 refs c P s =
     by-test (crsSymbol c 0 s)
     (λ e. record {
-      x = firstOf c 0 s;
+      x = crsFirst c 0 s;
       u = ltb 0 P;
       v = ltb 1 P;
       small = omega arith;
@@ -52,7 +52,7 @@ refs c P s =
     })
     (λ e. by-test (crsSymbol c 2 s)
     (λ d. record {
-      x = firstOf c 2 s;
+      x = crsFirst c 2 s;
       u = ltb 2 P;
       v = ltb 3 P;
       small = omega arith;

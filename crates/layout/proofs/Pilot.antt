@@ -50,8 +50,8 @@ belowP P h (suc (suc (suc (suc q)))) =
     simp (z .0, z .1, z .2, z .3, and-false, or-false, le-ltb (suc (suc (suc (suc q)))) P (omega arith))
 
 -- the first subcarrier of port p in symbol s; and of six subcarriers x, if u, and the one three further, if v
-abbrev pub firstOf : Cell → ℕ → ℕ → ℕ
-firstOf c p s = (crsShift c p s + c .identity) % 6
+abbrev pub crsFirst : Cell → ℕ → ℕ → ℕ
+crsFirst c p s = (crsShift c p s + c .identity) % 6
 
 abbrev pub hits : Bool → Bool → ℕ → ℕ → Bool
 hits u v x r = u && eqb r x || v && eqb r ((x + 3) % 6)
@@ -69,21 +69,21 @@ module _ (c : Cell) (s : ℕ) where
       (λ e. rw e (and-false (eqb l 0 || eqb (l + 3) L)))
 
   -- and stand three apart
-  three-on : firstOf c 1 s ≡ (firstOf c 0 s + 3) % 6
+  three-on : crsFirst c 1 s ≡ (crsFirst c 0 s + 3) % 6
   unfolding crsShift
   three-on = by-test (eqb (inSlot c s) 0) (λ e. rw e (omega arith)) (λ e. rw e (omega arith))
 
-  three-on-2 : firstOf c 3 s ≡ (firstOf c 2 s + 3) % 6
+  three-on-2 : crsFirst c 3 s ≡ (crsFirst c 2 s + 3) % 6
   unfolding crsShift
   three-on-2 = omega arith
 
   module _ (P k : ℕ) where
     -- the reference signals of the ports below P in each symbol
-    pub first-pair : crsSymbol c 0 s ≡ true → crsBelow c P s k ≡ hits (ltb 0 P) (ltb 1 P) (firstOf c 0 s) (k % 6)
+    pub first-pair : crsSymbol c 0 s ≡ true → crsBelow c P s k ≡ hits (ltb 0 P) (ltb 1 P) (crsFirst c 0 s) (k % 6)
     unfolding crsBelow crsOf crsSymbol standsAt
     first-pair e = rw (e, rw e at not-both, three-on) (simp (and-false, or-false))
 
-    pub second-pair : crsSymbol c 2 s ≡ true → crsBelow c P s k ≡ hits (ltb 2 P) (ltb 3 P) (firstOf c 2 s) (k % 6)
+    pub second-pair : crsSymbol c 2 s ≡ true → crsBelow c P s k ≡ hits (ltb 2 P) (ltb 3 P) (crsFirst c 2 s) (k % 6)
     unfolding crsBelow crsOf crsSymbol standsAt
     second-pair e = rw (e, rw (e, and-true) at not-both, three-on-2) (simp and-false)
 
@@ -92,11 +92,11 @@ module _ (c : Cell) (s : ℕ) where
     no-pair e d = rw (e, d) (simp and-false)
 
 module _ (c : Cell) (s k : ℕ) where
-  apart : (p q : ℕ) → firstOf c q s ≡ (firstOf c p s + 3) % 6 → standsAt c (crsShift c p s) k && standsAt c (crsShift c q s) k ≡ false
+  apart : (p q : ℕ) → crsFirst c q s ≡ (crsFirst c p s + 3) % 6 → standsAt c (crsShift c p s) k && standsAt c (crsShift c q s) k ≡ false
   unfolding standsAt
   apart p q h =
-      by-test (eqb (k % 6) (firstOf c p s))
-      (λ e. let z : k % 6 ≡ firstOf c p s = eqb-true _ _ e in rw e (ne-eqb (k % 6) (firstOf c q s) (λ d. omega arith)))
+      by-test (eqb (k % 6) (crsFirst c p s))
+      (λ e. let z : k % 6 ≡ crsFirst c p s = eqb-true _ _ e in rw e (ne-eqb (k % 6) (crsFirst c q s) (λ d. omega arith)))
       (λ e. rw e refl)
 
   abbrev at : ℕ → Bool

@@ -26,10 +26,14 @@ mul-result c =
     let q = c .before .before .wide .result in
     let rows = c .before .symbols .result in
     let a = c .before .before .before .args in
-    omega (arith, row-most (q * rows + a .s) (c .carriers .result) (rows-most q rows (a .s) (omega arith) (omega arith) (c .before .before .before .pre)) (omega arith))
+    let h = rows-most q rows (a .s) (omega arith) (omega arith) (c .before .before .before .pre) in
+    omega (arith, row-most (q * rows + a .s) (c .carriers .result) h (omega arith))
 
 returns : tie.Need-returns
-returns c = row-is (c .before .before .before .args .cell) (c .before .before .before .args .s) (c .before .before .before .args .port) (c .before .before .wide .ensures) (c .before .symbols .ensures .0) (c .carriers .ensures)
+returns c =
+    let c2 = c .before .before in
+    let c3 = c .before .before .before in
+    row-is (c3 .args .cell) (c3 .args .s) (c3 .args .port) (c2 .wide .ensures) (c .before .symbols .ensures .0) (c .carriers .ensures)
 
 pub row-at-spec : {M : Type 1} → statement M
 row-at-spec =
