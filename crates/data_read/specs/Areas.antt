@@ -11,10 +11,9 @@ use Rattle.recovery.specs.Recovery.{wordOf}
 use Rattle.walk.specs.declared.Cursor.{Cursor}
 use Rattle.walk.specs.Tables.{AtIndex}
 use Rattle.areas.specs.declared.Area.{Area}
-use Rattle.areas.specs.Areas.{areaCount, AreaIn}
+use Rattle.areas.specs.Areas.{areaCount, AreaIn, SignalsIn}
 use Rattle.areas.specs.Tables.{AreaTables}
 use Rattle.data_compare.specs.Symbols.{areaPlace, areaSymbol}
-use Rattle.data_read.specs.Reading.{SignalsIn}
 use Rattle.data_read.specs.Runs.{Reading, ReadOn}
 
 -- the element of symbol j, on the port that sends the symbol itself

@@ -12,7 +12,7 @@ use Rattle.codeword.specs.Streams.{outputs}
 use Rattle.recovery.specs.Recovery.{wordOf}
 use Rattle.areas.specs.declared.Area.{Area}
 use Rattle.constellation.specs.Axis.{Axis}
-use Rattle.areas.specs.Areas.{areaCount, AreaIn}
+use Rattle.areas.specs.Areas.{areaCount, AreaIn, SignalsIn}
 use Rattle.areas.specs.Tables.{RowMasks}
 use Rattle.data_compare.specs.Symbols.{areaSymbol}
 
@@ -25,10 +25,6 @@ pub record SectionIn (a : Area) (q : ℕ) (g : List ℕ) : Type 0 where
   pub area : AreaIn a q 0 g
   pub known : (j : ℕ) → j < areaCount a → isSymbol q (areaSymbol a g j) ≡ true
   pub pairs : (a .cell .ports ≡ 1 → ⊥) → areaCount a % 2 ≡ 0
-
--- on two ports or four, an area leaves out the reference signals of two ports or four
-abbrev pub SignalsIn : Area → Type 0
-SignalsIn a = 2 ≤ a .cell .ports → (2 ≤ a .signals) × (a .signals ≡ 3 → ⊥)
 
 -- and with tables that callers make: of the order's levels, and of the rows' masks
 pub record AreaReads (a : Area) (q : ℕ) (d masks g : List ℕ) : Type 0 where

@@ -16,7 +16,7 @@ ghost use lib.ListN.{length};
 ghost use Rattle.payload.specs.Sections.{sectionBytes};
 ghost use Rattle.recovery.specs.Recovery.{sectionOf};
 ghost use Rattle.walk.specs.Addresses.{PairsIn, RunIn};
-ghost use Rattle.walk.specs.Forms.{HolesOf, Stretch};
+ghost use Rattle.walk.specs.Forms.{HolesOf};
 ghost use Rattle.walk.specs.Runs.{runCount};
 ghost use Rattle.areas.specs.Areas.{areaCount};
 ghost use Rattle.data_read.specs.Reading.{areaBit, AreaReads};
@@ -239,29 +239,6 @@ fn doubles(
     }
 }
 
-// The places before the first hole: where they begin, and how many they are.
-struct FirstStretch {
-    at: usize,
-    left: usize,
-}
-
-// If the first place is a hole, those from it to the next one.
-fn first_stretch(first: usize, lead: usize, each: usize) -> FirstStretch
-    requires { ⌜ (first ≤ 16800) × (lead ≤ each) × (0 < each) ⌝ }
-    ensures { λ r. ⌜ Stretch first lead each 0 (r .at) (r .left) ⌝ }
-{
-    if lead == 0 {
-        return FirstStretch {
-            at: first + 1,
-            left: each,
-        };
-    }
-    FirstStretch {
-        at: first,
-        left: lead,
-    }
-}
-
 // The places of a run with holes on one port, stretch after stretch between them: `lead` places before the first hole, then `each`.
 fn between(
     st: &mut [u64; 8],
@@ -278,7 +255,7 @@ fn between(
     requires { ⌜ HolesIn j first lead each total (now grid) × Reading q j total (now d) (now st) (now part) ⌝ }
     ensures { λ _. ⌜ ReadOn q j total (holedElement first lead each) (now (d .entry)) (now (grid .entry)) (now (st .entry)) (now (part .entry)) (now (st .exit)) (now (part .exit)) ⌝ }
 {
-    let s = first_stretch(first, lead, each);
+    let s = walk::first_stretch(first, lead, each);
     let mut at = s.at;
     let mut left = s.left;
     let mut k: usize = 0;
