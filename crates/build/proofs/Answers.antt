@@ -88,7 +88,8 @@ module _ (w payload grid : List ℕ) where
         pub way-spare : b ≡ false → Answered (Refused SpareBit) grid
         unfolding builtOf gridAfter
         way-spare h =
-            answered (Refused SpareBit) (rw ok (sym (spare-refused w p payload refusedAs grid right _ size (sym eb ∙ h)))) (rw ok (sym (spare-refused w p payload (λ (r : Refusal). grid) grid right _ size (sym eb ∙ h))))
+            answered (Refused SpareBit) (rw ok (sym (spare-refused w p payload refusedAs grid right _ size (sym eb ∙ h))))
+            (rw ok (sym (spare-refused w p payload (λ (r : Refusal). grid) grid right _ size (sym eb ∙ h))))
 
         accepted-is : b ≡ true → AcceptedPayload w p payload
         accepted-is h = accepted-payload w p payload size (sym eb ∙ h)
@@ -99,4 +100,5 @@ module _ (w payload grid : List ℕ) where
         pub way-built : b ≡ true → (n : ℕ) → n ≡ pdschElements w p → (g : List ℕ) → g ≡ gridOf w p payload → Answered (Elements n) g
         unfolding builtOf gridAfter
         way-built h n en g eg =
-            answered (Elements n) (ap given en ∙ rw ok (sym (buffers-right w p payload refusedAs grid right _ (accepted-is h)))) (eg ∙ rw ok (sym (buffers-right w p payload (λ (r : Refusal). grid) grid right _ (accepted-is h))))
+            answered (Elements n) (ap given en ∙ rw ok (sym (buffers-right w p payload refusedAs grid right _ (accepted-is h))))
+            (eg ∙ rw ok (sym (buffers-right w p payload (λ (r : Refusal). grid) grid right _ (accepted-is h))))

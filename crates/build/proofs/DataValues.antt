@@ -63,7 +63,8 @@ module _ (w : List ℕ) (p : Plan) (ok : checkOf w ≡ accepted p) (payload bits
           let t = e % T in
           let o = and-true (ownsAt w p Pbch t) (sends (p .cell .ports) (indexOf w p Pbch t / 2 % 2) (e / T)) (sym (pbch-area e) ∙ h) in
           ap (λ (j : ℕ). placed (p .cell .ports) (j / 2 % 2) 2 (symbolsOf 2 bits (pairAt (p .cell .identity) (pbchFirst (p .cell) (p .frame)))) j (e / T)) (pbch-index w p ok zero-th t)
-          ∙ placed-is (pbch-occurs w p ok) 2 (symbolsOf 2 bits (pairAt (p .cell .identity) (pbchFirst (p .cell) (p .frame)))) (pbchSymbol w p payload) pbch-symbols (indexOf w p Pbch t) (e / T) (index-lt w p ok Pbch e (o .0)) (sends-port room (indexOf w p Pbch t / 2 % 2) (e / T) (o .1))
+          ∙ placed-is (pbch-occurs w p ok) 2 (symbolsOf 2 bits (pairAt (p .cell .identity) (pbchFirst (p .cell) (p .frame)))) (pbchSymbol w p payload) pbch-symbols
+          (indexOf w p Pbch t) (e / T) (index-lt w p ok Pbch e (o .0)) (sends-port room (indexOf w p Pbch t / 2 % 2) (e / T) (o .1))
           ∙ ap (λ (x : ℕ). precoded (p .cell .ports) (countOf w p Pbch) 2 (pbchSymbol w p payload) (indexOf w p Pbch x) (e / T)) (sym (place-number w p ok e))
           ∙ sym (numbered w p ok payload Pbch e (o .0))
 
@@ -95,6 +96,7 @@ module _ (w : List ℕ) (p : Plan) (ok : checkOf w ≡ accepted p) (payload bits
           let t = e % T in
           let o = and-true (ownsAt w p (UserOf i) t) (sends (p .cell .ports) (indexOf w p (UserOf i) t / 2 % 2) (e / T)) (sym (user-area e) ∙ h) in
           ap (λ (j : ℕ). placed (p .cell .ports) (j / 2 % 2) (unitOf (u .order)) (symbolsOf (u .order) bits (pairAt (userInit (p .cell) (p .frame) u) 0)) j (e / T)) (index-is t (place-lt w p ok e))
-          ∙ placed-is (user-occurs w p ok i in-i) (unitOf (u .order)) (symbolsOf (u .order) bits (pairAt (userInit (p .cell) (p .frame) u) 0)) (userSymbol w p payload i) user-symbols (indexOf w p (UserOf i) t) (e / T) (index-lt w p ok (UserOf i) e (o .0)) (sends-port room (indexOf w p (UserOf i) t / 2 % 2) (e / T) (o .1))
+          ∙ placed-is (user-occurs w p ok i in-i) (unitOf (u .order)) (symbolsOf (u .order) bits (pairAt (userInit (p .cell) (p .frame) u) 0)) (userSymbol w p payload i)
+          user-symbols (indexOf w p (UserOf i) t) (e / T) (index-lt w p ok (UserOf i) e (o .0)) (sends-port room (indexOf w p (UserOf i) t / 2 % 2) (e / T) (o .1))
           ∙ ap (λ (x : ℕ). precoded (p .cell .ports) (countOf w p (UserOf i)) (unitOf (u .order)) (userSymbol w p payload i) (indexOf w p (UserOf i) x) (e / T)) (sym (place-number w p ok e))
           ∙ sym (numbered w p ok payload (UserOf i) e (o .0))

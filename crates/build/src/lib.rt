@@ -147,7 +147,10 @@ fn fill_users(
     grid: &mut [u8],
 )
     requires { ⌜ Ready (now plan) p (now payload) (now grid) × Spare (now t) (now masks) ⌝ }
-    ensures { λ _. ⌜ Written (usersSend (now (plan .entry)) p (length (usersOf (now (plan .entry)) p))) (elementNumbered (now (plan .entry)) p (now (payload .entry))) (now (grid .entry)) (now (grid .exit)) ⌝ }
+    ensures { λ _. ⌜
+        Written (usersSend (now (plan .entry)) p (length (usersOf (now (plan .entry)) p))) (elementNumbered (now (plan .entry)) p (now (payload .entry))) (now (grid .entry))
+        (now (grid .exit))
+        ⌝ }
 {
     let shape = counts::shape_of(p.cell, p.frame);
     areas::row_masks(p.cell, p.frame, p.cell.ports, true, masks);
@@ -186,7 +189,10 @@ pub fn fill(plan: &[u8], p: Plan, payload: &[u8], grid: &mut [u8])
 
 // BUILD: the grid of a plan and a payload. It goes on only if the plan check answers with a plan.
 pub fn build(plan: &[u8], payload: &[u8], grid: &mut [u8]) -> Built
-    ensures { λ r. ⌜ (builtAnswer r ≡ builtOf (now (plan .entry)) (now (payload .entry)) (now (grid .entry))) × (now (grid .exit) ≡ gridAfter (now (plan .entry)) (now (payload .entry)) (now (grid .entry))) ⌝ }
+    ensures { λ r. ⌜
+        (builtAnswer r ≡ builtOf (now (plan .entry)) (now (payload .entry)) (now (grid .entry)))
+        × (now (grid .exit) ≡ gridAfter (now (plan .entry)) (now (payload .entry)) (now (grid .entry)))
+        ⌝ }
 {
     let checked = plan::check(plan);
     let Checked::Plan(p) = checked else {

@@ -210,7 +210,9 @@ module _ (c : Cell) (m : ℕ) (sums : List Pair) (g₀ : List ℕ) (ok : UnitIn 
   module _ {n : ℕ} {g : List ℕ} (t : UnitFilled c m sums (2 * n) g₀ g) (in-n : n < 3) {k : ℕ} (q : k ≡ unitGroup c m n) where
     -- what `put_pair` requires for the first half of quad n
     pub first-in : PairIn c k 0 (getD sums (4 * n) nil) (getD sums (4 * n + 1) nil) g
-    first-in = half-in {sums = sums} (record { cell = ok .cell; unit = ok .unit; room = room-kept (ok .room) (t .done); small = ok .small }) {n = n} {i = 0} in-n (omega arith) q (omega arith) (omega arith)
+    first-in =
+        half-in {sums = sums} (record { cell = ok .cell; unit = ok .unit; room = room-kept (ok .room) (t .done); small = ok .small }) {n = n} {i = 0} in-n (omega arith) q
+        (omega arith) (omega arith)
 
     module _ {g₁ : List ℕ} (one : PairWritten (c .ports) (placesOf c) ((n + m) % 2) (quadPlace c 0 k 0) (quadPlace c 0 k 1) (getD sums (4 * n) nil) (getD sums (4 * n + 1) nil) g g₁) where
       half-done : UnitFilled c m sums (2 * n + 1) g₀ g₁
@@ -218,7 +220,9 @@ module _ (c : Cell) (m : ℕ) (sums : List Pair) (g₀ : List ℕ) (ok : UnitIn 
 
       -- and for the second
       pub second-in : PairIn c k 1 (getD sums (4 * n + 2) nil) (getD sums (4 * n + 3) nil) g₁
-      second-in = half-in {sums = sums} (record { cell = ok .cell; unit = ok .unit; room = room-kept (ok .room) (half-done .done); small = ok .small }) {n = n} {i = 1} in-n (omega arith) q (omega arith) (omega arith)
+      second-in =
+          half-in {sums = sums} (record { cell = ok .cell; unit = ok .unit; room = room-kept (ok .room) (half-done .done); small = ok .small }) {n = n} {i = 1} in-n (omega arith) q
+          (omega arith) (omega arith)
 
       -- the quad is written
       pub quad-next :

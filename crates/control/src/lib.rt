@@ -177,7 +177,10 @@ pub fn read_his(
     part: &mut [u8],
 ) -> Registers
     requires { ⌜ ReadIn cell his (now plan) (now grid) (now part) ⌝ }
-    ensures { λ s. ⌜ (now (part .exit) ≡ sectionOf (ackFrom cell r (hisFrom (drop (his .at) (now (plan .entry))) (his .count)) (now (grid .entry))) (his .count)) × (s ≡ after r (3 * spreadLength cell)) ⌝ }
+    ensures { λ s. ⌜
+        (now (part .exit) ≡ sectionOf (ackFrom cell r (hisFrom (drop (his .at) (now (plan .entry))) (his .count)) (now (grid .entry))) (his .count))
+        × (s ≡ after r (3 * spreadLength cell))
+        ⌝ }
 {
     let w = gold::word(r, 12);
     let l = spread_length(cell);

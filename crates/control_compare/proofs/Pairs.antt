@@ -117,8 +117,12 @@ module _ (P T : ℕ) {m : ℕ} {own : ℕ → Bool} {at index : ℕ → ℕ} (tu
             let i : 2 * n + 1 ≡ beside (2 * n) = omega arith in
             let j : 2 * n ≡ beside (2 * n + 1) = omega arith in
             either (sentAt P T τ b e) (sentAt P T τ a e)
-            (λ h. sym (value-second P T τ a b apart x y e h) ∙ ap (λ (v : ℕ). onPort P v 2 1 y x (e / T)) (sym (z .turn-two)) ∙ value-at P T turn d some L (2 * n + 1) in-n 1 y x o (z .second) (z .first ∙ ap d j) e (second e h))
-            (λ h. sym (value-first P T τ a b apart x y e h) ∙ ap (λ (v : ℕ). onPort P v 2 0 x y (e / T)) (sym (z .turn-one)) ∙ value-at P T turn d some L (2 * n) (omega arith) 0 x y l (z .first) (z .second ∙ ap d i) e (first e h))
+            (λ h. sym (value-second P T τ a b apart x y e h) ∙ ap (λ (v : ℕ). onPort P v 2 1 y x (e / T)) (sym (z .turn-two)) ∙ value-at P T turn d some L (2 * n + 1) in-n 1 y x o
+            (z .second) (z .first ∙ ap d j) e (second e h))
+            (λ h. sym (value-first P T τ a b apart x y e h) ∙ ap (λ (v : ℕ). onPort P v 2 0 x y (e / T)) (sym (z .turn-one)) ∙ value-at P T turn d some L (2 * n) (omega arith) 0 x
+            y l (z .first) (z .second ∙ ap d i) e (first e h))
 
-        is : (e : ℕ) → (sentAt P T (turn (2 * n + 1)) (at (2 * n + 1)) e || sentAt P T (turn (2 * n)) (at (2 * n)) e) || upTo P T own index turn (2 * n) e ≡ (sentAt P T τ b e || sentAt P T τ a e) || upTo P T own index turn (2 * n) e
+        is :
+            (e : ℕ) → (sentAt P T (turn (2 * n + 1)) (at (2 * n + 1)) e || sentAt P T (turn (2 * n)) (at (2 * n)) e) || upTo P T own index turn (2 * n) e
+            ≡ (sentAt P T τ b e || sentAt P T τ a e) || upTo P T own index turn (2 * n) e
         is e = rw (z .turn-one, z .turn-two, z .one, z .two) refl

@@ -76,7 +76,8 @@ module _ (c : Cell) (cfi : ℕ) (r : Registers) (g : List ℕ) (ok : PcfichIn c 
     pub format-next :
         {s′ : Registers} {k : ℕ} {d e : Pair} {x y : Seen} (w : ℕ) → w ≡ binary (scrambled (cfiBit cfi) (outputs r)) (4 * n) 4
         → k ≡ formatGroup c (n / 2) → d ≡ symbolFor 2 (w / 4) → e ≡ symbolFor 2 (w % 4)
-        → Compared (pairSends (c .ports) (placesOf c) (n % 2) (quadPlace c 0 k (2 * (n % 2))) (quadPlace c 0 k (2 * (n % 2) + 1))) (pairSent (c .ports) (placesOf c) (n % 2) (quadPlace c 0 k (2 * (n % 2))) d e) g x
+        → Compared (pairSends (c .ports) (placesOf c) (n % 2) (quadPlace c 0 k (2 * (n % 2))) (quadPlace c 0 k (2 * (n % 2) + 1)))
+        (pairSent (c .ports) (placesOf c) (n % 2) (quadPlace c 0 k (2 * (n % 2))) d e) g x
         → y ≡ bothOf seen x → s′ ≡ after s 4 → FormatSeen c cfi r s′ (n + 1) g y
     format-next w h q f k p b z =
         format-step c cfi r t in-n z
@@ -107,7 +108,8 @@ module _ (c : Cell) (m : ℕ) (sums : List Pair) (g : List ℕ) (ok : UnitIn c m
   -- pair p of the places, half i of quad n, is compared
   half-next :
       {p n i k x y : ℕ} {seen r s : Seen} → UnitSeen c m sums p g seen → p ≡ 2 * n + i → i < 2 → n < 3 → k ≡ unitGroup c m n → x ≡ 4 * n + 2 * i → y ≡ 4 * n + 2 * i + 1
-      → Compared (pairSends (c .ports) (placesOf c) ((n + m) % 2) (quadPlace c 0 k (2 * i)) (quadPlace c 0 k (2 * i + 1))) (pairSent (c .ports) (placesOf c) ((n + m) % 2) (quadPlace c 0 k (2 * i)) (getD sums x nil) (getD sums y nil)) g r
+      → Compared (pairSends (c .ports) (placesOf c) ((n + m) % 2) (quadPlace c 0 k (2 * i)) (quadPlace c 0 k (2 * i + 1)))
+      (pairSent (c .ports) (placesOf c) ((n + m) % 2) (quadPlace c 0 k (2 * i)) (getD sums x nil) (getD sums y nil)) g r
       → s ≡ bothOf seen r → UnitSeen c m sums (p + 1) g s
   half-next {p = p} {n = n} {i = i} t ep in-i in-n q ex ey w b =
       record {
@@ -128,14 +130,17 @@ module _ (c : Cell) (m : ℕ) (sums : List Pair) (g : List ℕ) (ok : UnitIn c m
     second-in = half-in {sums = sums} ok {n = n} {i = 1} in-n (omega arith) q (omega arith) (omega arith)
 
     module _ {r s : Seen}
-        (one : Compared (pairSends (c .ports) (placesOf c) ((n + m) % 2) (quadPlace c 0 k 0) (quadPlace c 0 k 1)) (pairSent (c .ports) (placesOf c) ((n + m) % 2) (quadPlace c 0 k 0) (getD sums (4 * n) nil) (getD sums (4 * n + 1) nil)) g r)
+        (one :
+        Compared (pairSends (c .ports) (placesOf c) ((n + m) % 2) (quadPlace c 0 k 0) (quadPlace c 0 k 1))
+        (pairSent (c .ports) (placesOf c) ((n + m) % 2) (quadPlace c 0 k 0) (getD sums (4 * n) nil) (getD sums (4 * n + 1) nil)) g r)
         (es : s ≡ bothOf seen r) where
       pub half-done : UnitSeen c m sums (2 * n + 1) g s
       half-done = half-next {p = 2 * n} {n = n} {i = 0} t (omega arith) (omega arith) in-n q (omega arith) (omega arith) one es
 
       pub quad-next :
           {x y : Seen}
-          → Compared (pairSends (c .ports) (placesOf c) ((n + m) % 2) (quadPlace c 0 k 2) (quadPlace c 0 k 3)) (pairSent (c .ports) (placesOf c) ((n + m) % 2) (quadPlace c 0 k 2) (getD sums (4 * n + 2) nil) (getD sums (4 * n + 3) nil)) g x
+          → Compared (pairSends (c .ports) (placesOf c) ((n + m) % 2) (quadPlace c 0 k 2) (quadPlace c 0 k 3))
+          (pairSent (c .ports) (placesOf c) ((n + m) % 2) (quadPlace c 0 k 2) (getD sums (4 * n + 2) nil) (getD sums (4 * n + 3) nil)) g x
           → y ≡ bothOf s x → UnitSeen c m sums (2 * (n + 1)) g y
       quad-next two ey =
           let e : 2 * n + 1 + 1 ≡ 2 * (n + 1) = omega arith in

@@ -70,7 +70,9 @@ module _ (c : Cell) (f : Frame) (w : List ℕ) (at : ℕ) where
   unfolding allElements sumOf
   next-user n r to u eu er et = rw (row-next userOf w at n, er, eu, et) refl
 
-  pub user-turn : (total n m r to : ℕ) (u : User) → 0 < m → u ≡ userOf (drop at w) → r ≡ userElements c f (u .first) (u .count) → to ≡ nextOf w at → n + Left at m ≡ total → n + r + Left to (m - 1) ≡ total
+  pub user-turn :
+      (total n m r to : ℕ) (u : User) → 0 < m → u ≡ userOf (drop at w) → r ≡ userElements c f (u .first) (u .count) → to ≡ nextOf w at → n + Left at m ≡ total → n + r + Left to
+      (m - 1) ≡ total
   user-turn total n zero r to u l eu er et e = absurd (not-suc-le-zero l)
   user-turn total n (suc m) r to u l eu er et e = rw sub-one (add-assoc n r (Left to m) ∙ ap (λ (x : ℕ). n + x) (sym (next-user m r to u eu er et)) ∙ e)
 

@@ -32,11 +32,13 @@ use Rattle.counted.specs.Gridcount.{acceptedWith, countedOf, gridcountOf}
 use Rattle.known.specs.Example.{example, examplePlan, broadcast, broadcastPlan, zeros, exampleCounts, exampleLines, Example}
 
 example-plan : checkOf example ≡ accepted examplePlan
-unfolding oneOf noneOf cellOf frameOf hiOf userOf entries entryIn sizeOf commandOf commandsAfter cellOk frameOk unitsOf groupsOf sequencesOf hiOk samePair userOk clash begin hiFault userFault fault stateAfter planOf run checkOf
+unfolding oneOf noneOf cellOf frameOf hiOf userOf entries entryIn sizeOf commandOf commandsAfter cellOk frameOk unitsOf groupsOf sequencesOf hiOk samePair userOk clash
+    begin hiFault userFault fault stateAfter planOf run checkOf
 example-plan = refl
 
 broadcast-plan : checkOf broadcast ≡ accepted broadcastPlan
-unfolding oneOf noneOf cellOf frameOf hiOf userOf entries entryIn sizeOf commandOf commandsAfter cellOk frameOk unitsOf groupsOf sequencesOf hiOk samePair userOk clash begin hiFault userFault fault stateAfter planOf run checkOf
+unfolding oneOf noneOf cellOf frameOf hiOf userOf entries entryIn sizeOf commandOf commandsAfter cellOk frameOk unitsOf groupsOf sequencesOf hiOk samePair userOk clash
+    begin hiFault userFault fault stateAfter planOf run checkOf
 broadcast-plan = refl
 
 -- ---- the counts

@@ -9,7 +9,29 @@ use lib.Dec.{leb, ltb, eqb}
 use borrow.Author.Tests.{eq-eqb, ne-eqb, lt-ltb, le-ltb, le-leb, eqb-true, eqb-false, ltb-true, ltb-false, leb-true, not-true}
 use Rattle.base.proofs.Tests.{clash, both, or-cases, or-left, or-right, is-not, on-if}
 use Rattle.base.specs.Choice.{if_then_else_}
-use Rattle.layout.specs.Rules.{slotLength, inSlot, crsSymbol, crsShift, standsAt, crsOf, crs, crsOfFour, crsAny, marked, middle, centre, used, pss, sss, inSyncArea, heldBySync, inPbchArea, pbch, heldByPbch, held}
+use Rattle.layout.specs.Rules.{
+  slotLength,
+  inSlot,
+  crsSymbol,
+  crsShift,
+  standsAt,
+  crsOf,
+  crs,
+  crsOfFour,
+  crsAny,
+  marked,
+  middle,
+  centre,
+  used,
+  pss,
+  sss,
+  inSyncArea,
+  heldBySync,
+  inPbchArea,
+  pbch,
+  heldByPbch,
+  held,
+}
 use Rattle.layout.specs.Rules.{inGroup, groupOf, isFormat, pcfich, isLeft, unitHas, phich}
 use Rattle.layout.specs.Owners.{fixedRule}
 use Rattle.layout.specs.Chain.{pilotOf, pilot, number, takes, groupAt, controlAt, fixedAt, isIdle}

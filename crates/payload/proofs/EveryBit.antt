@@ -198,7 +198,9 @@ module _ (w : List ℕ) (p : Plan) (plan : checkOf w ≡ accepted p) where
       pick false e = absurd (omega (arith, total b, never-beyond b (ltb-false b (8 * payloadLength w p) e), owned b o h .0, owned b o h .1))
 
   -- two accepted payloads that agree in every owner's bits agree in every bit
-  pub same-bits : (x y : List ℕ) → AcceptedPayload w p x → AcceptedPayload w p y → ((o : Owner) → Every (λ (b : ℕ). bitAt x b ≡ bitAt y b) (ownerBits w p o)) → (b : ℕ) → b < 8 * payloadLength w p → bitAt x b ≡ bitAt y b
+  pub same-bits :
+      (x y : List ℕ) → AcceptedPayload w p x → AcceptedPayload w p y → ((o : Owner) → Every (λ (b : ℕ). bitAt x b ≡ bitAt y b) (ownerBits w p o)) → (b : ℕ) → b < 8 * payloadLength
+      w p → bitAt x b ≡ bitAt y b
   same-bits x y ax ay h b l = pick (spare-or-owned b l)
     where
       pick : Spare b ⊎ Someone b → bitAt x b ≡ bitAt y b

@@ -140,7 +140,9 @@ module _ {w : List ℕ} {c : Cell} {f : Frame} {start count : ℕ} {s : List ℕ
       pub clearing-set : (t : Bool) → t ≡ noneSet s (spareAt byte n) → t ≡ false → false ≡ noneSet s (sparesFrom first (computedSections c f (usersFrom (drop start w) count)))
       clearing-set t et q = sym (split (nextOf w at) refl ∙ rw (← et, q) refl) ∙ g .same
 
-      pub clearing-next : (t : Bool) → t ≡ noneSet s (spareAt byte n) → t ≡ true → (k : ℕ) → k ≡ sectionBytes n → (to : ℕ) → to ≡ nextOf w at → Clearing w c f start count s first (byte + k) to (left - 1)
+      pub clearing-next :
+          (t : Bool) → t ≡ noneSet s (spareAt byte n) → t ≡ true → (k : ℕ) → k ≡ sectionBytes n → (to : ℕ) → to ≡ nextOf w at → Clearing w c f start count s first (byte + k) to
+          (left - 1)
       clearing-next t et q k ek to qt =
           let rest = usersFrom (drop to w) (left - 1) in
           let z : All ≡ u ∷ rest = next-user w at left u h e to qt in
@@ -155,7 +157,8 @@ two-clear s a b =
     let e : 0 + sectionBytes a ≡ sectionBytes a = omega arith in
     spares-clear s 0 a (b ∷ [])
     ∙ ap (λ (t : Bool). noneSet s (spareAt 0 a) && t)
-    (spares-clear s (0 + sectionBytes a) b [] ∙ ap₂ (λ (x y : Bool). x && y) (ap (λ (k : ℕ). noneSet s (spareAt k b)) e) (spares-none s (0 + sectionBytes a + sectionBytes b)) ∙ and-true (noneSet s (spareAt (sectionBytes a) b)))
+    (spares-clear s (0 + sectionBytes a) b [] ∙ ap₂ (λ (x y : Bool). x && y) (ap (λ (k : ℕ). noneSet s (spareAt k b)) e) (spares-none s (0 + sectionBytes a + sectionBytes b))
+    ∙ and-true (noneSet s (spareAt (sectionBytes a) b)))
   where
     and-true : (t : Bool) → t && true ≡ t
     and-true true = refl

@@ -13,5 +13,6 @@ abbrev planWith : ℕ → ℕ → List ℕ
 planWith lower first = 0x10 ∷ 1 ∷ lower ∷ 15 ∷ 0 ∷ 1 ∷ 1 ∷ 0x11 ∷ 0 ∷ 0 ∷ 1 ∷ 1 ∷ 0x30 ∷ 0 ∷ 1 ∷ 2 ∷ first ∷ 10 ∷ 0x00 ∷ []
 
 pub limits : (verdictOf (checkOf (planWith 247 5)) ≡ 0) × (verdictOf (checkOf (planWith 248 5)) ≡ 3) × (verdictOf (checkOf (planWith 247 6)) ≡ 6)
-unfolding oneOf noneOf cellOf frameOf hiOf userOf entries entryIn sizeOf commandOf commandsAfter cellOk frameOk unitsOf groupsOf sequencesOf hiOk samePair userOk clash begin hiFault userFault fault stateAfter planOf run checkOf
+unfolding oneOf noneOf cellOf frameOf hiOf userOf entries entryIn sizeOf commandOf commandsAfter cellOk frameOk unitsOf groupsOf sequencesOf hiOk samePair userOk clash
+    begin hiFault userFault fault stateAfter planOf run checkOf
 limits = (refl, refl, refl)

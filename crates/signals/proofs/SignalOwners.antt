@@ -119,12 +119,14 @@ module _ (w : List ℕ) (p : Plan) where
         both (both (eq-eqb _ _ d) (and-right m b (and-left (m && b) u o))) (and-right (m && b) u o)
 
     pub pss-sends : marked (p .frame) ≡ true
-        → (markSends (p .cell) 1 e ≡ true) ↔ ((owns w p (Sync Primary) (symbolAt (p .cell) (e % placesOf (p .cell))) (carrierAt (p .cell) (e % placesOf (p .cell))) ≡ true) × (e / placesOf (p .cell) ≡ 0))
+        → (markSends (p .cell) 1 e ≡ true) ↔ ((owns w p (Sync Primary) (symbolAt (p .cell) (e % placesOf (p .cell))) (carrierAt (p .cell) (e % placesOf (p .cell))) ≡ true)
+        × (e / placesOf (p .cell) ≡ 0))
     unfolding owns fixedRule pss
     pss-sends m = (λ h. let d = mark-parts 1 h in (both (both m (d .1)) (d .2), d .0), λ h. mark-whole 1 (h .0) (h .1))
 
     pub sss-sends : marked (p .frame) ≡ true
-        → (markSends (p .cell) 2 e ≡ true) ↔ ((owns w p (Sync Secondary) (symbolAt (p .cell) (e % placesOf (p .cell))) (carrierAt (p .cell) (e % placesOf (p .cell))) ≡ true) × (e / placesOf (p .cell) ≡ 0))
+        → (markSends (p .cell) 2 e ≡ true) ↔ ((owns w p (Sync Secondary) (symbolAt (p .cell) (e % placesOf (p .cell))) (carrierAt (p .cell) (e % placesOf (p .cell))) ≡ true)
+        × (e / placesOf (p .cell) ≡ 0))
     unfolding owns fixedRule sss
     sss-sends m = (λ h. let d = mark-parts 2 h in (both (both m (d .1)) (d .2), d .0), λ h. mark-whole 2 (h .0) (h .1))
 

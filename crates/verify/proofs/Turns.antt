@@ -163,7 +163,9 @@ module _ (w : List ℕ) (p : Plan) {g : List ℕ} (given : Given w p g) where
   rows-more m et so-far c =
       turn-more (λ (s e : ℕ). crsPorts p s (p .cell .ports) e) m so-far (λ i e k. rows-apart w p ok (given .room) i m e k) c (λ e. refl) (λ e k. refl) et
 
-  pub rows-end : (m n : ℕ) {r : Seen} → m ≤ symbols (p .cell) → n ≤ m → n ≡ symbols (p .cell) → Compared (crsRows p m) (elementDue w p g) g r → Compared (crsRows p (symbols (p .cell))) (elementDue w p g) g r
+  pub rows-end :
+      (m n : ℕ) {r : Seen} → m ≤ symbols (p .cell) → n ≤ m → n ≡ symbols (p .cell) → Compared (crsRows p m) (elementDue w p g) g r → Compared (crsRows p (symbols (p .cell)))
+      (elementDue w p g) g r
   rows-end m n {r} a b c h = let e : m ≡ symbols (p .cell) = omega arith in subst (λ (x : ℕ). Compared (crsRows p x) (elementDue w p g) g r) e h
 
   -- ---- synchronisation
@@ -259,7 +261,9 @@ module _ (w : List ℕ) (p : Plan) {g : List ℕ} (given : Given w p g) where
   units-more m et so-far c =
       turn-more (λ (i e : ℕ). ownerSends w p (Phich i) e) m so-far (λ i e k. units-apart w p ok (given .room) i m e k) c (λ e. refl) (λ e k. refl) et
 
-  pub units-end : (m n : ℕ) {r : Seen} → m ≤ unitsOf (p .cell) → n ≤ m → n ≡ unitsOf (p .cell) → Compared (unitsSend w p m) (elementDue w p g) g r → Compared (unitsSend w p (unitsOf (p .cell))) (elementDue w p g) g r
+  pub units-end :
+      (m n : ℕ) {r : Seen} → m ≤ unitsOf (p .cell) → n ≤ m → n ≡ unitsOf (p .cell) → Compared (unitsSend w p m) (elementDue w p g) g r → Compared
+      (unitsSend w p (unitsOf (p .cell))) (elementDue w p g) g r
   units-end m n {r} a b c h = let e : m ≡ unitsOf (p .cell) = omega arith in subst (λ (x : ℕ). Compared (unitsSend w p x) (elementDue w p g) g r) e h
 
   -- ---- a user
@@ -274,7 +278,9 @@ module _ (w : List ℕ) (p : Plan) {g : List ℕ} (given : Given w p g) where
     ready-at m i l e =
         let d : User = record { rnti = 0; order = 0; first = 0; count = 0 } in
         record {
-          area = subst (λ (v : User). AreaIn (userArea (p .cell) (p .frame) v) (u .order) (unitOf (u .order)) g) (sym e) (user-in w p ok (u .order) (unitOf (u .order)) g (order-ok i l e) (omega (arith, unit-small (u .order))) (given .room) i l d);
+          area =
+              subst (λ (v : User). AreaIn (userArea (p .cell) (p .frame) v) (u .order) (unitOf (u .order)) g) (sym e)
+              (user-in w p ok (u .order) (unitOf (u .order)) g (order-ok i l e) (omega (arith, unit-small (u .order))) (given .room) i l d);
           some = unit-some (u .order) (order-ok i l e);
           pairs = λ n. ap (λ (v : User). areaCount (userArea (p .cell) (p .frame) v) % 2) e ∙ user-even w p g given i l n;
           signals = λ many. (many, given .room .not-three);

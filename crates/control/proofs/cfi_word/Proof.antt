@@ -45,7 +45,10 @@ add-result-3 : tie.Need-add-result-3
 add-result-3 c = search needs
 
 returns : tie.Need-returns
-returns c = bits-word (cfiBit (c .before .before .before .before .args .cfi)) (c .before .before .before .before .args .i) _ _ _ _ (c .before .before .before .cfi-bit .ensures .0) (c .before .before .cfi-bit2 .ensures .0) (c .before .cfi-bit3 .ensures .0) (c .cfi-bit4 .ensures .0)
+returns c =
+    let at-cfi-bit2 = c .before .before in let at-cfi-bit = at-cfi-bit2 .before in let entry = at-cfi-bit .before in
+    bits-word (cfiBit (entry .args .cfi)) (entry .args .i) _ _ _ _ (at-cfi-bit .cfi-bit .ensures .0) (at-cfi-bit2 .cfi-bit2 .ensures .0) (c .before .cfi-bit3 .ensures .0)
+    (c .cfi-bit4 .ensures .0)
 
 pub cfi-word-spec : {M : Type 1} → statement M
 cfi-word-spec =

@@ -36,7 +36,9 @@ symbol-requires-2 : tie.Need-symbol-requires-2 Inv-loop μ-loop
 symbol-requires-2 c κs = (refl, omega arith, omega arith)
 
 format-group-requires : tie.Need-format-group-requires Inv-loop μ-loop
-format-group-requires c κs = (six (c .before .before .before .before .before .before .before .args .cell) (c .before .before .before .before .before .before .before .pre .cell), omega (arith, c .before .before .before .before .loop-test .taken))
+format-group-requires c κs =
+    let at-loop-test = c .before .before .before .before in let entry = at-loop-test .before .before .before in
+    (six (entry .args .cell) (entry .pre .cell), omega (arith, at-loop-test .loop-test .taken))
 
 cast-put-pair : tie.Need-cast-put-pair Inv-loop μ-loop
 cast-put-pair c = omega arith
@@ -44,7 +46,9 @@ cast-put-pair c = omega arith
 put-pair-requires : tie.Need-put-pair-requires Inv-loop μ-loop
 put-pair-requires c κs =
     let s = c .before .before .before .before .before .before .before .before .before in
-    format-pair (s .args .cell) (s .args .cfi) (s .args .r) (s .args .grid .now) (s .pre) (c .before .before .before .before .before .before .before .loop .inv) (c .before .before .before .before .before .before .loop-test .taken) (bitXor (c .before .before .before .before .before .cfi-word .result) (c .before .before .before .before .word .result)) (c .before .format-group .ensures) (c .before .before .before .symbol .ensures) (c .before .before .symbol2 .ensures)
+    format-pair (s .args .cell) (s .args .cfi) (s .args .r) (s .args .grid .now) (s .pre) (c .before .before .before .before .before .before .before .loop .inv)
+    (c .before .before .before .before .before .before .loop-test .taken) (bitXor (c .before .before .before .before .before .cfi-word .result)
+    (c .before .before .before .before .word .result)) (c .before .format-group .ensures) (c .before .before .before .symbol .ensures) (c .before .before .symbol2 .ensures)
 
 advance-requires : tie.Need-advance-requires Inv-loop μ-loop
 advance-requires c κs = (omega arith, omega arith)
@@ -62,7 +66,10 @@ loop-again c =
     let u = c .before .before .before .before .before .before .before .before .before .cfi-word in
     let v = c .before .before .before .before .before .before .before .before .word in
     let w = scrambled-word (s .args .cfi) (l .n) (s .args .r) (l .s) (u .result) (v .result) (l .inv .pair) (u .ensures) (v .ensures) in
-    format-next (s .args .cell) (s .args .cfi) (s .args .r) (s .args .grid .now) (s .pre) (l .inv) (c .before .before .before .before .before .before .before .before .before .before .loop-test .taken) (bitXor (u .result) (v .result)) w (c .before .before .before .before .before .format-group .ensures) (c .before .before .before .before .before .before .before .symbol .ensures) (c .before .before .before .before .before .before .symbol2 .ensures) (c .before .before .before .put-pair .ensures) (c .advance .ensures)
+    format-next (s .args .cell) (s .args .cfi) (s .args .r) (s .args .grid .now) (s .pre) (l .inv)
+    (c .before .before .before .before .before .before .before .before .before .before .loop-test .taken) (bitXor (u .result) (v .result)) w
+    (c .before .before .before .before .before .format-group .ensures) (c .before .before .before .before .before .before .before .symbol .ensures)
+    (c .before .before .before .before .before .before .symbol2 .ensures) (c .before .before .before .put-pair .ensures) (c .advance .ensures)
 
 same-length : tie.Need-same-length Inv-loop μ-loop
 same-length c = c .before .loop .inv .done .size

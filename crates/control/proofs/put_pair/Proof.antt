@@ -30,7 +30,8 @@ quad-place-requires-2 c κs = (c .before .before .before .before .before .before
 put-place-requires-2 : tie.Need-put-place-requires-2
 put-place-requires-2 c κs =
     let s = c .before .before .before .before .before .before .before .before .before in
-    second-ok (s .pre) (s .args .turn) (c .before .before .before .before .before .before .before .places .ensures) (c .before .before .before .before .before .before .quad-place .ensures) (c .before .before .before .before .put-place .ensures) (c .before .quad-place2 .ensures)
+    second-ok (s .pre) (s .args .turn) (c .before .before .before .before .before .before .before .places .ensures)
+    (c .before .before .before .before .before .before .quad-place .ensures) (c .before .before .before .before .put-place .ensures) (c .before .quad-place2 .ensures)
 
 same-length : tie.Need-same-length
 same-length c = c .before .before .put-place2 .ensures .size ∙ c .before .before .before .before .before .before .before .put-place .ensures .size
@@ -38,7 +39,9 @@ same-length c = c .before .before .put-place2 .ensures .size ∙ c .before .befo
 returns : tie.Need-returns
 returns c =
     let s = c .before .before .before .before .before .before .before .before .before .before .before .before in
-    both (s .pre) (s .args .turn) (c .before .before .before .before .before .before .before .before .before .before .places .ensures) (c .before .before .before .before .before .before .before .before .before .quad-place .ensures) (c .before .before .before .before .before .before .before .put-place .ensures) (c .before .before .before .before .quad-place2 .ensures) (c .before .before .put-place2 .ensures)
+    both (s .pre) (s .args .turn) (c .before .before .before .before .before .before .before .before .before .before .places .ensures)
+    (c .before .before .before .before .before .before .before .before .before .quad-place .ensures) (c .before .before .before .before .before .before .before .put-place .ensures)
+    (c .before .before .before .before .quad-place2 .ensures) (c .before .before .put-place2 .ensures)
 
 pub put-pair-spec : {M : Type 1} → statement M
 put-pair-spec =

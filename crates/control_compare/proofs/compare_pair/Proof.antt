@@ -35,7 +35,8 @@ both-requires c κs = both-few (c .before .before .before .before .before .befor
 
 returns : tie.Need-returns
 returns c =
-    pair-seen (c .before .before .before .before .before .before .before .pre) (c .before .before .before .before .before .places .ensures) (c .before .before .before .before .before .before .before .args .turn) (c .before .before .before .before .quad-place .ensures) (c .before .before .quad-place2 .ensures)
+    pair-seen (c .before .before .before .before .before .before .before .pre) (c .before .before .before .before .before .places .ensures)
+    (c .before .before .before .before .before .before .before .args .turn) (c .before .before .before .before .quad-place .ensures) (c .before .before .quad-place2 .ensures)
     (c .before .before .before .look-place .ensures) (c .before .look-place2 .ensures) (c .both .ensures)
 
 pub compare-pair-spec : {M : Type 1} → statement M

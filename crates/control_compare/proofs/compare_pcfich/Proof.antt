@@ -37,7 +37,9 @@ symbol-requires-2 : tie.Need-symbol-requires-2 Inv-loop μ-loop
 symbol-requires-2 c κs = (refl, omega arith, omega arith)
 
 format-group-requires : tie.Need-format-group-requires Inv-loop μ-loop
-format-group-requires c κs = (six (c .before .before .before .before .before .before .before .args .cell) (c .before .before .before .before .before .before .before .pre .cell), omega (arith, c .before .before .before .before .loop-test .taken))
+format-group-requires c κs =
+    let at-loop-test = c .before .before .before .before in let entry = at-loop-test .before .before .before in
+    (six (entry .args .cell) (entry .pre .cell), omega (arith, at-loop-test .loop-test .taken))
 
 cast-compare-pair : tie.Need-cast-compare-pair Inv-loop μ-loop
 cast-compare-pair c = omega arith
@@ -46,13 +48,15 @@ compare-pair-requires : tie.Need-compare-pair-requires Inv-loop μ-loop
 compare-pair-requires c κs =
     let u = c .before .before .before .before .cfi-word in
     let v = c .before .before .before .word in
-    format-in (c .before .before .before .before .before .before .before .before .pre) {n = c .before .before .before .before .before .before .loop .n} (c .before .before .before .before .before .loop-test .taken) (bitXor (u .result) (v .result))
+    let at-loop-test = c .before .before .before .before .before in let at-loop = at-loop-test .before in
+    format-in (at-loop .before .before .pre) {n = at-loop .loop .n} (at-loop-test .loop-test .taken) (bitXor (u .result) (v .result))
     (c .format-group .ensures) (c .before .before .symbol .ensures) (c .before .symbol2 .ensures)
 
 both-requires : tie.Need-both-requires Inv-loop μ-loop
 both-requires c κs =
     let a = c .before .before .before .before .before .before .before .before .before .args in
-    format-few (a .cell) (a .cfi) (a .r) (a .grid .now) (c .before .before .before .before .before .before .before .before .before .pre) (c .before .before .before .before .before .before .before .loop .inv) (c .compare-pair .ensures)
+    format-few (a .cell) (a .cfi) (a .r) (a .grid .now) (c .before .before .before .before .before .before .before .before .before .pre)
+    (c .before .before .before .before .before .before .before .loop .inv) (c .compare-pair .ensures)
 
 advance-requires : tie.Need-advance-requires Inv-loop μ-loop
 advance-requires c κs = (omega arith, omega arith)
@@ -70,8 +74,10 @@ loop-again c =
     let u = c .before .before .before .before .before .before .before .cfi-word in
     let v = c .before .before .before .before .before .before .word in
     let w = scrambled-word (a .cfi) (l .n) (a .r) (l .s) (u .result) (v .result) (l .inv .pair) (u .ensures) (v .ensures) in
-    format-next (a .cell) (a .cfi) (a .r) (a .grid .now) (c .before .before .before .before .before .before .before .before .before .before .before .pre) (l .inv) (c .before .before .before .before .before .before .before .before .loop-test .taken) (bitXor (u .result) (v .result)) w (c .before .before .before .format-group .ensures)
-    (c .before .before .before .before .before .symbol .ensures) (c .before .before .before .before .symbol2 .ensures) (c .before .before .compare-pair .ensures) (c .before .both .ensures) (c .advance .ensures)
+    format-next (a .cell) (a .cfi) (a .r) (a .grid .now) (c .before .before .before .before .before .before .before .before .before .before .before .pre) (l .inv)
+    (c .before .before .before .before .before .before .before .before .loop-test .taken) (bitXor (u .result) (v .result)) w (c .before .before .before .format-group .ensures)
+    (c .before .before .before .before .before .symbol .ensures) (c .before .before .before .before .symbol2 .ensures) (c .before .before .compare-pair .ensures)
+    (c .before .both .ensures) (c .advance .ensures)
 
 returns : tie.Need-returns Inv-loop μ-loop
 returns c =

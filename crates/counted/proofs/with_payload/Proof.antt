@@ -13,7 +13,9 @@ refused-requires : tie.Need-refused-requires
 refused-requires c κs = search needs
 
 returns : tie.Need-returns
-returns c = c .refused .ensures ∙ wrong-length (c .before .before .before .before .before .args .plan .now) (c .before .before .before .before .before .args .p) (c .before .before .before .before .before .args .payload .now) _ (c .before .before .payload-length .ensures) (c .before .if1 .taken)
+returns c =
+    let at-payload-length = c .before .before in let entry = at-payload-length .before .before .before in
+    c .refused .ensures ∙ wrong-length (entry .args .plan .now) (entry .args .p) (entry .args .payload .now) _ (at-payload-length .payload-length .ensures) (c .before .if1 .taken)
 
 spare-clear-requires : tie.Need-spare-clear-requires
 spare-clear-requires c κs = search needs
@@ -22,13 +24,21 @@ kind-counts-requires : tie.Need-kind-counts-requires
 kind-counts-requires c κs = search needs
 
 returns-2 : tie.Need-returns-2
-returns-2 c = taken (c .before .before .before .before .before .before .before .args .plan .now) (c .before .before .before .before .before .before .before .args .p) (c .before .before .before .before .before .before .before .args .payload .now) _ (c .before .before .before .before .payload-length .ensures) (c .before .before .before .if1 .left) _ (c .before .before .spare-clear .ensures) (c .before .if2 .taken) _ (c .kind-counts .ensures)
+returns-2 c =
+    let at-spare-clear = c .before .before in let at-if1 = at-spare-clear .before in let at-payload-length = at-if1 .before in
+    let entry = at-payload-length .before .before .before in
+    taken (entry .args .plan .now) (entry .args .p) (entry .args .payload .now) _ (at-payload-length .payload-length .ensures) (at-if1 .if1 .left) _
+    (at-spare-clear .spare-clear .ensures) (c .before .if2 .taken) _ (c .kind-counts .ensures)
 
 refused-requires-2 : tie.Need-refused-requires-2
 refused-requires-2 c κs = search needs
 
 returns-3 : tie.Need-returns-3
-returns-3 c = c .refused2 .ensures ∙ spare-set (c .before .before .before .before .before .before .before .args .plan .now) (c .before .before .before .before .before .before .before .args .p) (c .before .before .before .before .before .before .before .args .payload .now) _ (c .before .before .before .before .payload-length .ensures) (c .before .before .before .if1 .left) _ (c .before .before .spare-clear .ensures) (c .before .if2 .left)
+returns-3 c =
+    let at-spare-clear = c .before .before in let at-if1 = at-spare-clear .before in let at-payload-length = at-if1 .before in
+    let entry = at-payload-length .before .before .before in
+    c .refused2 .ensures ∙ spare-set (entry .args .plan .now) (entry .args .p) (entry .args .payload .now) _ (at-payload-length .payload-length .ensures) (at-if1 .if1 .left) _
+    (at-spare-clear .spare-clear .ensures) (c .before .if2 .left)
 
 pub with-payload-spec : {M : Type 1} → statement M
 with-payload-spec =

@@ -22,10 +22,14 @@ refused-requires : tie.Need-refused-requires
 refused-requires c κs = search needs
 
 returns : tie.Need-returns
-returns c = c .with-payload .ensures ∙ plan-is (c .before .before .before .before .before .before .before .args .plan .now) (c .before .before .before .before .before .before .before .args .payload .now) _ _ (c .before .before .before .before .check .ensures) (c .before .before .p .given .1)
+returns c =
+    let at-p = c .before .before in let at-check = at-p .before .before in let entry = at-check .before .before .before in
+    c .with-payload .ensures ∙ plan-is (entry .args .plan .now) (entry .args .payload .now) _ _ (at-check .check .ensures) (at-p .p .given .1)
 
 returns-2 : tie.Need-returns-2
-returns-2 c = c .refused .ensures ∙ plan-refused (c .before .before .before .before .before .before .before .args .plan .now) (c .before .before .before .before .before .before .before .args .payload .now) _ _ (c .before .before .before .before .check .ensures) (c .before .before .r .given .1)
+returns-2 c =
+    let at-r = c .before .before in let at-check = at-r .before .before in let entry = at-check .before .before .before in
+    c .refused .ensures ∙ plan-refused (entry .args .plan .now) (entry .args .payload .now) _ _ (at-check .check .ensures) (at-r .r .given .1)
 
 pub with-plan-spec : {M : Type 1} → statement M
 with-plan-spec =

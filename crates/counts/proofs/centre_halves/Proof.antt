@@ -33,10 +33,14 @@ sub-result : tie.Need-sub-result
 sub-result c = search needs
 
 returns : tie.Need-returns
-returns c = shared (c .before .before .before .before .args .cell .blocks) (c .before .before .before .before .args .first) (c .before .before .before .before .args .count) _ _ (c .before .before .larger .ensures) (c .before .smaller .ensures) (omega arith)
+returns c =
+    let at-larger = c .before .before in let entry = at-larger .before .before in
+    shared (entry .args .cell .blocks) (entry .args .first) (entry .args .count) _ _ (at-larger .larger .ensures) (c .before .smaller .ensures) (omega arith)
 
 returns-2 : tie.Need-returns-2
-returns-2 c = not-shared (c .before .before .before .before .args .cell .blocks) (c .before .before .before .before .args .first) (c .before .before .before .before .args .count) _ _ (c .before .before .larger .ensures) (c .before .smaller .ensures) (omega arith)
+returns-2 c =
+    let at-larger = c .before .before in let entry = at-larger .before .before in
+    not-shared (entry .args .cell .blocks) (entry .args .first) (entry .args .count) _ _ (at-larger .larger .ensures) (c .before .smaller .ensures) (omega arith)
 
 pub centre-halves-spec : {M : Type 1} → statement M
 centre-halves-spec =

@@ -20,7 +20,9 @@ units-requires : tie.Need-units-requires
 units-requires c κs = search needs
 
 mul-phich : tie.Need-mul-phich
-mul-phich c = omega (arith, units-few (c .before .before .before .before .before .args .plan .now) (c .before .before .before .before .before .args .p) (c .before .before .before .before .before .pre) _ (c .units .ensures))
+mul-phich c =
+    let entry = c .before .before .before .before .before in
+    omega (arith, units-few (entry .args .plan .now) (entry .args .p) (entry .pre) _ (c .units .ensures))
 
 users-count-requires : tie.Need-users-count-requires
 users-count-requires c κs = search needs
@@ -29,34 +31,95 @@ held-count-requires : tie.Need-held-count-requires
 held-count-requires c κs = search needs
 
 add-owned : tie.Need-add-owned
-add-owned c = omega (arith, owned-few (c .before .before .before .before .before .before .before .args .plan .now) (c .before .before .before .before .before .before .before .args .p) (c .before .before .before .before .before .before .before .pre) _ _ _ _ _ _ (c .before .before .before .before .before .crs-count .ensures) (c .before .before .before .before .sync-count .ensures) (c .before .before .before .pbch-count .ensures) (c .before .before .units .ensures) (c .before .users-count .ensures) (c .held-count .ensures))
+add-owned c =
+    let at-units = c .before .before in let at-pbch-count = at-units .before in let at-sync-count = at-pbch-count .before in
+    let at-crs-count = at-sync-count .before in let entry = at-crs-count .before .before in
+    omega (
+      arith,
+      owned-few (entry .args .plan .now) (entry .args .p) (entry .pre) _ _ _ _ _ _ (at-crs-count .crs-count .ensures) (at-sync-count .sync-count .ensures)
+          (at-pbch-count .pbch-count .ensures) (at-units .units .ensures) (c .before .users-count .ensures) (c .held-count .ensures),
+    )
 
 add-owned-2 : tie.Need-add-owned-2
-add-owned-2 c = omega (arith, owned-few (c .before .before .before .before .before .before .before .args .plan .now) (c .before .before .before .before .before .before .before .args .p) (c .before .before .before .before .before .before .before .pre) _ _ _ _ _ _ (c .before .before .before .before .before .crs-count .ensures) (c .before .before .before .before .sync-count .ensures) (c .before .before .before .pbch-count .ensures) (c .before .before .units .ensures) (c .before .users-count .ensures) (c .held-count .ensures))
+add-owned-2 c =
+    let at-units = c .before .before in let at-pbch-count = at-units .before in let at-sync-count = at-pbch-count .before in
+    let at-crs-count = at-sync-count .before in let entry = at-crs-count .before .before in
+    omega (
+      arith,
+      owned-few (entry .args .plan .now) (entry .args .p) (entry .pre) _ _ _ _ _ _ (at-crs-count .crs-count .ensures) (at-sync-count .sync-count .ensures)
+          (at-pbch-count .pbch-count .ensures) (at-units .units .ensures) (c .before .users-count .ensures) (c .held-count .ensures),
+    )
 
 add-owned-3 : tie.Need-add-owned-3
-add-owned-3 c = omega (arith, owned-few (c .before .before .before .before .before .before .before .args .plan .now) (c .before .before .before .before .before .before .before .args .p) (c .before .before .before .before .before .before .before .pre) _ _ _ _ _ _ (c .before .before .before .before .before .crs-count .ensures) (c .before .before .before .before .sync-count .ensures) (c .before .before .before .pbch-count .ensures) (c .before .before .units .ensures) (c .before .users-count .ensures) (c .held-count .ensures))
+add-owned-3 c =
+    let at-units = c .before .before in let at-pbch-count = at-units .before in let at-sync-count = at-pbch-count .before in
+    let at-crs-count = at-sync-count .before in let entry = at-crs-count .before .before in
+    omega (
+      arith,
+      owned-few (entry .args .plan .now) (entry .args .p) (entry .pre) _ _ _ _ _ _ (at-crs-count .crs-count .ensures) (at-sync-count .sync-count .ensures)
+          (at-pbch-count .pbch-count .ensures) (at-units .units .ensures) (c .before .users-count .ensures) (c .held-count .ensures),
+    )
 
 add-owned-4 : tie.Need-add-owned-4
-add-owned-4 c = omega (arith, owned-few (c .before .before .before .before .before .before .before .args .plan .now) (c .before .before .before .before .before .before .before .args .p) (c .before .before .before .before .before .before .before .pre) _ _ _ _ _ _ (c .before .before .before .before .before .crs-count .ensures) (c .before .before .before .before .sync-count .ensures) (c .before .before .before .pbch-count .ensures) (c .before .before .units .ensures) (c .before .users-count .ensures) (c .held-count .ensures))
+add-owned-4 c =
+    let at-units = c .before .before in let at-pbch-count = at-units .before in let at-sync-count = at-pbch-count .before in
+    let at-crs-count = at-sync-count .before in let entry = at-crs-count .before .before in
+    omega (
+      arith,
+      owned-few (entry .args .plan .now) (entry .args .p) (entry .pre) _ _ _ _ _ _ (at-crs-count .crs-count .ensures) (at-sync-count .sync-count .ensures)
+          (at-pbch-count .pbch-count .ensures) (at-units .units .ensures) (c .before .users-count .ensures) (c .held-count .ensures),
+    )
 
 add-owned-5 : tie.Need-add-owned-5
-add-owned-5 c = omega (arith, owned-few (c .before .before .before .before .before .before .before .args .plan .now) (c .before .before .before .before .before .before .before .args .p) (c .before .before .before .before .before .before .before .pre) _ _ _ _ _ _ (c .before .before .before .before .before .crs-count .ensures) (c .before .before .before .before .sync-count .ensures) (c .before .before .before .pbch-count .ensures) (c .before .before .units .ensures) (c .before .users-count .ensures) (c .held-count .ensures))
+add-owned-5 c =
+    let at-units = c .before .before in let at-pbch-count = at-units .before in let at-sync-count = at-pbch-count .before in
+    let at-crs-count = at-sync-count .before in let entry = at-crs-count .before .before in
+    omega (
+      arith,
+      owned-few (entry .args .plan .now) (entry .args .p) (entry .pre) _ _ _ _ _ _ (at-crs-count .crs-count .ensures) (at-sync-count .sync-count .ensures)
+          (at-pbch-count .pbch-count .ensures) (at-units .units .ensures) (c .before .users-count .ensures) (c .held-count .ensures),
+    )
 
 add-owned-6 : tie.Need-add-owned-6
-add-owned-6 c = omega (arith, owned-few (c .before .before .before .before .before .before .before .args .plan .now) (c .before .before .before .before .before .before .before .args .p) (c .before .before .before .before .before .before .before .pre) _ _ _ _ _ _ (c .before .before .before .before .before .crs-count .ensures) (c .before .before .before .before .sync-count .ensures) (c .before .before .before .pbch-count .ensures) (c .before .before .units .ensures) (c .before .users-count .ensures) (c .held-count .ensures))
+add-owned-6 c =
+    let at-units = c .before .before in let at-pbch-count = at-units .before in let at-sync-count = at-pbch-count .before in
+    let at-crs-count = at-sync-count .before in let entry = at-crs-count .before .before in
+    omega (
+      arith,
+      owned-few (entry .args .plan .now) (entry .args .p) (entry .pre) _ _ _ _ _ _ (at-crs-count .crs-count .ensures) (at-sync-count .sync-count .ensures)
+          (at-pbch-count .pbch-count .ensures) (at-units .units .ensures) (c .before .users-count .ensures) (c .held-count .ensures),
+    )
 
 add-owned-7 : tie.Need-add-owned-7
-add-owned-7 c = omega (arith, owned-few (c .before .before .before .before .before .before .before .args .plan .now) (c .before .before .before .before .before .before .before .args .p) (c .before .before .before .before .before .before .before .pre) _ _ _ _ _ _ (c .before .before .before .before .before .crs-count .ensures) (c .before .before .before .before .sync-count .ensures) (c .before .before .before .pbch-count .ensures) (c .before .before .units .ensures) (c .before .users-count .ensures) (c .held-count .ensures))
+add-owned-7 c =
+    let at-units = c .before .before in let at-pbch-count = at-units .before in let at-sync-count = at-pbch-count .before in
+    let at-crs-count = at-sync-count .before in let entry = at-crs-count .before .before in
+    omega (
+      arith,
+      owned-few (entry .args .plan .now) (entry .args .p) (entry .pre) _ _ _ _ _ _ (at-crs-count .crs-count .ensures) (at-sync-count .sync-count .ensures)
+          (at-pbch-count .pbch-count .ensures) (at-units .units .ensures) (c .before .users-count .ensures) (c .held-count .ensures),
+    )
 
 places-requires : tie.Need-places-requires
 places-requires c κs = search needs
 
 sub-idle : tie.Need-sub-idle
-sub-idle c = omega (arith, c .places .ensures ∙ mul-comm _ _, owned-most (c .before .before .before .before .before .before .before .before .args .plan .now) (c .before .before .before .before .before .before .before .before .args .p) (c .before .before .before .before .before .before .before .before .pre) _ _ _ _ _ _ (c .before .before .before .before .before .before .crs-count .ensures) (c .before .before .before .before .before .sync-count .ensures) (c .before .before .before .before .pbch-count .ensures) (c .before .before .before .units .ensures) (c .before .before .users-count .ensures) (c .before .held-count .ensures))
+sub-idle c =
+    let at-users-count = c .before .before in let at-units = at-users-count .before in let at-pbch-count = at-units .before in
+    let at-sync-count = at-pbch-count .before in let at-crs-count = at-sync-count .before in let entry = at-crs-count .before .before in
+    omega (
+      arith,
+      c .places .ensures ∙ mul-comm _ _,
+      owned-most (entry .args .plan .now) (entry .args .p) (entry .pre) _ _ _ _ _ _ (at-crs-count .crs-count .ensures)
+          (at-sync-count .sync-count .ensures) (at-pbch-count .pbch-count .ensures) (at-units .units .ensures) (at-users-count .users-count .ensures) (c .before .held-count .ensures),
+    )
 
 returns : tie.Need-returns
-returns c = nine (c .before .before .before .before .before .before .before .before .args .plan .now) (c .before .before .before .before .before .before .before .before .args .p) (c .before .before .before .before .before .before .before .before .pre) _ _ _ _ _ _ (c .before .before .before .before .before .before .crs-count .ensures) (c .before .before .before .before .before .sync-count .ensures) (c .before .before .before .before .pbch-count .ensures) (c .before .before .before .units .ensures) (c .before .before .users-count .ensures) (c .before .held-count .ensures) _ (c .places .ensures ∙ mul-comm _ _)
+returns c =
+    let at-users-count = c .before .before in let at-units = at-users-count .before in let at-pbch-count = at-units .before in
+    let at-sync-count = at-pbch-count .before in let at-crs-count = at-sync-count .before in let entry = at-crs-count .before .before in
+    nine (entry .args .plan .now) (entry .args .p) (entry .pre) _ _ _ _ _ _ (at-crs-count .crs-count .ensures) (at-sync-count .sync-count .ensures)
+    (at-pbch-count .pbch-count .ensures) (at-units .units .ensures) (at-users-count .users-count .ensures) (c .before .held-count .ensures) _ (c .places .ensures ∙ mul-comm _ _)
 
 pub kind-counts-spec : {M : Type 1} → statement M
 kind-counts-spec =

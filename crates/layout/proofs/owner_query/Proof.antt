@@ -19,19 +19,34 @@ refusal-requires : tie.Need-refusal-requires
 refusal-requires c κs = tt
 
 returns : tie.Need-returns
-returns c = ap Refused (c .refusal .ensures) ∙ way-refused (c .before .before .before .before .before .args .plan .now) (c .before .before .before .before .before .args .s) (c .before .before .before .before .before .args .k) (c .before .before .before .before .before .args .port) _ (c .before .before .before .check .ensures) (c .before .before .match .keys2)
+returns c =
+    let at-match = c .before .before in let at-check = at-match .before in let entry = at-check .before .before in
+    ap Refused (c .refusal .ensures) ∙ way-refused (entry .args .plan .now) (entry .args .s) (entry .args .k) (entry .args .port) _ (at-check .check .ensures)
+    (at-match .match .keys2)
 
 in-grid-requires : tie.Need-in-grid-requires
 in-grid-requires c κs = tt
 
 owner-at-requires : tie.Need-owner-at-requires
-owner-at-requires c κs = ((sym (c .before .before .before .before .before .check .ensures) ∙ c .before .before .before .checked .given .1), way-place (c .before .before .before .before .before .before .before .args .plan .now) (c .before .before .before .before .before .before .before .args .s) (c .before .before .before .before .before .before .before .args .k) (c .before .before .before .before .before .before .before .args .port) _ (sym (c .before .before .before .before .before .check .ensures) ∙ c .before .before .before .checked .given .1) _ (c .before .in-grid .ensures) (c .if1 .taken))
+owner-at-requires c κs =
+    let at-checked = c .before .before .before in let at-check = at-checked .before .before in let entry = at-check .before .before in (
+      (sym (at-check .check .ensures) ∙ at-checked .checked .given .1),
+      way-place (entry .args .plan .now) (entry .args .s) (entry .args .k) (entry .args .port) _
+          (sym (at-check .check .ensures) ∙ at-checked .checked .given .1) _ (c .before .in-grid .ensures) (c .if1 .taken),
+    )
 
 returns-2 : tie.Need-returns-2
-returns-2 c = way-owner (c .before .before .before .before .before .before .before .before .args .plan .now) (c .before .before .before .before .before .before .before .before .args .s) (c .before .before .before .before .before .before .before .before .args .k) (c .before .before .before .before .before .before .before .before .args .port) _ (sym (c .before .before .before .before .before .before .check .ensures) ∙ c .before .before .before .before .checked .given .1) _ (c .before .before .in-grid .ensures) (c .before .if1 .taken) _ (c .owner-at .ensures)
+returns-2 c =
+    let at-in-grid = c .before .before in let at-checked = at-in-grid .before .before in let at-check = at-checked .before .before in
+    let entry = at-check .before .before in
+    way-owner (entry .args .plan .now) (entry .args .s) (entry .args .k) (entry .args .port) _ (sym (at-check .check .ensures) ∙ at-checked .checked .given .1) _
+    (at-in-grid .in-grid .ensures) (c .before .if1 .taken) _ (c .owner-at .ensures)
 
 returns-3 : tie.Need-returns-3
-returns-3 c = way-outside (c .before .before .before .before .before .before .before .args .plan .now) (c .before .before .before .before .before .before .before .args .s) (c .before .before .before .before .before .before .before .args .k) (c .before .before .before .before .before .before .before .args .port) _ (sym (c .before .before .before .before .before .check .ensures) ∙ c .before .before .before .checked .given .1) _ (c .before .in-grid .ensures) (c .if1 .left)
+returns-3 c =
+    let at-checked = c .before .before .before in let at-check = at-checked .before .before in let entry = at-check .before .before in
+    way-outside (entry .args .plan .now) (entry .args .s) (entry .args .k) (entry .args .port) _ (sym (at-check .check .ensures) ∙ at-checked .checked .given .1) _
+    (c .before .in-grid .ensures) (c .if1 .left)
 
 pub owner-query-spec : {M : Type 1} → statement M
 owner-query-spec =

@@ -32,13 +32,21 @@ within-requires : tie.Need-within-requires
 within-requires c κs = tt
 
 sub-t12 : tie.Need-sub-t12
-sub-t12 c = let z = in-both ((2 * c .before .before .before .before .before .args .cell .blocks - 4) / 3) ((2 * c .before .before .before .before .before .args .cell .blocks - 4) / 3 + c .before .before .before .before .units .result) (c .before .before .before .before .before .args .d) _ (c .before .within .ensures) (c .if2 .taken) in z .0
+sub-t12 c =
+    let at-units = c .before .before .before .before in let entry = at-units .before in
+    let z = in-both ((2 * entry .args .cell .blocks - 4) / 3) ((2 * entry .args .cell .blocks - 4) / 3 + at-units .units .result) (entry .args .d) _ (c .before .within .ensures)
+    (c .if2 .taken) in z .0
 
 cast-t13 : tie.Need-cast-t13
-cast-t13 c = let z = in-both ((2 * c .before .before .before .before .before .args .cell .blocks - 4) / 3) ((2 * c .before .before .before .before .before .args .cell .blocks - 4) / 3 + c .before .before .before .before .units .result) (c .before .before .before .before .before .args .d) _ (c .before .within .ensures) (c .if2 .taken) in omega (arith, units-fit (c .before .before .before .before .before .args .cell) (omega arith) (omega arith), c .before .before .before .before .units .ensures)
+cast-t13 c =
+    let at-units = c .before .before .before .before in let entry = at-units .before in
+    let z = in-both ((2 * entry .args .cell .blocks - 4) / 3) ((2 * entry .args .cell .blocks - 4) / 3 + at-units .units .result) (entry .args .d) _ (c .before .within .ensures)
+    (c .if2 .taken) in omega (arith, units-fit (entry .args .cell) (omega arith) (omega arith), at-units .units .ensures)
 
 returns-2 : tie.Need-returns-2
-returns-2 c = unit-second (c .before .before .before .before .before .args .cell) (c .before .before .before .before .before .args .d) _ (c .before .before .before .before .units .ensures) (c .before .before .before .if1 .left) (sym (c .before .within .ensures) ∙ c .if2 .taken)
+returns-2 c =
+    let at-if1 = c .before .before .before in let at-units = at-if1 .before in let entry = at-units .before in
+    unit-second (entry .args .cell) (entry .args .d) _ (at-units .units .ensures) (at-if1 .if1 .left) (sym (c .before .within .ensures) ∙ c .if2 .taken)
 
 mul-b : tie.Need-mul-b
 mul-b c = omega arith
@@ -50,16 +58,30 @@ within-requires-2 : tie.Need-within-requires-2
 within-requires-2 c κs = tt
 
 sub-t15 : tie.Need-sub-t15
-sub-t15 c = let z = in-both (2 * (2 * c .before .before .before .before .before .before .before .args .cell .blocks - 4) / 3) (2 * (2 * c .before .before .before .before .before .before .before .args .cell .blocks - 4) / 3 + c .before .before .before .before .before .before .units .result) (c .before .before .before .before .before .before .before .args .d) _ (c .before .within2 .ensures) (c .if3 .taken) in z .0
+sub-t15 c =
+    let at-units = c .before .before .before .before .before .before in let entry = at-units .before in
+    let z = in-both (2 * (2 * entry .args .cell .blocks - 4) / 3) (2 * (2 * entry .args .cell .blocks - 4) / 3 + at-units .units .result) (entry .args .d) _
+    (c .before .within2 .ensures) (c .if3 .taken) in z .0
 
 cast-t16 : tie.Need-cast-t16
-cast-t16 c = let z = in-both (2 * (2 * c .before .before .before .before .before .before .before .args .cell .blocks - 4) / 3) (2 * (2 * c .before .before .before .before .before .before .before .args .cell .blocks - 4) / 3 + c .before .before .before .before .before .before .units .result) (c .before .before .before .before .before .before .before .args .d) _ (c .before .within2 .ensures) (c .if3 .taken) in omega (arith, units-fit (c .before .before .before .before .before .before .before .args .cell) (omega arith) (omega arith), c .before .before .before .before .before .before .units .ensures)
+cast-t16 c =
+    let at-units = c .before .before .before .before .before .before in let entry = at-units .before in
+    let z = in-both (2 * (2 * entry .args .cell .blocks - 4) / 3) (2 * (2 * entry .args .cell .blocks - 4) / 3 + at-units .units .result) (entry .args .d) _
+    (c .before .within2 .ensures) (c .if3 .taken) in omega (arith, units-fit (entry .args .cell) (omega arith) (omega arith), at-units .units .ensures)
 
 returns-3 : tie.Need-returns-3
-returns-3 c = unit-third (c .before .before .before .before .before .before .before .args .cell) (c .before .before .before .before .before .before .before .args .d) _ (c .before .before .before .before .before .before .units .ensures) (c .before .before .before .before .before .if1 .left) (sym (c .before .before .before .within .ensures) ∙ c .before .before .if2 .left) (sym (c .before .within2 .ensures) ∙ c .if3 .taken)
+returns-3 c =
+    let at-if2 = c .before .before in let at-within = at-if2 .before in let at-if1 = at-within .before .before in let at-units = at-if1 .before in
+    let entry = at-units .before in
+    unit-third (entry .args .cell) (entry .args .d) _ (at-units .units .ensures) (at-if1 .if1 .left) (sym (at-within .within .ensures) ∙ at-if2 .if2 .left)
+    (sym (c .before .within2 .ensures) ∙ c .if3 .taken)
 
 returns-4 : tie.Need-returns-4
-returns-4 c = unit-none (c .before .before .before .before .before .before .before .args .cell) (c .before .before .before .before .before .before .before .args .d) _ (c .before .before .before .before .before .before .units .ensures) (c .before .before .before .before .before .if1 .left) (sym (c .before .before .before .within .ensures) ∙ c .before .before .if2 .left) (sym (c .before .within2 .ensures) ∙ c .if3 .left)
+returns-4 c =
+    let at-if2 = c .before .before in let at-within = at-if2 .before in let at-if1 = at-within .before .before in let at-units = at-if1 .before in
+    let entry = at-units .before in
+    unit-none (entry .args .cell) (entry .args .d) _ (at-units .units .ensures) (at-if1 .if1 .left) (sym (at-within .within .ensures) ∙ at-if2 .if2 .left)
+    (sym (c .before .within2 .ensures) ∙ c .if3 .left)
 
 pub unit-in-spec : {M : Type 1} → statement M
 unit-in-spec =

@@ -33,7 +33,10 @@ cast-t11 : tie.Need-cast-t11 Inv-loop μ-loop
 cast-t11 c = omega arith
 
 returns : tie.Need-returns Inv-loop μ-loop
-returns c = λ n. user-found (c .before .before .before .before .before .before .args .plan .now) (c .before .before .before .before .loop .at) (c .before .before .before .before .before .before .args .k) (c .before .before .before .before .before .before .args .count - c .before .before .before .before .loop .left) _ (c .before .before .user-at .ensures) _ (c .before .blocks-have .ensures) (c .before .before .before .before .loop .left) (omega arith) (c .if1 .taken) n ∙ c .before .before .before .before .loop .inv .1 n
+returns c =
+    let at-user-at = c .before .before in let at-loop = at-user-at .before .before in let entry = at-loop .before .before in
+    λ n. user-found (entry .args .plan .now) (at-loop .loop .at) (entry .args .k) (entry .args .count - at-loop .loop .left) _ (at-user-at .user-at .ensures) _
+    (c .before .blocks-have .ensures) (at-loop .loop .left) (omega arith) (c .if1 .taken) n ∙ at-loop .loop .inv .1 n
 
 next-at-requires : tie.Need-next-at-requires Inv-loop μ-loop
 next-at-requires c κs = tt
@@ -45,10 +48,20 @@ loop-less : tie.Need-loop-less Inv-loop μ-loop
 loop-less c = omega arith
 
 loop-again : tie.Need-loop-again Inv-loop μ-loop
-loop-again c = (omega arith, λ n. user-passed (c .before .before .before .before .before .before .before .args .plan .now) (c .before .before .before .before .before .loop .at) (c .before .before .before .before .before .before .before .args .k) (c .before .before .before .before .before .before .before .args .count - c .before .before .before .before .before .loop .left) _ (c .before .before .before .user-at .ensures) _ (c .before .before .blocks-have .ensures) (c .before .before .before .before .before .loop .left) (omega arith) (c .before .if1 .left) _ (c .next-at .ensures) (c .before .before .before .before .before .before .before .args .count - (c .before .before .before .before .before .loop .left - 1)) (omega arith) n ∙ c .before .before .before .before .before .loop .inv .1 n)
+loop-again c =
+    let at-blocks-have = c .before .before in let at-user-at = at-blocks-have .before in let at-loop = at-user-at .before .before in
+    let entry = at-loop .before .before in (
+      omega arith,
+      λ n. user-passed (entry .args .plan .now) (at-loop .loop .at) (entry .args .k) (entry .args .count - at-loop .loop .left) _ (at-user-at .user-at .ensures) _
+          (at-blocks-have .blocks-have .ensures) (at-loop .loop .left) (omega arith) (c .before .if1 .left) _ (c .next-at .ensures) (entry .args .count - (at-loop .loop .left - 1))
+          (omega arith) n ∙ at-loop .loop .inv .1 n,
+    )
 
 returns-2 : tie.Need-returns-2 Inv-loop μ-loop
-returns-2 c = λ n. user-end (c .before .before .before .args .plan .now) (c .before .loop .at) (c .before .before .before .args .k) (c .before .before .before .args .count - c .before .loop .left) (c .before .loop .left) (omega arith) n ∙ c .before .loop .inv .1 n
+returns-2 c =
+    let entry = c .before .before .before in
+    λ n. user-end (entry .args .plan .now) (c .before .loop .at) (entry .args .k) (entry .args .count - c .before .loop .left) (c .before .loop .left) (omega arith) n
+    ∙ c .before .loop .inv .1 n
 
 pub user-from-spec : {M : Type 1} → statement M
 user-from-spec =

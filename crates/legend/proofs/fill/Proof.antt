@@ -38,13 +38,23 @@ loop-less : tie.Need-loop-less Inv-loop μ-loop
 loop-less c = omega (arith, c .before .before .loop .inv .1)
 
 loop-again : tie.Need-loop-again Inv-loop μ-loop
-loop-again c = let l = c .before .before .loop in (omega (arith, l .inv .1), length-set (l .row) (l .i) _ ∙ l .inv .1, set-more 0 (λ (j : ℕ). shownAt (c .before .before .before .before .before .args .plan .now) (c .before .before .before .before .before .args .s) (c .before .before .before .before .before .args .first + j)) (l .row) (l .i) _ (omega (arith, l .inv .1)) (c .number-at .ensures) (l .inv .2))
+loop-again c =
+    let at-loop = c .before .before in let entry = at-loop .before .before .before in
+    let l = at-loop .loop in (
+      omega (arith, l .inv .1),
+      length-set (l .row) (l .i) _ ∙ l .inv .1,
+      set-more 0
+          (λ (j : ℕ). shownAt (entry .args .plan .now) (entry .args .s) (entry .args .first + j)) (l .row) (l .i) _ (omega (arith, l .inv .1)) (c .number-at .ensures) (l .inv .2),
+    )
 
 same-length : tie.Need-same-length Inv-loop μ-loop
 same-length c = c .before .loop .inv .1
 
 returns : tie.Need-returns Inv-loop μ-loop
-returns c = let l = c .before .loop in filled 0 (λ (j : ℕ). shownAt (c .before .before .before .before .args .plan .now) (c .before .before .before .before .args .s) (c .before .before .before .before .args .first + j)) (length (c .before .before .before .before .args .row .now)) (l .row) (l .inv .1) (λ j h. l .inv .2 j (omega (arith, l .inv .1)))
+returns c =
+    let entry = c .before .before .before .before in
+    let l = c .before .loop in filled 0 (λ (j : ℕ). shownAt (entry .args .plan .now) (entry .args .s) (entry .args .first + j)) (length (entry .args .row .now)) (l .row)
+    (l .inv .1) (λ j h. l .inv .2 j (omega (arith, l .inv .1)))
 
 pub fill-spec : {M : Type 1} → statement M
 fill-spec =

@@ -21,10 +21,16 @@ same-length : tie.Need-same-length
 same-length c = search needs
 
 returns : tie.Need-returns
-returns c = row-shown (c .before .before .before .before .before .before .before .before .before .before .args .plan .now) (c .before .before .before .before .before .before .before .before .before .before .args .s) (c .before .before .before .before .before .before .before .before .before .before .args .first) (c .before .before .before .before .before .before .before .before .before .before .args .row .now) _ (sym (c .before .before .before .before .before .before .before .check .ensures) ∙ c .before .before .before .before .before .p .given .1) _ (c .before .before .fill .ensures)
+returns c =
+    let at-fill = c .before .before in let at-p = at-fill .before .before .before in let at-check = at-p .before .before in
+    let entry = at-check .before .before .before in
+    row-shown (entry .args .plan .now) (entry .args .s) (entry .args .first) (entry .args .row .now) _ (sym (at-check .check .ensures) ∙ at-p .p .given .1) _
+    (at-fill .fill .ensures)
 
 returns-2 : tie.Need-returns-2
-returns-2 c = row-left (c .before .before .before .before .before .args .plan .now) (c .before .before .before .before .before .args .s) (c .before .before .before .before .before .args .first) (c .before .before .before .before .before .args .row .now) _ (sym (c .before .before .check .ensures) ∙ c .enum-told .given .1)
+returns-2 c =
+    let at-check = c .before .before in let entry = at-check .before .before .before in
+    row-left (entry .args .plan .now) (entry .args .s) (entry .args .first) (entry .args .row .now) _ (sym (at-check .check .ensures) ∙ c .enum-told .given .1)
 
 pub owner-row-spec : {M : Type 1} → statement M
 owner-row-spec =

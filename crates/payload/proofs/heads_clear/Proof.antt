@@ -22,7 +22,8 @@ section-clear-requires-2 c κs =
 returns : tie.Need-returns
 returns c =
     let a = c .before .before .before .before .before .before .args in
-    second-clear (a .p) (a .payload .now) (c .before .before .before .before .before .before .pre) _ (c .before .before .before .before .pbch-bits .ensures) _ (c .before .before .before .section-clear .ensures) (c .before .before .if1 .taken) _ (c .before .section-bytes .ensures) _ (c .section-clear2 .ensures)
+    second-clear (a .p) (a .payload .now) (c .before .before .before .before .before .before .pre) _ (c .before .before .before .before .pbch-bits .ensures) _
+    (c .before .before .before .section-clear .ensures) (c .before .before .if1 .taken) _ (c .before .section-bytes .ensures) _ (c .section-clear2 .ensures)
 
 returns-2 : tie.Need-returns-2
 returns-2 c =

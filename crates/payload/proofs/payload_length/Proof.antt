@@ -13,7 +13,11 @@ users-length-requires c κs = c .before .before .pre
 add-result : tie.Need-add-result
 add-result c =
     let a = c .before .before .before .args in
-    omega (arith, length-room (a .plan .now) (a .p) (c .before .before .before .pre) (c .before .users-start .result) (c .users-length .result) (c .before .users-start .ensures) (c .users-length .ensures))
+    omega (
+      arith,
+      length-room (a .plan .now) (a .p) (c .before .before .before .pre) (c .before .users-start .result) (c .users-length .result) (c .before .users-start .ensures)
+          (c .users-length .ensures),
+    )
 
 returns : tie.Need-returns
 returns c =

@@ -22,7 +22,8 @@ returns : tie.Need-returns
 returns c =
     let a = c .before .before .before .before .before .before .args in
     let pre = c .before .before .before .before .before .before .pre in
-    users-rest (a .plan .now) (a .p) (pre .0) (a .payload .now) (pre .1) _ (c .before .before .before .heads-clear .ensures) (c .before .before .if1 .taken) _ (c .before .users-start .ensures) _ (c .users-clear .ensures)
+    users-rest (a .plan .now) (a .p) (pre .0) (a .payload .now) (pre .1) _ (c .before .before .before .heads-clear .ensures) (c .before .before .if1 .taken) _
+    (c .before .users-start .ensures) _ (c .users-clear .ensures)
 
 returns-2 : tie.Need-returns-2
 returns-2 c =

@@ -15,10 +15,15 @@ sub-result : tie.Need-sub-result
 sub-result c = let z = c .before .args .z in neg-fits w16 z (c .before .fits .z) (fits-abs w16 (negℤ z) (omega (arith, abs-neg z, c .before .pre)))
 
 returns : tie.Need-returns
-returns c = let z = c .before .args .z in let b = c .before .args .b in bounded 256 {x = turn b z} (toZ-ofZ (c .before .fits .z) ∙ ap (λ (x : ℕ). turn x z) (sym (c .if1 .taken))) (omega (arith, turn-abs b z, c .before .pre))
+returns c =
+    let z = c .before .args .z in let b = c .before .args .b in bounded 256 {x = turn b z} (toZ-ofZ (c .before .fits .z) ∙ ap (λ (x : ℕ). turn x z) (sym (c .if1 .taken)))
+    (omega (arith, turn-abs b z, c .before .pre))
 
 returns-2 : tie.Need-returns-2
-returns-2 c = let z = c .before .args .z in let b = c .before .args .b in bounded 256 {x = turn b z} (neg-back w16 z (c .before .fits .z) (fits-abs w16 (negℤ z) (omega (arith, abs-neg z, c .before .pre))) ∙ sym (turn-one b z (c .if1 .left))) (omega (arith, turn-abs b z, c .before .pre))
+returns-2 c =
+    let z = c .before .args .z in let b = c .before .args .b in bounded 256 {x = turn b z}
+    (neg-back w16 z (c .before .fits .z) (fits-abs w16 (negℤ z) (omega (arith, abs-neg z, c .before .pre))) ∙ sym (turn-one b z (c .if1 .left)))
+    (omega (arith, turn-abs b z, c .before .pre))
 
 pub turned-by-spec : {M : Type 1} → statement M
 turned-by-spec = tie.close (tie.spec sub-result returns returns-2)

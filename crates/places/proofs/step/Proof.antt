@@ -35,7 +35,13 @@ one-below-requires-5 : tie.Need-one-below-requires-5
 one-below-requires-5 c κs = search needs
 
 returns : tie.Need-returns
-returns c = (step-sum (c .before .before .before .before .before .args .a) (c .before .before .before .before .before .args .b) (c .before .before .before .before .before .args .c) (c .before .before .before .before .before .args .d) (c .before .before .before .before .before .args .n) (c .before .before .before .before .before .args .t) (c .before .before .before .before .one-below .ensures .0) (c .before .before .before .one-below2 .ensures .0) (c .before .before .one-below3 .ensures .0) (c .before .one-below4 .ensures .0) (c .one-below5 .ensures .0), c .one-below5 .ensures .1)
+returns c =
+    let at-one-below3 = c .before .before in let at-one-below2 = at-one-below3 .before in let at-one-below = at-one-below2 .before in
+    let entry = at-one-below .before in (
+      step-sum (entry .args .a) (entry .args .b) (entry .args .c) (entry .args .d) (entry .args .n) (entry .args .t) (at-one-below .one-below .ensures .0)
+          (at-one-below2 .one-below2 .ensures .0) (at-one-below3 .one-below3 .ensures .0) (c .before .one-below4 .ensures .0) (c .one-below5 .ensures .0),
+      c .one-below5 .ensures .1,
+    )
 
 pub step-spec : {M : Type 1} → statement M
 step-spec =

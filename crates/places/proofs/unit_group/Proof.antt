@@ -45,7 +45,13 @@ add-result-4 : tie.Need-add-result-4
 add-result-4 c = search needs
 
 returns : tie.Need-returns
-returns c = unit-sum (c .before .before .before .before .before .before .before .before .before .args .cell) (c .before .before .before .before .before .before .before .before .before .args .m) (c .before .before .before .before .before .before .before .before .before .args .i) (omega arith) (c .before .before .before .before .before .before .before .before .format-group .ensures) (c .before .before .before .before .before .before .before .format-group2 .ensures) (c .before .before .before .before .before .before .format-group3 .ensures) (c .before .before .before .before .before .format-group4 .ensures) (c .before .before .before .before .unit-number .ensures .0) (c .before .before .before .step .ensures .0) (c .before .before .step2 .ensures .0) (c .before .step3 .ensures .0) (c .step4 .ensures .0)
+returns c =
+    let at-step2 = c .before .before in let at-step = at-step2 .before in let at-unit-number = at-step .before in
+    let at-format-group4 = at-unit-number .before in let at-format-group3 = at-format-group4 .before in
+    let at-format-group2 = at-format-group3 .before in let at-format-group = at-format-group2 .before in let entry = at-format-group .before in
+    unit-sum (entry .args .cell) (entry .args .m) (entry .args .i) (omega arith) (at-format-group .format-group .ensures) (at-format-group2 .format-group2 .ensures)
+    (at-format-group3 .format-group3 .ensures) (at-format-group4 .format-group4 .ensures) (at-unit-number .unit-number .ensures .0) (at-step .step .ensures .0)
+    (at-step2 .step2 .ensures .0) (c .before .step3 .ensures .0) (c .step4 .ensures .0)
 
 pub unit-group-spec : {M : Type 1} → statement M
 unit-group-spec =

@@ -35,7 +35,8 @@ returns c =
     let at-byte-at2 = at-word .before in
     let at-byte-at = at-byte-at2 .before in
     let at-args = at-byte-at .before .before in
-    cell-made (drop (at-args .args .at) (at-args .args .plan .now)) _ _ _ (at-word .word .ensures) (at-byte-at .byte-at .ensures) (at-byte-at2 .byte-at2 .ensures) _ _ _ _ (at-byte-at3 .byte-at3 .ensures) (at-byte-at4 .byte-at4 .ensures) (at-byte-at5 .byte-at5 .ensures) (c .byte-at6 .ensures)
+    cell-made (drop (at-args .args .at) (at-args .args .plan .now)) _ _ _ (at-word .word .ensures) (at-byte-at .byte-at .ensures) (at-byte-at2 .byte-at2 .ensures) _ _ _ _
+    (at-byte-at3 .byte-at3 .ensures) (at-byte-at4 .byte-at4 .ensures) (at-byte-at5 .byte-at5 .ensures) (c .byte-at6 .ensures)
 
 pub cell-at-spec : {M : Type 1} → statement M
 cell-at-spec =

@@ -89,7 +89,8 @@ returns-8 c =
     let at-size-of = at-if2 .before in
     let at-byte-at = at-size-of .before in
     let at-args = at-byte-at .before .before .before in
-    unknown (at-args .args .plan .now) (at-args .args .at) _ _ (at-byte-at .byte-at .ensures) (at-size-of .size-of .ensures) (at-if2 .if2 .left) (at-if3 .if3 .left) (at-if4 .if4 .left) (at-if5 .if5 .left) (at-if6 .if6 .left) (c .if7 .left)
+    unknown (at-args .args .plan .now) (at-args .args .at) _ _ (at-byte-at .byte-at .ensures) (at-size-of .size-of .ensures) (at-if2 .if2 .left) (at-if3 .if3 .left)
+    (at-if4 .if4 .left) (at-if5 .if5 .left) (at-if6 .if6 .left) (c .if7 .left)
 
 pub command-at-spec : {M : Type 1} → statement M
 command-at-spec =

@@ -27,7 +27,8 @@ returns c =
     let at-byte-at2 = at-word .before in
     let at-byte-at = at-byte-at2 .before in
     let at-args = at-byte-at .before .before in
-    frame-made (drop (at-args .args .at) (at-args .args .plan .now)) _ _ _ (at-word .word .ensures) (at-byte-at .byte-at .ensures) (at-byte-at2 .byte-at2 .ensures) _ _ (at-byte-at3 .byte-at3 .ensures) (c .byte-at4 .ensures)
+    frame-made (drop (at-args .args .at) (at-args .args .plan .now)) _ _ _ (at-word .word .ensures) (at-byte-at .byte-at .ensures) (at-byte-at2 .byte-at2 .ensures) _ _
+    (at-byte-at3 .byte-at3 .ensures) (c .byte-at4 .ensures)
 
 pub frame-at-spec : {M : Type 1} → statement M
 frame-at-spec =

@@ -17,7 +17,8 @@ returns c =
     let at-size-of = c .before in
     let at-byte-at = at-size-of .before in
     let at-args = at-byte-at .before .before in
-    next-out (at-args .args .plan .now) (at-args .args .at) _ (size-is (drop (at-args .args .at) (at-args .args .plan .now)) _ _ (at-byte-at .byte-at .ensures) (at-size-of .size-of .ensures)) (omega arith)
+    next-out (at-args .args .plan .now) (at-args .args .at) _ (size-is (drop (at-args .args .at) (at-args .args .plan .now)) _ _ (at-byte-at .byte-at .ensures)
+    (at-size-of .size-of .ensures)) (omega arith)
 
 sub-if2 : tie.Need-sub-if2
 sub-if2 c = search needs
@@ -27,7 +28,8 @@ returns-2 c =
     let at-size-of = c .before .before in
     let at-byte-at = at-size-of .before in
     let at-args = at-byte-at .before .before in
-    next-out (at-args .args .plan .now) (at-args .args .at) _ (size-is (drop (at-args .args .at) (at-args .args .plan .now)) _ _ (at-byte-at .byte-at .ensures) (at-size-of .size-of .ensures)) (omega arith)
+    next-out (at-args .args .plan .now) (at-args .args .at) _ (size-is (drop (at-args .args .at) (at-args .args .plan .now)) _ _ (at-byte-at .byte-at .ensures)
+    (at-size-of .size-of .ensures)) (omega arith)
 
 add-result : tie.Need-add-result
 add-result c = search needs
@@ -37,7 +39,8 @@ returns-3 c =
     let at-size-of = c .before .before in
     let at-byte-at = at-size-of .before in
     let at-args = at-byte-at .before .before in
-    next-in (at-args .args .plan .now) (at-args .args .at) _ (size-is (drop (at-args .args .at) (at-args .args .plan .now)) _ _ (at-byte-at .byte-at .ensures) (at-size-of .size-of .ensures)) (omega arith)
+    next-in (at-args .args .plan .now) (at-args .args .at) _ (size-is (drop (at-args .args .at) (at-args .args .plan .now)) _ _ (at-byte-at .byte-at .ensures)
+    (at-size-of .size-of .ensures)) (omega arith)
 
 pub next-at-spec : {M : Type 1} → statement M
 next-at-spec =

@@ -31,7 +31,8 @@ returns c =
     let at-byte-at2 = at-word .before in
     let at-byte-at = at-byte-at2 .before in
     let at-args = at-byte-at .before .before in
-    user-made (drop (at-args .args .at) (at-args .args .plan .now)) _ _ _ (at-word .word .ensures) (at-byte-at .byte-at .ensures) (at-byte-at2 .byte-at2 .ensures) _ _ _ (at-byte-at3 .byte-at3 .ensures) (at-byte-at4 .byte-at4 .ensures) (c .byte-at5 .ensures)
+    user-made (drop (at-args .args .at) (at-args .args .plan .now)) _ _ _ (at-word .word .ensures) (at-byte-at .byte-at .ensures) (at-byte-at2 .byte-at2 .ensures) _ _ _
+    (at-byte-at3 .byte-at3 .ensures) (at-byte-at4 .byte-at4 .ensures) (c .byte-at5 .ensures)
 
 pub user-at-spec : {M : Type 1} → statement M
 user-at-spec =

@@ -19,37 +19,72 @@ refusal-requires : tie.Need-refusal-requires
 refusal-requires c κs = search needs
 
 returns : tie.Need-returns
-returns c = way-refused (c .before .before .before .before .before .before .before .args .plan .now) (c .before .before .before .before .before .before .before .args .grid .now) (c .before .before .before .before .before .before .before .args .payload .now) _ (c .before .before .before .check .ensures) (c .before .before .match .keys2) _ (c .refusal .ensures)
+returns c =
+    let at-match = c .before .before in let at-check = at-match .before in let entry = at-check .before .before .before .before in
+    way-refused (entry .args .plan .now) (entry .args .grid .now) (entry .args .payload .now) _ (at-check .check .ensures) (at-match .match .keys2) _ (c .refusal .ensures)
 
 grid-length-requires : tie.Need-grid-length-requires
 grid-length-requires c κs = search needs
 
 returns-2 : tie.Need-returns-2
-returns-2 c = way-grid (c .before .before .before .before .before .before .before .before .before .args .plan .now) (c .before .before .before .before .before .before .before .before .before .args .grid .now) (c .before .before .before .before .before .before .before .before .before .args .payload .now) _ (sym (c .before .before .before .before .before .check .ensures) ∙ c .before .before .before .checked .given .1) _ (c .before .grid-length .ensures) (c .if1 .taken)
+returns-2 c =
+    let at-checked = c .before .before .before in let at-check = at-checked .before .before in let entry = at-check .before .before .before .before in
+    way-grid (entry .args .plan .now) (entry .args .grid .now) (entry .args .payload .now) _ (sym (at-check .check .ensures) ∙ at-checked .checked .given .1) _
+    (c .before .grid-length .ensures) (c .if1 .taken)
 
 payload-length-requires : tie.Need-payload-length-requires
 payload-length-requires c κs = (sym (c .before .before .before .before .before .check .ensures) ∙ c .before .before .before .checked .given .1)
 
 returns-3 : tie.Need-returns-3
-returns-3 c = way-payload (c .before .before .before .before .before .before .before .before .before .before .before .args .plan .now) (c .before .before .before .before .before .before .before .before .before .before .before .args .grid .now) (c .before .before .before .before .before .before .before .before .before .before .before .args .payload .now) _ (sym (c .before .before .before .before .before .before .before .check .ensures) ∙ c .before .before .before .before .before .checked .given .1) (c .before .before .if1 .left ∙ c .before .before .before .grid-length .ensures) _ (c .before .payload-length .ensures) (c .if2 .taken)
+returns-3 c =
+    let at-if1 = c .before .before in let at-grid-length = at-if1 .before in let at-checked = at-grid-length .before .before in
+    let at-check = at-checked .before .before in let entry = at-check .before .before .before .before in
+    way-payload (entry .args .plan .now) (entry .args .grid .now) (entry .args .payload .now) _ (sym (at-check .check .ensures) ∙ at-checked .checked .given .1)
+    (at-if1 .if1 .left ∙ at-grid-length .grid-length .ensures) _ (c .before .payload-length .ensures) (c .if2 .taken)
 
 is-made-requires : tie.Need-is-made-requires
-is-made-requires c κs = way-given (c .before .before .before .before .before .before .before .before .before .before .before .args .plan .now) (c .before .before .before .before .before .before .before .before .before .before .before .args .grid .now) (c .before .before .before .before .before .before .before .before .before .before .before .args .payload .now) _ (sym (c .before .before .before .before .before .before .before .check .ensures) ∙ c .before .before .before .before .before .checked .given .1) (c .before .before .if1 .left ∙ c .before .before .before .grid-length .ensures)
+is-made-requires c κs =
+    let at-if1 = c .before .before in let at-grid-length = at-if1 .before in let at-checked = at-grid-length .before .before in
+    let at-check = at-checked .before .before in let entry = at-check .before .before .before .before in
+    way-given (entry .args .plan .now) (entry .args .grid .now) (entry .args .payload .now) _ (sym (at-check .check .ensures) ∙ at-checked .checked .given .1)
+    (at-if1 .if1 .left ∙ at-grid-length .grid-length .ensures)
 
 returns-4 : tie.Need-returns-4
-returns-4 c = way-none (c .before .before .before .before .before .before .before .before .before .before .before .before .before .args .plan .now) (c .before .before .before .before .before .before .before .before .before .before .before .before .before .args .grid .now) (c .before .before .before .before .before .before .before .before .before .before .before .before .before .args .payload .now) _ (sym (c .before .before .before .before .before .before .before .before .before .check .ensures) ∙ c .before .before .before .before .before .before .before .checked .given .1) (c .before .before .before .before .if1 .left ∙ c .before .before .before .before .before .grid-length .ensures) (c .before .before .if2 .left ∙ c .before .before .before .payload-length .ensures) _ (c .before .is-made .ensures) (not-true _ (c .if3 .taken))
+returns-4 c =
+    let at-if2 = c .before .before in let at-payload-length = at-if2 .before in let at-if1 = at-payload-length .before in
+    let at-grid-length = at-if1 .before in let at-checked = at-grid-length .before .before in let at-check = at-checked .before .before in
+    let entry = at-check .before .before .before .before in
+    way-none (entry .args .plan .now) (entry .args .grid .now) (entry .args .payload .now) _ (sym (at-check .check .ensures) ∙ at-checked .checked .given .1)
+    (at-if1 .if1 .left ∙ at-grid-length .grid-length .ensures) (at-if2 .if2 .left ∙ at-payload-length .payload-length .ensures) _ (c .before .is-made .ensures)
+    (not-true _ (c .if3 .taken))
 
 read-sections-requires : tie.Need-read-sections-requires
-read-sections-requires c κs = way-readable (c .before .before .before .before .before .before .before .before .before .before .before .before .before .before .args .plan .now) (c .before .before .before .before .before .before .before .before .before .before .before .before .before .before .args .grid .now) (c .before .before .before .before .before .before .before .before .before .before .before .before .before .before .args .payload .now) _ (sym (c .before .before .before .before .before .before .before .before .before .before .check .ensures) ∙ c .before .before .before .before .before .before .before .before .checked .given .1) (c .before .before .before .before .before .if1 .left ∙ c .before .before .before .before .before .before .grid-length .ensures) (c .before .before .before .if2 .left ∙ c .before .before .before .before .payload-length .ensures) _ (c .before .before .is-made .ensures) (not-false _ (c .before .if3 .left))
+read-sections-requires c κs =
+    let at-is-made = c .before .before in let at-if2 = at-is-made .before in let at-payload-length = at-if2 .before in
+    let at-if1 = at-payload-length .before in let at-grid-length = at-if1 .before in let at-checked = at-grid-length .before .before in
+    let at-check = at-checked .before .before in let entry = at-check .before .before .before .before in
+    way-readable (entry .args .plan .now) (entry .args .grid .now) (entry .args .payload .now) _ (sym (at-check .check .ensures) ∙ at-checked .checked .given .1)
+    (at-if1 .if1 .left ∙ at-grid-length .grid-length .ensures) (at-if2 .if2 .left ∙ at-payload-length .payload-length .ensures) _ (at-is-made .is-made .ensures)
+    (not-false _ (c .before .if3 .left))
 
 users-count-requires : tie.Need-users-count-requires
-users-count-requires c κs = (sym (c .before .before .before .before .before .before .before .before .before .before .before .before .before .check .ensures) ∙ c .before .before .before .before .before .before .before .before .before .before .before .checked .given .1)
+users-count-requires c κs =
+    let at-checked = c .before .before .before .before .before .before .before .before .before .before .before in
+    let at-check = at-checked .before .before in
+    (sym (at-check .check .ensures) ∙ at-checked .checked .given .1)
 
 same-length : tie.Need-same-length
 same-length c = search needs
 
 returns-5 : tie.Need-returns-5
-returns-5 c = way-read (c .before .before .before .before .before .before .before .before .before .before .before .before .before .before .before .before .before .before .args .plan .now) (c .before .before .before .before .before .before .before .before .before .before .before .before .before .before .before .before .before .before .args .grid .now) (c .before .before .before .before .before .before .before .before .before .before .before .before .before .before .before .before .before .before .args .payload .now) _ (sym (c .before .before .before .before .before .before .before .before .before .before .before .before .before .before .check .ensures) ∙ c .before .before .before .before .before .before .before .before .before .before .before .before .checked .given .1) (c .before .before .before .before .before .before .before .before .before .if1 .left ∙ c .before .before .before .before .before .before .before .before .before .before .grid-length .ensures) (c .before .before .before .before .before .before .before .if2 .left ∙ c .before .before .before .before .before .before .before .before .payload-length .ensures) _ (c .before .before .before .before .before .before .is-made .ensures) (not-false _ (c .before .before .before .before .before .if3 .left)) _ (c .users-count .ensures) _ (c .before .before .before .read-sections .ensures)
+returns-5 c =
+    let at-read-sections = c .before .before .before in let at-if3 = at-read-sections .before .before in let at-is-made = at-if3 .before in
+    let at-if2 = at-is-made .before in let at-payload-length = at-if2 .before in let at-if1 = at-payload-length .before in
+    let at-grid-length = at-if1 .before in let at-checked = at-grid-length .before .before in let at-check = at-checked .before .before in
+    let entry = at-check .before .before .before .before in
+    way-read (entry .args .plan .now) (entry .args .grid .now) (entry .args .payload .now) _ (sym (at-check .check .ensures) ∙ at-checked .checked .given .1)
+    (at-if1 .if1 .left ∙ at-grid-length .grid-length .ensures) (at-if2 .if2 .left ∙ at-payload-length .payload-length .ensures) _ (at-is-made .is-made .ensures)
+    (not-false _ (at-if3 .if3 .left)) _ (c .users-count .ensures) _ (at-read-sections .read-sections .ensures)
 
 pub read-spec : {M : Type 1} → statement M
 read-spec =

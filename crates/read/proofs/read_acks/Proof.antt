@@ -16,25 +16,49 @@ users-start-requires : tie.Need-users-start-requires
 users-start-requires c κs = tt
 
 started-requires : tie.Need-started-requires
-started-requires c κs = acks-begins (c .before .before .before .before .before .before .args .plan .now) (c .before .before .before .before .before .before .args .p) (c .before .before .before .before .before .before .args .grid .now) (c .before .before .before .before .before .before .pre .0)
+started-requires c κs =
+    let entry = c .before .before .before .before .before .before in
+    acks-begins (entry .args .plan .now) (entry .args .p) (entry .args .grid .now) (entry .pre .0)
 
 sub-read-his : tie.Need-sub-read-his
-sub-read-his c = acks-room (c .before .before .before .before .before .before .before .args .plan .now) (c .before .before .before .before .before .before .before .args .p) (c .before .before .before .before .before .before .before .args .grid .now) (c .before .before .before .before .before .before .before .pre .0) _ _ (c .before .before .section-bytes .ensures ∙ ap sectionBytes (c .before .before .before .pbch-bits .ensures)) (c .before .users-start .ensures) .0
+sub-read-his c =
+    let at-section-bytes = c .before .before in let at-pbch-bits = at-section-bytes .before in
+    let entry = at-pbch-bits .before .before .before .before in
+    acks-room (entry .args .plan .now) (entry .args .p) (entry .args .grid .now) (entry .pre .0) _ _
+    (at-section-bytes .section-bytes .ensures ∙ ap sectionBytes (at-pbch-bits .pbch-bits .ensures)) (c .before .users-start .ensures) .0
 
 part-read-his-start : tie.Need-part-read-his-start
-part-read-his-start c = acks-room (c .before .before .before .before .before .before .before .args .plan .now) (c .before .before .before .before .before .before .before .args .p) (c .before .before .before .before .before .before .before .args .grid .now) (c .before .before .before .before .before .before .before .pre .0) _ _ (c .before .before .section-bytes .ensures ∙ ap sectionBytes (c .before .before .before .pbch-bits .ensures)) (c .before .users-start .ensures) .0
+part-read-his-start c =
+    let at-section-bytes = c .before .before in let at-pbch-bits = at-section-bytes .before in
+    let entry = at-pbch-bits .before .before .before .before in
+    acks-room (entry .args .plan .now) (entry .args .p) (entry .args .grid .now) (entry .pre .0) _ _
+    (at-section-bytes .section-bytes .ensures ∙ ap sectionBytes (at-pbch-bits .pbch-bits .ensures)) (c .before .users-start .ensures) .0
 
 part-read-his-end : tie.Need-part-read-his-end
-part-read-his-end c = acks-room (c .before .before .before .before .before .before .before .args .plan .now) (c .before .before .before .before .before .before .before .args .p) (c .before .before .before .before .before .before .before .args .grid .now) (c .before .before .before .before .before .before .before .pre .0) _ _ (c .before .before .section-bytes .ensures ∙ ap sectionBytes (c .before .before .before .pbch-bits .ensures)) (c .before .users-start .ensures) .1
+part-read-his-end c =
+    let at-section-bytes = c .before .before in let at-pbch-bits = at-section-bytes .before in
+    let entry = at-pbch-bits .before .before .before .before in
+    acks-room (entry .args .plan .now) (entry .args .p) (entry .args .grid .now) (entry .pre .0) _ _
+    (at-section-bytes .section-bytes .ensures ∙ ap sectionBytes (at-pbch-bits .pbch-bits .ensures)) (c .before .users-start .ensures) .1
 
 read-his-requires : tie.Need-read-his-requires
-read-his-requires c κs = acks-in (c .before .before .before .before .before .before .before .before .args .plan .now) (c .before .before .before .before .before .before .before .before .args .p) (c .before .before .before .before .before .before .before .before .args .grid .now) (c .before .before .before .before .before .before .before .before .pre .0) _ _ (c .before .before .before .section-bytes .ensures ∙ ap sectionBytes (c .before .before .before .before .pbch-bits .ensures)) (c .before .before .users-start .ensures)
+read-his-requires c κs =
+    let at-users-start = c .before .before in let at-section-bytes = at-users-start .before in let at-pbch-bits = at-section-bytes .before in
+    let entry = at-pbch-bits .before .before .before .before in
+    acks-in (entry .args .plan .now) (entry .args .p) (entry .args .grid .now) (entry .pre .0) _ _
+    (at-section-bytes .section-bytes .ensures ∙ ap sectionBytes (at-pbch-bits .pbch-bits .ensures)) (at-users-start .users-start .ensures)
 
 same-length : tie.Need-same-length
 same-length c = search needs
 
 returns : tie.Need-returns
-returns c = acks-read (c .before .before .before .before .before .before .before .before .before .before .before .args .plan .now) (c .before .before .before .before .before .before .before .before .before .before .before .args .p) (c .before .before .before .before .before .before .before .before .before .before .before .args .grid .now) (c .before .before .before .before .before .before .before .before .before .before .before .pre .0) _ _ (c .before .before .before .before .before .before .section-bytes .ensures ∙ ap sectionBytes (c .before .before .before .before .before .before .before .pbch-bits .ensures)) (c .before .before .before .before .before .users-start .ensures) (c .before .before .before .before .before .before .before .before .before .before .before .pre .1) _ (c .before .before .before .before .started .ensures) _ (c .before .before .read-his .ensures .0)
+returns c =
+    let at-read-his = c .before .before in let at-started = at-read-his .before .before in let at-users-start = at-started .before in
+    let at-section-bytes = at-users-start .before in let at-pbch-bits = at-section-bytes .before in
+    let entry = at-pbch-bits .before .before .before .before in
+    acks-read (entry .args .plan .now) (entry .args .p) (entry .args .grid .now) (entry .pre .0) _ _
+    (at-section-bytes .section-bytes .ensures ∙ ap sectionBytes (at-pbch-bits .pbch-bits .ensures)) (at-users-start .users-start .ensures) (entry .pre .1) _
+    (at-started .started .ensures) _ (at-read-his .read-his .ensures .0)
 
 pub read-acks-spec : {M : Type 1} → statement M
 read-acks-spec =

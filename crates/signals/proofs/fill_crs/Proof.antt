@@ -13,7 +13,15 @@ crs-first-requires : tie.Need-crs-first-requires
 crs-first-requires c κs = omega (arith, few-ports (c .before .before .args .cell .ports) (c .before .before .pre .cell .ports), c .before .before .pre .port)
 
 add-first : tie.Need-add-first
-add-first c = omega (arith, row-at-most (c .before .before .before .args .cell) (c .before .before .before .args .s) (c .before .before .before .args .port) (omega arith) (omega arith) (omega (arith, symbols-most (c .before .before .before .args .cell), c .before .before .before .pre .symbol)), c .before .row-at .ensures, c .crs-first .ensures)
+add-first c =
+    let entry = c .before .before .before in
+    omega (
+      arith,
+      row-at-most (entry .args .cell) (entry .args .s) (entry .args .port) (omega arith) (omega arith)
+          (omega (arith, symbols-most (entry .args .cell), entry .pre .symbol)),
+      c .before .row-at .ensures,
+      c .crs-first .ensures,
+    )
 
 wide-requires : tie.Need-wide-requires
 wide-requires c κs = tt
@@ -22,13 +30,19 @@ mul-fill-values : tie.Need-mul-fill-values
 mul-fill-values c = omega arith
 
 fill-values-requires : tie.Need-fill-values-requires
-fill-values-requires c κs = crs-inside (c .before .before .before .before .before .args .cell) (c .before .before .before .before .before .args .s) (c .before .before .before .before .before .args .port) (c .before .before .before .row-at .ensures) (c .before .before .crs-first .ensures) (c .before .wide .ensures) (c .before .before .before .before .before .pre)
+fill-values-requires c κs =
+    let at-crs-first = c .before .before in let at-row-at = at-crs-first .before in let entry = at-row-at .before .before in
+    crs-inside (entry .args .cell) (entry .args .s) (entry .args .port) (at-row-at .row-at .ensures) (at-crs-first .crs-first .ensures) (c .before .wide .ensures) (entry .pre)
 
 same-length : tie.Need-same-length
 same-length c = c .before .before .fill-values .ensures .0 .size
 
 returns : tie.Need-returns
-returns c = crs-done (c .before .before .before .before .before .before .before .before .args .cell) (c .before .before .before .before .before .before .before .before .args .s) (c .before .before .before .before .before .before .before .before .args .port) (c .before .before .before .before .before .before .row-at .ensures) (c .before .before .before .before .before .crs-first .ensures) (c .before .before .before .before .wide .ensures) (c .before .before .before .before .before .before .before .before .pre) (c .before .before .before .before .before .before .before .before .args .r) (c .before .before .fill-values .ensures)
+returns c =
+    let at-fill-values = c .before .before in let at-wide = at-fill-values .before .before in let at-crs-first = at-wide .before in
+    let at-row-at = at-crs-first .before in let entry = at-row-at .before .before in
+    crs-done (entry .args .cell) (entry .args .s) (entry .args .port) (at-row-at .row-at .ensures) (at-crs-first .crs-first .ensures) (at-wide .wide .ensures) (entry .pre)
+    (entry .args .r) (at-fill-values .fill-values .ensures)
 
 pub fill-crs-spec : {M : Type 1} → statement M
 fill-crs-spec =

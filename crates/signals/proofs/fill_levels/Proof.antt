@@ -34,13 +34,19 @@ loop-less : tie.Need-loop-less Inv-loop μ-loop
 loop-less c = omega arith
 
 loop-again : tie.Need-loop-again Inv-loop μ-loop
-loop-again c = level-turn (c .before .before .before .before .before .before .before .before .before .args .d) (c .before .before .before .before .before .before .before .before .before .args .first) (c .before .before .before .before .before .before .before .loop .i) (c .before .before .before .before .before .before .loop-test .taken) (c .before .before .before .before .before .before .before .loop .inv) (c .before .before .before .before .before .sss-level .ensures) (c .before .before .before .element-of .ensures) (c .before .before .put .ensures)
+loop-again c =
+    let at-put = c .before .before in let at-element-of = at-put .before in let at-sss-level = at-element-of .before .before in
+    let at-loop-test = at-sss-level .before in let at-loop = at-loop-test .before in let entry = at-loop .before .before in
+    level-turn (entry .args .d) (entry .args .first) (at-loop .loop .i) (at-loop-test .loop-test .taken) (at-loop .loop .inv) (at-sss-level .sss-level .ensures)
+    (at-element-of .element-of .ensures) (at-put .put .ensures)
 
 same-length : tie.Need-same-length Inv-loop μ-loop
 same-length c = c .before .loop .inv .done .size
 
 returns : tie.Need-returns Inv-loop μ-loop
-returns c = row-last (levelSent (c .before .before .before .args .d) (c .before .before .before .args .first)) (c .before .before .before .args .first) (c .before .loop .i) (c .before .loop .inv) (omega arith)
+returns c =
+    let entry = c .before .before .before in
+    row-last (levelSent (entry .args .d) (entry .args .first)) (entry .args .first) (c .before .loop .i) (c .before .loop .inv) (omega arith)
 
 pub fill-levels-spec : {M : Type 1} → statement M
 fill-levels-spec =

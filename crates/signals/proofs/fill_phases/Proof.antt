@@ -31,13 +31,19 @@ loop-less : tie.Need-loop-less Inv-loop μ-loop
 loop-less c = omega arith
 
 loop-again : tie.Need-loop-again Inv-loop μ-loop
-loop-again c = phase-turn (c .before .before .before .before .before .before .before .before .args .identity) (c .before .before .before .before .before .before .before .before .args .first) (c .before .before .before .before .before .before .loop .i) (c .before .before .before .before .before .loop-test .taken) (c .before .before .before .before .before .before .loop .inv) (c .before .before .before .before .pss-phase .ensures) (c .before .before .put .ensures)
+loop-again c =
+    let at-put = c .before .before in let at-pss-phase = at-put .before .before in let at-loop-test = at-pss-phase .before in
+    let at-loop = at-loop-test .before in let entry = at-loop .before .before in
+    phase-turn (entry .args .identity) (entry .args .first) (at-loop .loop .i) (at-loop-test .loop-test .taken) (at-loop .loop .inv) (at-pss-phase .pss-phase .ensures)
+    (at-put .put .ensures)
 
 same-length : tie.Need-same-length Inv-loop μ-loop
 same-length c = c .before .loop .inv .done .size
 
 returns : tie.Need-returns Inv-loop μ-loop
-returns c = row-last (phaseSent (c .before .before .before .args .identity) (c .before .before .before .args .first)) (c .before .before .before .args .first) (c .before .loop .i) (c .before .loop .inv) (omega arith)
+returns c =
+    let entry = c .before .before .before in
+    row-last (phaseSent (entry .args .identity) (entry .args .first)) (entry .args .first) (c .before .loop .i) (c .before .loop .inv) (omega arith)
 
 pub fill-phases-spec : {M : Type 1} → statement M
 fill-phases-spec =

@@ -11,13 +11,19 @@ mark-at-requires : tie.Need-mark-at-requires
 mark-at-requires c κs = (c .before .before .pre .cell, omega arith)
 
 fill-levels-requires : tie.Need-fill-levels-requires
-fill-levels-requires c κs = mark-inside (c .before .before .before .before .args .cell) (c .before .before .before .before .pre .cell) 2 _ (omega arith, omega arith) (c .before .mark-at .ensures) (c .before .before .before .before .pre)
+fill-levels-requires c κs =
+    let entry = c .before .before .before .before in
+    mark-inside (entry .args .cell) (entry .pre .cell) 2 _ (omega arith, omega arith) (c .before .mark-at .ensures) (entry .pre)
 
 same-length : tie.Need-same-length
 same-length c = c .before .before .fill-levels .ensures .size
 
 returns : tie.Need-returns
-returns c = sss-done (c .before .before .before .before .before .before .before .args .cell) (c .before .before .before .before .before .before .before .pre .cell) 2 _ (omega arith, omega arith) (c .before .before .before .before .mark-at .ensures) (c .before .before .before .before .before .before .before .args .frame) _ (c .before .before .before .before .before .sss-for .ensures) (c .before .before .fill-levels .ensures)
+returns c =
+    let at-fill-levels = c .before .before in let at-mark-at = at-fill-levels .before .before in let at-sss-for = at-mark-at .before in
+    let entry = at-sss-for .before .before in
+    sss-done (entry .args .cell) (entry .pre .cell) 2 _ (omega arith, omega arith) (at-mark-at .mark-at .ensures) (entry .args .frame) _ (at-sss-for .sss-for .ensures)
+    (at-fill-levels .fill-levels .ensures)
 
 pub fill-sss-spec : {M : Type 1} → statement M
 fill-sss-spec =

@@ -48,7 +48,11 @@ loop-less : tie.Need-loop-less Inv-loop μ-loop
 loop-less c = omega (arith, c .before .before .before .before .before .before .at-once .ensures)
 
 loop-again : tie.Need-loop-again Inv-loop μ-loop
-loop-again c = values-turn (c .before .before .before .before .before .before .before .before .before .before .args .r) (c .before .before .before .before .before .before .before .before .before .before .args .n) (c .before .before .before .before .before .before .before .before .before .before .args .first) (c .before .before .before .before .before .before .before .before .loop .m) (c .before .before .before .before .before .before .at-once .result) (c .before .before .before .before .before .word .result) (omega (arith, c .before .before .before .before .before .before .at-once .ensures)) (c .before .before .before .before .before .before .before .before .loop .inv) (c .before .before .before .before .before .word .ensures) (c .before .before .before .fill-word .ensures) (c .advance .ensures)
+loop-again c =
+    let at-fill-word = c .before .before .before in let at-word = at-fill-word .before .before in let at-at-once = at-word .before in
+    let at-loop = at-at-once .before .before in let entry = at-loop .before .before in
+    values-turn (entry .args .r) (entry .args .n) (entry .args .first) (at-loop .loop .m) (at-at-once .at-once .result) (at-word .word .result)
+    (omega (arith, at-at-once .at-once .ensures)) (at-loop .loop .inv) (at-word .word .ensures) (at-fill-word .fill-word .ensures) (c .advance .ensures)
 
 same-length : tie.Need-same-length Inv-loop μ-loop
 same-length c = c .before .loop .inv .done .size

@@ -51,7 +51,11 @@ loop-less : tie.Need-loop-less Inv-loop μ-loop
 loop-less c = omega arith
 
 loop-again : tie.Need-loop-again Inv-loop μ-loop
-loop-again c = word-turn (c .before .before .before .before .before .before .before .before .before .args .word) (c .before .before .before .before .before .before .before .before .before .args .n) (c .before .before .before .before .before .before .before .before .before .args .first) (c .before .before .before .before .before .before .before .loop .i) (c .before .before .before .before .before .before .loop-test .taken) (c .before .before .before .before .before .before .before .loop .inv) (c .before .before .before .before .before .value .ensures) (c .before .before .before .element-of .ensures) (c .before .before .put .ensures)
+loop-again c =
+    let at-put = c .before .before in let at-element-of = at-put .before in let at-value = at-element-of .before .before in
+    let at-loop-test = at-value .before in let at-loop = at-loop-test .before in let entry = at-loop .before .before in
+    word-turn (entry .args .word) (entry .args .n) (entry .args .first) (at-loop .loop .i) (at-loop-test .loop-test .taken) (at-loop .loop .inv) (at-value .value .ensures)
+    (at-element-of .element-of .ensures) (at-put .put .ensures)
 
 same-length : tie.Need-same-length Inv-loop μ-loop
 same-length c = c .before .loop .inv .done .size

@@ -27,7 +27,14 @@ sub-result : tie.Need-sub-result
 sub-result c = omega (arith, big (c .before .before .before .args .cell .blocks) (c .before .before .before .pre .0 .blocks), c .wide .ensures)
 
 add-result : tie.Need-add-result
-add-result c = omega (arith, row-at-most (c .before .before .before .args .cell) (c .before .before .slot-length .result - c .before .before .before .args .y) 0 (omega arith) (omega arith) (omega (arith, c .before .before .slot-length .ensures, slot-length (c .before .before .before .args .cell))), c .before .row-at .ensures)
+add-result c =
+    let at-slot-length = c .before .before in let entry = at-slot-length .before in
+    omega (
+      arith,
+      row-at-most (entry .args .cell) (at-slot-length .slot-length .result - entry .args .y) 0 (omega arith) (omega arith)
+          (omega (arith, at-slot-length .slot-length .ensures, slot-length (entry .args .cell))),
+      c .before .row-at .ensures,
+    )
 
 returns : tie.Need-returns
 returns c = mark-first (c .before .before .before .args .cell) (c .before .before .before .args .y) (c .before .before .slot-length .ensures) (c .before .row-at .ensures) (c .wide .ensures)

@@ -160,7 +160,9 @@ fill-requires-2 c κs =
 -- src/lib.rt:43:21
 users-count-requires : tie.Need-users-count-requires
 users-count-requires c κs =
-    let at-checked = c .before .before .before .before .before .before .before .before .before .before .before .before .before .before .before .before .before .before .before in let at-check = at-checked .before .before in
+    let at-checked =
+    let at-b19 = c .before .before .before .before .before .before .before .before .before .before .before .before .before .before .before .before .before .before .before in
+    at-b19 in let at-check = at-checked .before .before in
     (sym (at-check .check .ensures) ∙ at-checked .checked .given .1)
 
 -- src/lib.rt:9:1

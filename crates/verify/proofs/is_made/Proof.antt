@@ -17,10 +17,14 @@ enum-told : tie.Need-enum-told
 enum-told c = search needs
 
 returns : tie.Need-returns
-returns c = answer-weight (c .before .before .before .before .before .before .before .args .plan .now) (c .before .before .before .before .before .before .before .args .p) (c .before .before .before .before .before .before .before .args .grid .now) (c .before .before .before .before .before .before .before .pre) (c .before .before .n .given .1) (c .weight .ensures) (c .before .before .before .before .see-all .ensures)
+returns c =
+    let at-n = c .before .before in let at-see-all = at-n .before .before in let entry = at-see-all .before .before .before in
+    answer-weight (entry .args .plan .now) (entry .args .p) (entry .args .grid .now) (entry .pre) (at-n .n .given .1) (c .weight .ensures) (at-see-all .see-all .ensures)
 
 returns-2 : tie.Need-returns-2
-returns-2 c = answer-differs (c .before .before .before .before .before .args .plan .now) (c .before .before .before .before .before .args .p) (c .before .before .before .before .before .args .grid .now) (c .before .before .before .before .before .pre) (c .enum-told .given .1) (c .before .before .see-all .ensures)
+returns-2 c =
+    let at-see-all = c .before .before in let entry = at-see-all .before .before .before in
+    answer-differs (entry .args .plan .now) (entry .args .p) (entry .args .grid .now) (entry .pre) (c .enum-told .given .1) (at-see-all .see-all .ensures)
 
 pub is-made-spec : {M : Type 1} → statement M
 is-made-spec =

@@ -17,28 +17,59 @@ see-pbch-requires : tie.Need-see-pbch-requires
 see-pbch-requires c κs = c .before .before .before .before .before .pre
 
 both-requires-2 : tie.Need-both-requires-2
-both-requires-2 c κs = let m = marks-joined (c .before .before .before .before .before .before .args .plan .now) (c .before .before .before .before .before .before .args .p) (c .before .before .before .before .before .before .pre) (c .before .both .ensures) (c .before .before .before .see-crs .ensures) (c .before .before .see-marks .ensures) in (few (c .before .before .before .before .before .before .pre .room) m, few (c .before .before .before .before .before .before .pre .room) (c .see-pbch .ensures))
+both-requires-2 c κs =
+    let at-see-marks = c .before .before in let at-see-crs = at-see-marks .before in let entry = at-see-crs .before .before .before in
+    let m = marks-joined (entry .args .plan .now) (entry .args .p) (entry .pre) (c .before .both .ensures) (at-see-crs .see-crs .ensures) (at-see-marks .see-marks .ensures) in
+    (few (entry .pre .room) m, few (entry .pre .room) (c .see-pbch .ensures))
 
 see-pcfich-requires : tie.Need-see-pcfich-requires
 see-pcfich-requires c κs = c .before .before .before .before .before .before .before .pre
 
 both-requires-3 : tie.Need-both-requires-3
-both-requires-3 c κs = let m = marks-joined (c .before .before .before .before .before .before .before .before .args .plan .now) (c .before .before .before .before .before .before .before .before .args .p) (c .before .before .before .before .before .before .before .before .pre) (c .before .before .before .both .ensures) (c .before .before .before .before .before .see-crs .ensures) (c .before .before .before .before .see-marks .ensures) in let b = pbch-joined (c .before .before .before .before .before .before .before .before .args .plan .now) (c .before .before .before .before .before .before .before .before .args .p) (c .before .before .before .before .before .before .before .before .pre) (c .before .both2 .ensures) m (c .before .before .see-pbch .ensures) in (few (c .before .before .before .before .before .before .before .before .pre .room) b, few (c .before .before .before .before .before .before .before .before .pre .room) (c .see-pcfich .ensures))
+both-requires-3 c κs =
+    let at-see-pbch = c .before .before in let at-both = at-see-pbch .before in let at-see-marks = at-both .before in
+    let at-see-crs = at-see-marks .before in let entry = at-see-crs .before .before .before in
+    let m = marks-joined (entry .args .plan .now) (entry .args .p) (entry .pre) (at-both .both .ensures) (at-see-crs .see-crs .ensures) (at-see-marks .see-marks .ensures) in
+    let b = pbch-joined (entry .args .plan .now) (entry .args .p) (entry .pre) (c .before .both2 .ensures) m (at-see-pbch .see-pbch .ensures) in
+    (few (entry .pre .room) b, few (entry .pre .room) (c .see-pcfich .ensures))
 
 see-units-requires : tie.Need-see-units-requires
 see-units-requires c κs = c .before .before .before .before .before .before .before .before .before .pre
 
 both-requires-4 : tie.Need-both-requires-4
-both-requires-4 c κs = let m = marks-joined (c .before .before .before .before .before .before .before .before .before .before .args .plan .now) (c .before .before .before .before .before .before .before .before .before .before .args .p) (c .before .before .before .before .before .before .before .before .before .before .pre) (c .before .before .before .before .before .both .ensures) (c .before .before .before .before .before .before .before .see-crs .ensures) (c .before .before .before .before .before .before .see-marks .ensures) in let b = pbch-joined (c .before .before .before .before .before .before .before .before .before .before .args .plan .now) (c .before .before .before .before .before .before .before .before .before .before .args .p) (c .before .before .before .before .before .before .before .before .before .before .pre) (c .before .before .before .both2 .ensures) m (c .before .before .before .before .see-pbch .ensures) in let f = pcfich-joined (c .before .before .before .before .before .before .before .before .before .before .args .plan .now) (c .before .before .before .before .before .before .before .before .before .before .args .p) (c .before .before .before .before .before .before .before .before .before .before .pre) (c .before .both3 .ensures) b (c .before .before .see-pcfich .ensures) in (few (c .before .before .before .before .before .before .before .before .before .before .pre .room) f, few (c .before .before .before .before .before .before .before .before .before .before .pre .room) (c .see-units .ensures))
+both-requires-4 c κs =
+    let at-see-pcfich = c .before .before in let at-both2 = at-see-pcfich .before in let at-see-pbch = at-both2 .before in
+    let at-both = at-see-pbch .before in let at-see-marks = at-both .before in let at-see-crs = at-see-marks .before in
+    let entry = at-see-crs .before .before .before in
+    let m = marks-joined (entry .args .plan .now) (entry .args .p) (entry .pre) (at-both .both .ensures) (at-see-crs .see-crs .ensures) (at-see-marks .see-marks .ensures) in
+    let b = pbch-joined (entry .args .plan .now) (entry .args .p) (entry .pre) (at-both2 .both2 .ensures) m (at-see-pbch .see-pbch .ensures) in let f = pcfich-joined
+    (entry .args .plan .now) (entry .args .p) (entry .pre) (c .before .both3 .ensures) b (at-see-pcfich .see-pcfich .ensures) in
+    (few (entry .pre .room) f, few (entry .pre .room) (c .see-units .ensures))
 
 see-users-requires : tie.Need-see-users-requires
 see-users-requires c κs = c .before .before .before .before .before .before .before .before .before .before .before .pre
 
 both-requires-5 : tie.Need-both-requires-5
-both-requires-5 c κs = let m = marks-joined (c .before .before .before .before .before .before .before .before .before .before .before .before .args .plan .now) (c .before .before .before .before .before .before .before .before .before .before .before .before .args .p) (c .before .before .before .before .before .before .before .before .before .before .before .before .pre) (c .before .before .before .before .before .before .before .both .ensures) (c .before .before .before .before .before .before .before .before .before .see-crs .ensures) (c .before .before .before .before .before .before .before .before .see-marks .ensures) in let b = pbch-joined (c .before .before .before .before .before .before .before .before .before .before .before .before .args .plan .now) (c .before .before .before .before .before .before .before .before .before .before .before .before .args .p) (c .before .before .before .before .before .before .before .before .before .before .before .before .pre) (c .before .before .before .before .before .both2 .ensures) m (c .before .before .before .before .before .before .see-pbch .ensures) in let f = pcfich-joined (c .before .before .before .before .before .before .before .before .before .before .before .before .args .plan .now) (c .before .before .before .before .before .before .before .before .before .before .before .before .args .p) (c .before .before .before .before .before .before .before .before .before .before .before .before .pre) (c .before .before .before .both3 .ensures) b (c .before .before .before .before .see-pcfich .ensures) in let u = units-joined (c .before .before .before .before .before .before .before .before .before .before .before .before .args .plan .now) (c .before .before .before .before .before .before .before .before .before .before .before .before .args .p) (c .before .before .before .before .before .before .before .before .before .before .before .before .pre) (c .before .both4 .ensures) f (c .before .before .see-units .ensures) in (few (c .before .before .before .before .before .before .before .before .before .before .before .before .pre .room) u, few (c .before .before .before .before .before .before .before .before .before .before .before .before .pre .room) (c .see-users .ensures))
+both-requires-5 c κs =
+    let at-see-units = c .before .before in let at-both3 = at-see-units .before in let at-see-pcfich = at-both3 .before in
+    let at-both2 = at-see-pcfich .before in let at-see-pbch = at-both2 .before in let at-both = at-see-pbch .before in
+    let at-see-marks = at-both .before in let at-see-crs = at-see-marks .before in let entry = at-see-crs .before .before .before in
+    let m = marks-joined (entry .args .plan .now) (entry .args .p) (entry .pre) (at-both .both .ensures) (at-see-crs .see-crs .ensures) (at-see-marks .see-marks .ensures) in
+    let b = pbch-joined (entry .args .plan .now) (entry .args .p) (entry .pre) (at-both2 .both2 .ensures) m (at-see-pbch .see-pbch .ensures) in let f = pcfich-joined
+    (entry .args .plan .now) (entry .args .p) (entry .pre) (at-both3 .both3 .ensures) b (at-see-pcfich .see-pcfich .ensures) in let u = units-joined (entry .args .plan .now)
+    (entry .args .p) (entry .pre) (c .before .both4 .ensures) f (at-see-units .see-units .ensures) in (few (entry .pre .room) u, few (entry .pre .room) (c .see-users .ensures))
 
 returns : tie.Need-returns
-returns c = let m = marks-joined (c .before .before .before .before .before .before .before .before .before .before .before .before .before .args .plan .now) (c .before .before .before .before .before .before .before .before .before .before .before .before .before .args .p) (c .before .before .before .before .before .before .before .before .before .before .before .before .before .pre) (c .before .before .before .before .before .before .before .before .both .ensures) (c .before .before .before .before .before .before .before .before .before .before .see-crs .ensures) (c .before .before .before .before .before .before .before .before .before .see-marks .ensures) in let b = pbch-joined (c .before .before .before .before .before .before .before .before .before .before .before .before .before .args .plan .now) (c .before .before .before .before .before .before .before .before .before .before .before .before .before .args .p) (c .before .before .before .before .before .before .before .before .before .before .before .before .before .pre) (c .before .before .before .before .before .before .both2 .ensures) m (c .before .before .before .before .before .before .before .see-pbch .ensures) in let f = pcfich-joined (c .before .before .before .before .before .before .before .before .before .before .before .before .before .args .plan .now) (c .before .before .before .before .before .before .before .before .before .before .before .before .before .args .p) (c .before .before .before .before .before .before .before .before .before .before .before .before .before .pre) (c .before .before .before .before .both3 .ensures) b (c .before .before .before .before .before .see-pcfich .ensures) in let u = units-joined (c .before .before .before .before .before .before .before .before .before .before .before .before .before .args .plan .now) (c .before .before .before .before .before .before .before .before .before .before .before .before .before .args .p) (c .before .before .before .before .before .before .before .before .before .before .before .before .before .pre) (c .before .before .both4 .ensures) f (c .before .before .before .see-units .ensures) in users-joined (c .before .before .before .before .before .before .before .before .before .before .before .before .before .args .plan .now) (c .before .before .before .before .before .before .before .before .before .before .before .before .before .args .p) (c .before .before .before .before .before .before .before .before .before .before .before .before .before .pre) (c .both5 .ensures) u (c .before .see-users .ensures)
+returns c =
+    let at-both4 = c .before .before in let at-see-units = at-both4 .before in let at-both3 = at-see-units .before in
+    let at-see-pcfich = at-both3 .before in let at-both2 = at-see-pcfich .before in let at-see-pbch = at-both2 .before in
+    let at-both = at-see-pbch .before in let at-see-marks = at-both .before in let at-see-crs = at-see-marks .before in
+    let entry = at-see-crs .before .before .before in
+    let m = marks-joined (entry .args .plan .now) (entry .args .p) (entry .pre) (at-both .both .ensures) (at-see-crs .see-crs .ensures) (at-see-marks .see-marks .ensures) in
+    let b = pbch-joined (entry .args .plan .now) (entry .args .p) (entry .pre) (at-both2 .both2 .ensures) m (at-see-pbch .see-pbch .ensures) in let f = pcfich-joined
+    (entry .args .plan .now) (entry .args .p) (entry .pre) (at-both3 .both3 .ensures) b (at-see-pcfich .see-pcfich .ensures) in let u = units-joined (entry .args .plan .now)
+    (entry .args .p) (entry .pre) (at-both4 .both4 .ensures) f (at-see-units .see-units .ensures) in users-joined (entry .args .plan .now) (entry .args .p) (entry .pre)
+    (c .both5 .ensures) u (c .before .see-users .ensures)
 
 pub see-all-spec : {M : Type 1} → statement M
 see-all-spec =

@@ -34,7 +34,9 @@ see-crs-row-requires : tie.Need-see-crs-row-requires Inv-loop μ-loop
 see-crs-row-requires c κs = (c .before .before .before .before .before .pre, omega (arith, c .loop-test .taken, c .before .before .slot-length .ensures))
 
 both-requires : tie.Need-both-requires Inv-loop μ-loop
-both-requires c κs = (few (c .before .before .before .before .before .before .pre .room) (c .before .before .loop .inv .1), few (c .before .before .before .before .before .before .pre .room) (c .see-crs-row .ensures))
+both-requires c κs =
+    let at-loop = c .before .before in let entry = at-loop .before .before .before .before in
+    (few (entry .pre .room) (at-loop .loop .inv .1), few (entry .pre .room) (c .see-crs-row .ensures))
 
 add-s : tie.Need-add-s Inv-loop μ-loop
 add-s c = omega (arith, c .before .before .before .loop .inv .0, symbols-most (c .before .before .before .before .before .before .before .args .p .cell))
@@ -43,10 +45,19 @@ loop-less : tie.Need-loop-less Inv-loop μ-loop
 loop-less c = omega (arith, c .before .before .loop-test .taken, c .before .before .before .before .slot-length .ensures)
 
 loop-again : tie.Need-loop-again Inv-loop μ-loop
-loop-again c = (omega (arith, c .before .before .loop-test .taken, c .before .before .before .before .slot-length .ensures), rows-more (c .before .before .before .before .before .before .before .args .plan .now) (c .before .before .before .before .before .before .before .args .p) (c .before .before .before .before .before .before .before .pre) (c .before .before .before .loop .s) (c .both .ensures) (c .before .before .before .loop .inv .1) (c .before .see-crs-row .ensures))
+loop-again c =
+    let at-loop-test = c .before .before in let at-loop = at-loop-test .before in let at-slot-length = at-loop .before in
+    let entry = at-slot-length .before .before .before in (
+      omega (arith, at-loop-test .loop-test .taken, at-slot-length .slot-length .ensures),
+      rows-more (entry .args .plan .now) (entry .args .p) (entry .pre) (at-loop .loop .s)
+          (c .both .ensures) (at-loop .loop .inv .1) (c .before .see-crs-row .ensures),
+    )
 
 returns : tie.Need-returns Inv-loop μ-loop
-returns c = rows-end (c .before .before .before .before .before .args .plan .now) (c .before .before .before .before .before .args .p) (c .before .before .before .before .before .pre) (c .before .loop .s) _ (c .before .loop .inv .0) (c .loop-test .left) (ap (λ (x : ℕ). 2 * x) (c .before .before .slot-length .ensures)) (c .before .loop .inv .1)
+returns c =
+    let at-slot-length = c .before .before in let entry = at-slot-length .before .before .before in
+    rows-end (entry .args .plan .now) (entry .args .p) (entry .pre) (c .before .loop .s) _ (c .before .loop .inv .0) (c .loop-test .left)
+    (ap (λ (x : ℕ). 2 * x) (at-slot-length .slot-length .ensures)) (c .before .loop .inv .1)
 
 pub see-crs-spec : {M : Type 1} → statement M
 see-crs-spec =

@@ -28,16 +28,22 @@ crs-uses-requires : tie.Need-crs-uses-requires Inv-loop μ-loop
 crs-uses-requires c κs = tt
 
 started-requires : tie.Need-started-requires Inv-loop μ-loop
-started-requires c κs = crs-starts (c .before .before .before .before .before .before .before .before .args .plan .now) (c .before .before .before .before .before .before .before .before .args .p) (c .before .before .before .before .before .before .before .before .pre .0) (c .before .before .before .before .before .before .before .before .args .s) (c .before .before .before .before .before .before .before .before .pre .1) (c .before .before .before .before .before .loop .q) (c .before .before .before .if1 .taken)
+started-requires c κs =
+    let at-if1 = c .before .before .before in let at-loop = at-if1 .before .before in let entry = at-loop .before .before .before in
+    crs-starts (entry .args .plan .now) (entry .args .p) (entry .pre .0) (entry .args .s) (entry .pre .1) (at-loop .loop .q) (at-if1 .if1 .taken)
 
 wide-requires-2 : tie.Need-wide-requires-2 Inv-loop μ-loop
 wide-requires-2 c κs = tt
 
 compare-crs-requires : tie.Need-compare-crs-requires Inv-loop μ-loop
-compare-crs-requires c κs = crs-ready (c .before .before .before .before .before .before .before .before .before .before .args .plan .now) (c .before .before .before .before .before .before .before .before .before .before .args .p) (c .before .before .before .before .before .before .before .before .before .before .pre .0) (c .before .before .before .before .before .before .before .before .before .before .args .s) (c .before .before .before .before .before .before .before .before .before .before .pre .1) (c .before .before .before .before .before .before .before .loop .q) (c .before .before .before .before .before .if1 .taken) _ (c .wide2 .ensures)
+compare-crs-requires c κs =
+    let at-if1 = c .before .before .before .before .before in let at-loop = at-if1 .before .before in let entry = at-loop .before .before .before in
+    crs-ready (entry .args .plan .now) (entry .args .p) (entry .pre .0) (entry .args .s) (entry .pre .1) (at-loop .loop .q) (at-if1 .if1 .taken) _ (c .wide2 .ensures)
 
 both-requires : tie.Need-both-requires Inv-loop μ-loop
-both-requires c κs = (few (c .before .before .before .before .before .before .before .before .before .before .before .pre .0 .room) (c .before .before .before .before .before .before .before .before .loop .inv .1), few (c .before .before .before .before .before .before .before .before .before .before .before .pre .0 .room) (c .compare-crs .ensures))
+both-requires c κs =
+    let at-loop = c .before .before .before .before .before .before .before .before in let entry = at-loop .before .before .before in
+    (few (entry .pre .0 .room) (at-loop .loop .inv .1), few (entry .pre .0 .room) (c .compare-crs .ensures))
 
 add-q : tie.Need-add-q Inv-loop μ-loop
 add-q c = omega (arith, c .before .before .before .if1 .taken, c .before .before .before .before .before .before .before .before .pre .0 .room .most)
@@ -46,10 +52,21 @@ loop-less : tie.Need-loop-less Inv-loop μ-loop
 loop-less c = omega (arith, c .before .before .before .if1 .taken)
 
 loop-again : tie.Need-loop-again Inv-loop μ-loop
-loop-again c = let u = c .before .crs-uses .ensures ∙ ap (crsSymbol (c .before .before .before .before .before .before .before .before .args .p .cell) (c .before .before .before .before .before .loop .q)) (c .before .before .wide .ensures) in (omega (arith, c .before .before .before .if1 .taken), ⊎-elim (λ x. rw (x .5) (crs-more (c .before .before .before .before .before .before .before .before .args .plan .now) (c .before .before .before .before .before .before .before .before .args .p) (c .before .before .before .before .before .before .before .before .pre .0) (c .before .before .before .before .before .before .before .before .args .s) (c .before .before .before .before .before .loop .q) (c .before .before .before .before .before .loop .inv .1) _ _ (x .2 .ensures) (x .1 .ensures) (x .4 .ensures) (sym u ∙ x .0 .taken) (c .before .before .before .if1 .taken) (x .3 .ensures))) (λ x. rw (x .1) (crs-pass (c .before .before .before .before .before .before .before .before .args .plan .now) (c .before .before .before .before .before .before .before .before .args .p) (c .before .before .before .before .before .before .before .before .pre .0) (c .before .before .before .before .before .before .before .before .args .s) (c .before .before .before .before .before .loop .q) (c .before .before .before .before .before .loop .inv .1) (sym u ∙ x .0 .left))) (c .if2 .came))
+loop-again c =
+    let at-wide = c .before .before in let at-if1 = at-wide .before in let at-loop = at-if1 .before .before in
+    let entry = at-loop .before .before .before in
+    let u = c .before .crs-uses .ensures ∙ ap (crsSymbol (entry .args .p .cell) (at-loop .loop .q)) (at-wide .wide .ensures) in (
+      omega (arith, at-if1 .if1 .taken),
+      ⊎-elim (λ x. rw (x .5) (crs-more (entry .args .plan .now) (entry .args .p) (entry .pre .0) (entry .args .s) (at-loop .loop .q)
+          (at-loop .loop .inv .1) _ _ (x .2 .ensures) (x .1 .ensures) (x .4 .ensures) (sym u ∙ x .0 .taken) (at-if1 .if1 .taken) (x .3 .ensures)))
+          (λ x. rw (x .1) (crs-pass (entry .args .plan .now) (entry .args .p) (entry .pre .0) (entry .args .s) (at-loop .loop .q) (at-loop .loop .inv .1) (sym u ∙ x .0 .left)))
+          (c .if2 .came),
+    )
 
 returns : tie.Need-returns Inv-loop μ-loop
-returns c = crs-end (c .before .before .before .before .before .args .plan .now) (c .before .before .before .before .before .args .p) (c .before .before .before .before .before .pre .0) (c .before .before .before .before .before .args .s) (c .before .before .loop .q) (c .before .before .loop .inv .0) (c .if1 .left) (c .before .before .loop .inv .1)
+returns c =
+    let at-loop = c .before .before in let entry = at-loop .before .before .before in
+    crs-end (entry .args .plan .now) (entry .args .p) (entry .pre .0) (entry .args .s) (at-loop .loop .q) (at-loop .loop .inv .0) (c .if1 .left) (at-loop .loop .inv .1)
 
 pub see-crs-row-spec : {M : Type 1} → statement M
 see-crs-row-spec =

@@ -12,16 +12,26 @@ compare-pss-requires : tie.Need-compare-pss-requires
 compare-pss-requires c κs = marks-ready (c .before .before .before .before .args .plan .now) (c .before .before .before .before .args .p) (c .before .before .before .before .pre)
 
 compare-sss-requires : tie.Need-compare-sss-requires
-compare-sss-requires c κs = marks-ready (c .before .before .before .before .before .args .plan .now) (c .before .before .before .before .before .args .p) (c .before .before .before .before .before .pre)
+compare-sss-requires c κs =
+    let entry = c .before .before .before .before .before in
+    marks-ready (entry .args .plan .now) (entry .args .p) (entry .pre)
 
 both-requires : tie.Need-both-requires
-both-requires c κs = (few (c .before .before .before .before .before .before .pre .room) (c .before .compare-pss .ensures), few (c .before .before .before .before .before .before .pre .room) (c .compare-sss .ensures))
+both-requires c κs =
+    let entry = c .before .before .before .before .before .before in
+    (few (entry .pre .room) (c .before .compare-pss .ensures), few (entry .pre .room) (c .compare-sss .ensures))
 
 returns : tie.Need-returns
-returns c = marks-both (c .before .before .before .before .before .before .before .args .plan .now) (c .before .before .before .before .before .before .before .args .p) (c .before .before .before .before .before .before .before .pre) (c .both .ensures) (sym (c .before .before .before .before .is-marked .ensures) ∙ c .before .before .before .if1 .taken) (c .before .before .compare-pss .ensures) (c .before .compare-sss .ensures)
+returns c =
+    let at-compare-pss = c .before .before in let at-if1 = at-compare-pss .before in let at-is-marked = at-if1 .before in
+    let entry = at-is-marked .before .before .before in
+    marks-both (entry .args .plan .now) (entry .args .p) (entry .pre) (c .both .ensures) (sym (at-is-marked .is-marked .ensures) ∙ at-if1 .if1 .taken)
+    (at-compare-pss .compare-pss .ensures) (c .before .compare-sss .ensures)
 
 returns-2 : tie.Need-returns-2
-returns-2 c = marks-none (c .before .before .before .before .args .plan .now) (c .before .before .before .before .args .p) (c .before .before .before .before .pre) (sym (c .before .is-marked .ensures) ∙ c .if1 .left)
+returns-2 c =
+    let entry = c .before .before .before .before in
+    marks-none (entry .args .plan .now) (entry .args .p) (entry .pre) (sym (c .before .is-marked .ensures) ∙ c .if1 .left)
 
 pub see-marks-spec : {M : Type 1} → statement M
 see-marks-spec =

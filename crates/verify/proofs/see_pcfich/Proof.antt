@@ -8,10 +8,14 @@ started-requires : tie.Need-started-requires
 started-requires c κs = pcfich-starts (c .before .before .args .plan .now) (c .before .before .args .p) (c .before .before .pre)
 
 compare-pcfich-requires : tie.Need-compare-pcfich-requires
-compare-pcfich-requires c κs = pcfich-in (c .before .before .before .args .plan .now) (c .before .before .before .args .p) (c .before .before .before .pre .answer) (c .before .before .before .pre .room)
+compare-pcfich-requires c κs =
+    let entry = c .before .before .before in
+    pcfich-in (entry .args .plan .now) (entry .args .p) (entry .pre .answer) (entry .pre .room)
 
 returns : tie.Need-returns
-returns c = pcfich-compared (c .before .before .before .before .args .plan .now) (c .before .before .before .before .args .p) (c .before .before .before .before .pre) _ (c .before .started .ensures) (c .compare-pcfich .ensures)
+returns c =
+    let entry = c .before .before .before .before in
+    pcfich-compared (entry .args .plan .now) (entry .args .p) (entry .pre) _ (c .before .started .ensures) (c .compare-pcfich .ensures)
 
 pub see-pcfich-spec : {M : Type 1} → statement M
 see-pcfich-spec = tie.close (tie.spec started-requires compare-pcfich-requires returns)
