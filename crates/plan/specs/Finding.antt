@@ -1,5 +1,5 @@
 -- What `explain` promises: why a plan is refused. Document 01, Refusals: "From the input, first fault from left to right, in a command by
--- number." Of the commands the first that has a fault is named, by its number from 1 and its position in the plan, and of that command
+-- number: ..". Of the commands the first that has a fault is named, by its number from 1 and its position in the plan, and of that command
 -- the first of its fields that has the fault, in the order in which document 01 lists the fields.
 use Prim.Native.Nat.{ℕ, _+_, _-_}
 use mathlib.Core.Path.{_≡_}
