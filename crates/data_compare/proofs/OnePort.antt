@@ -14,6 +14,7 @@ use Rattle.grid.specs.Elements.{elementIn}
 use Rattle.element_pairs.specs.Numbers.{elementFrom, upper, OneRead, TwoRead}
 use Rattle.walk.specs.declared.Run.{Run}
 use Rattle.walk.specs.declared.Holes.{Holes}
+use Rattle.walk.specs.Addresses.{RunOpen}
 use Rattle.walk.specs.Runs.{runCount, placeAt}
 use Rattle.walk.specs.Forms.{HolesOf, Stretch}
 use Rattle.walk.proofs.Forms.{place-63}
@@ -22,7 +23,7 @@ use Rattle.walk.proofs.Singles.{stretch-at, stretch-on}
 use Rattle.areas.specs.Tables.{Smaller}
 use Rattle.data_compare.specs.declared.Form.{Form}
 use Rattle.data_compare.specs.Tests.{Tells, Own, FormOf, wrongOf}
-use Rattle.data_compare.specs.Places.{PlaceRight, SinglesIn, SinglesSeen, Singles, Doubles, holedAt, HolesIn, HolesSeen, Stretches, AnyIn, RunSeen}
+use Rattle.data_compare.specs.Places.{PlaceRight, SinglesIn, SinglesSeen, Singles, Doubles, holedAt, HolesIn, HolesSeen, Stretches, RunSeen}
 use Rattle.data_compare.proofs.Telling.{tells-none, tells-as, tells-or-one, tells-or, tells-both}
 use Rattle.data_compare.proofs.Numbers.{wrong-one, one-wrong, wrong-both, both-wrong}
 
@@ -147,7 +148,7 @@ place-one : {T turn odd q u : ℕ} {g : List ℕ} (s t : ℕ) → PlaceRight 1 T
 unfolding ownPort
 place-one {T} s t w = let e : 0 * T + s ≡ s = omega (arith, zero-mul T) in rw e at (w .own)
 
-module _ {T j : ℕ} {run : Run} {g : List ℕ} (s : AnyIn 1 T j run g) {h : Holes} (o : HolesOf (run .mask) h) where
+module _ {T j : ℕ} {run : Run} {g : List ℕ} (s : RunOpen 1 T j run g) {h : Holes} (o : HolesOf (run .mask) h) where
   total : h .count * run .halves ≡ runCount run
   total = count-total run o (s .short) .0
 

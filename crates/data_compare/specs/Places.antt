@@ -7,19 +7,16 @@ use lib.ListN.{length}
 use Rattle.base.specs.Bytes.{elementOf, pairOf}
 use Rattle.base.specs.Counts.{nth}
 use Rattle.precoding.specs.Places.{ownPort, otherPort, partnerOf, beside}
-use Rattle.layout.specs.Owners.{symbols, carriers}
 use Rattle.places.specs.Places.{placesOf}
 use Rattle.grid.specs.Elements.{elementIn}
-use Rattle.grid.specs.Writing.{Room}
 use Rattle.walk.specs.declared.Cursor.{Cursor}
 use Rattle.walk.specs.declared.Run.{Run}
 use Rattle.walk.specs.Runs.{runCount, Laid}
-use Rattle.walk.specs.Forms.{PairForm, SingleForm, Stretch}
+use Rattle.walk.specs.Forms.{Stretch}
 use Rattle.walk.specs.Addresses.{PairsIn}
-use Rattle.walk.specs.Tables.{AtIndex}
 use Rattle.areas.specs.declared.Area.{Area}
-use Rattle.areas.specs.Areas.{areaAt, areaCount, AreaIn, SignalsIn}
-use Rattle.areas.specs.Tables.{AreaTables}
+use Rattle.areas.specs.Areas.{areaAt, areaCount}
+use Rattle.areas.specs.Runs.{AreaAt}
 use Rattle.data_compare.specs.declared.Form.{Form}
 use Rattle.data_compare.specs.declared.Sums.{Sums}
 use Rattle.data_compare.specs.declared.Starts.{Starts}
@@ -105,35 +102,17 @@ pub record Stretches (first lead each total : ℕ) (f : Form) (g : List ℕ) (ba
   pub stretch : k < total → Stretch first lead each k at left
   pub done : HolesSeen first lead each k f g bad
 
--- ---- a run. What it needs, on one port or more
-pub record AnyIn (P T j : ℕ) (run : Run) (g : List ℕ) : Type 0 where
-  pub room : Room P T g
-  pub before : run .first < T
-  pub inside : run .first + 6 * run .halves ≤ T
-  pub single : SingleForm (run .mask)
-  pub short : run .halves ≤ 255
-  pub index : j + runCount run ≤ 16800
-  pub pairs : 2 ≤ P → PairForm (run .mask)
-  pub even : 2 ≤ P → j % 2 ≡ 0
-
+-- ---- a run
 pub record RunSeen (P T j : ℕ) (run : Run) (f : Form) (g : List ℕ) (r : ℕ) : Type 0 where
   pub seen : (own : ℕ → Bool) (q u : ℕ) → Laid own T j run → FormOf q u f → Tells r (runCount run) (λ (k : ℕ). Right own P T q u g (j + k))
 
 -- ---- an area
-pub record RunsIn (a : Area) (rows spans g : List ℕ) : Type 0 where
-  pub order : ℕ
-  pub unit : ℕ
-  pub area : AreaIn a order unit g
-  pub signals : SignalsIn a
-  pub tables : AreaTables a rows spans
-
 -- the places of the indices below n are compared
 pub record AreaSeen (a : Area) (f : Form) (g : List ℕ) (n r : ℕ) : Type 0 where
   pub seen : (q u : ℕ) → FormOf q u f → Tells r n (Right (areaAt a) (a .cell .ports) (placesOf (a .cell)) q u g)
 
 pub record Going (a : Area) (rows spans : List ℕ) (f : Form) (g : List ℕ) (c : Cursor) (j r : ℕ) : Type 0 where
-  pub comes : AtIndex (carriers (a .cell)) (symbols (a .cell)) rows spans c j
-  pub even : 2 ≤ a .cell .ports → j % 2 ≡ 0
+  pub cursor : AreaAt a rows spans c j
   pub done : AreaSeen a f g j r
 
 pub record Through (a : Area) (f : Form) (g : List ℕ) (j r : ℕ) : Type 0 where

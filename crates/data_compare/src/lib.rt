@@ -11,12 +11,13 @@ ghost use mathlib.Core.Bool.{cond};
 ghost use Prim.Native.Nat.{_*_, _≤_, _<_};
 ghost use lib.Dec.{eqb};
 ghost use Rattle.modulation.specs.Symbols.{Order};
-ghost use Rattle.walk.specs.Addresses.{PairsIn, RunIn};
+ghost use Rattle.walk.specs.Addresses.{PairsIn, RunIn, RunOpen};
 ghost use Rattle.walk.specs.Forms.{SingleForm};
 ghost use Rattle.walk.specs.Runs.{runCount};
+ghost use Rattle.areas.specs.Runs.{AreaRuns};
 ghost use Rattle.data_compare.specs.Symbols.{AreaCompared, CompareIn};
 ghost use Rattle.data_compare.specs.Tests.{FormOf, wrongOf, sumsWith, toldBy};
-ghost use Rattle.data_compare.specs.Places.{StartsIn, Starting, PairsSeen, SinglesIn, SinglesSeen, HolesIn, HolesSeen, AnyIn, RunSeen, RunsIn, Through};
+ghost use Rattle.data_compare.specs.Places.{StartsIn, Starting, PairsSeen, SinglesIn, SinglesSeen, HolesIn, HolesSeen, RunSeen, Through};
 
 // What elements of an order and a unit have in common, for two elements as one number: `fixed` where `fixes` has bits, that is the
 // unit and that levels are odd; and a level's bits from `same` on are alike, so that it is one of the order.
@@ -224,7 +225,7 @@ fn between(f: Form, grid: &[u8], first: usize, lead: usize, each: usize, total: 
 
 // A run on one port.
 fn see_single(f: Form, grid: &[u8], run: Run, j: usize, places: usize) -> u64
-    requires { ⌜ AnyIn 1 places j run (now grid) ⌝ }
+    requires { ⌜ RunOpen 1 places j run (now grid) ⌝ }
     ensures { λ r. ⌜ RunSeen 1 places j run f (now (grid .entry)) r ⌝ }
 {
     let first = run.first;
@@ -238,7 +239,7 @@ fn see_single(f: Form, grid: &[u8], run: Run, j: usize, places: usize) -> u64
 
 // A run of half blocks, from the channel's index j on.
 fn see_run(f: Form, grid: &[u8], run: Run, j: usize, ports: u8, places: usize) -> u64
-    requires { ⌜ AnyIn ports places j run (now grid) ⌝ }
+    requires { ⌜ RunOpen ports places j run (now grid) ⌝ }
     ensures { λ r. ⌜ RunSeen ports places j run f (now (grid .entry)) r ⌝ }
 {
     if ports == 1 {
@@ -264,7 +265,7 @@ struct Sum {
 
 // All runs of an area, by its tables.
 fn see_runs(f: Form, grid: &[u8], a: Area, rows: &[u8; 45], spans: &[u8; 512]) -> Sum
-    requires { ⌜ RunsIn a (now rows) (now spans) (now grid) ⌝ }
+    requires { ⌜ AreaRuns a (now rows) (now spans) (now grid) ⌝ }
     ensures { λ r. ⌜ Through a f (now (grid .entry)) (r .j) (r .bad) ⌝ }
 {
     let symbols = 2 * layout::slot_length(a.cell);

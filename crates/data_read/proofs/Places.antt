@@ -15,7 +15,7 @@ use Rattle.section_bits.specs.Gathering.{Bits, GiveIn, Gives}
 use Rattle.walk.specs.declared.Holes.{Holes}
 use Rattle.walk.specs.declared.PortOffsets.{PortOffsets}
 use Rattle.walk.specs.declared.Run.{Run}
-use Rattle.walk.specs.Addresses.{OffsetsAt, PairsIn, RoundAt, RunIn}
+use Rattle.walk.specs.Addresses.{OffsetsAt, PairsIn, RoundAt, RunOpen}
 use Rattle.walk.specs.Forms.{Paired, PairForm, all-six, pairs-left, pairs-right, pairs-apart, HolesOf, Stretch}
 use Rattle.walk.specs.Runs.{runCount, placeAt}
 use Rattle.walk.proofs.Addresses.{own-inside, rounds-start, at-own, next-at, fits-at, fits-next, round-small, rounds-on}
@@ -23,7 +23,7 @@ use Rattle.walk.proofs.Forms.{place-63, left-pairs, right-pairs}
 use Rattle.walk.proofs.Runs.{within-at, six-count}
 use Rattle.walk.proofs.Singles.{stretch-at, stretch-on}
 use Rattle.areas.specs.Tables.{Smaller}
-use Rattle.data_read.specs.Runs.{bothOf, Stands, Reading, ReadOn, pairElement, holedElement, runElement, BeforePairs, HolesIn, RunOpen}
+use Rattle.data_read.specs.Runs.{bothOf, Stands, Reading, ReadOn, pairElement, holedElement, runElement, BeforePairs, HolesIn}
 use Rattle.data_read.proofs.Words.{both-bits, four-bits}
 use Rattle.data_read.proofs.Gatherings.{give-in, read-none, read-same, read-later, read-give, read-join}
 
@@ -338,14 +338,7 @@ module _ {T j : ℕ} {run : Run} {g : List ℕ} (s : RunOpen 1 T j run g) {h : H
           → ReadOn q j (runCount run) (runElement 1 T j run) d g st part st′ part′
       holes-read e x = rw (← single-total) (read-same (λ i l. ap (_+_ (run .first)) (sym (o .holed e .place i)) ∙ one-element i) x)
 
--- and on two or four
-pub run-in : {P T j : ℕ} {run : Run} {g : List ℕ} → RunOpen P T j run g → 2 ≤ P → RunIn P T j run g
-run-in s many =
-    record { room = s .room; many = many; even = s .even many; before = s .before; inside = s .inside; form = s .pairs many; index = s .index }
-
-pub one-port : {P T j : ℕ} {run : Run} {g : List ℕ} → RunOpen P T j run g → P ≡ 1 → RunOpen 1 T j run g
-one-port {T = T} {j} {run} {g} s e = subst (λ (x : ℕ). RunOpen x T j run g) e s
-
+-- and as on one port
 pub one-read :
     (T : ℕ) (run : Run) {P q j : ℕ} {d g st part st′ part′ : List ℕ} → P ≡ 1 → ReadOn q j (runCount run) (runElement 1 T j run) d g st part st′ part′
     → ReadOn q j (runCount run) (runElement P T j run) d g st part st′ part′

@@ -9,11 +9,9 @@ use Rattle.modulation.specs.Symbols.{Order}
 use Rattle.precoding.specs.Places.{ownPort}
 use Rattle.constellation.specs.Axis.{Axis, wordOf}
 use Rattle.grid.specs.Elements.{elementIn}
-use Rattle.grid.specs.Writing.{Room}
 use Rattle.element_pairs.specs.Numbers.{elementFrom, upper}
 use Rattle.section_bits.specs.Gathering.{Bits, bitsIn, State, Gathered}
 use Rattle.walk.specs.declared.Run.{Run}
-use Rattle.walk.specs.Forms.{PairForm, SingleForm}
 use Rattle.walk.specs.Runs.{runCount, placeAt}
 
 -- ---- bits
@@ -72,17 +70,6 @@ pub record HolesIn (j first lead each total : ℕ) (grid : List ℕ) : Type 0 wh
   pub index : j + total ≤ 16800
   pub inside : (k : ℕ) → k < total → (3 * holedElement first lead each k + 2 < length grid) × (holedElement first lead each k < 16800)
 
--- a run of a channel that has P ports of T places
-pub record RunOpen (P T j : ℕ) (run : Run) (grid : List ℕ) : Type 0 where
-  pub room : Room P T grid
-  pub even : 2 ≤ P → j % 2 ≡ 0
-  pub before : run .first < T
-  pub inside : run .first + 6 * run .halves ≤ T
-  pub single : SingleForm (run .mask)
-  pub pairs : 2 ≤ P → PairForm (run .mask)
-  pub short : run .halves ≤ 255
-  pub index : j + runCount run ≤ 16800
-
--- it is read, and the index after it
+-- a run is read, and the index after it
 abbrev pub RunRead : ℕ → ℕ → ℕ → ℕ → Run → List ℕ → List ℕ → List ℕ → List ℕ → ℕ → List ℕ → List ℕ → Type 0
 RunRead q P T j run d g st part x st′ part′ = (x ≡ j + runCount run) × ReadOn q j (runCount run) (runElement P T j run) d g st part st′ part′

@@ -15,12 +15,12 @@ ghost use Prim.Native.Nat.{_+_, _*_, _≤_, _<_, _^_};
 ghost use lib.ListN.{length};
 ghost use Rattle.payload.specs.Sections.{sectionBytes};
 ghost use Rattle.recovery.specs.Recovery.{sectionOf};
-ghost use Rattle.walk.specs.Addresses.{PairsIn, RunIn};
+ghost use Rattle.walk.specs.Addresses.{PairsIn, RunIn, RunOpen};
 ghost use Rattle.walk.specs.Forms.{HolesOf};
 ghost use Rattle.walk.specs.Runs.{runCount};
 ghost use Rattle.areas.specs.Areas.{areaCount};
 ghost use Rattle.data_read.specs.Reading.{areaBit, AreaReads};
-ghost use Rattle.data_read.specs.Runs.{bothOf, Table, Reading, ReadOn, pairElement, runElement, BeforePairs, HolesIn, holedElement, RunOpen, RunRead};
+ghost use Rattle.data_read.specs.Runs.{bothOf, Table, Reading, ReadOn, pairElement, runElement, BeforePairs, HolesIn, holedElement, RunRead};
 ghost use Rattle.data_read.specs.Areas.{symbolElement, RunsIn};
 
 // The bits of two symbols, whose elements are one number.

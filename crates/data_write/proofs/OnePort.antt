@@ -18,6 +18,7 @@ use Rattle.element_pairs.specs.Numbers.{elementFrom, upper, OnePut, TwoPut}
 use Rattle.constellation.specs.Pairs.{jointOf}
 use Rattle.walk.specs.declared.Run.{Run}
 use Rattle.walk.specs.declared.Holes.{Holes}
+use Rattle.walk.specs.Addresses.{RunOpen}
 use Rattle.walk.specs.Runs.{runCount, SinglesAt}
 use Rattle.walk.specs.Parts.{sentPart}
 use Rattle.walk.specs.Forms.{Stretch, HolesOf}
@@ -27,7 +28,7 @@ use Rattle.walk.proofs.Singles.{one-written, two-written, stretch-singles, stre
 use Rattle.areas.specs.Tables.{Smaller}
 use Rattle.data_write.specs.Sent.{sentElement, TableOf, Sending, entryOf}
 use Rattle.data_write.specs.Pairs.{RunFilled}
-use Rattle.data_write.specs.OnePort.{SinglesIn, SinglesDone, SingleRounds, HoledRun, HolesIn, HolesDone, Stretches, SingleIn}
+use Rattle.data_write.specs.OnePort.{SinglesIn, SinglesDone, SingleRounds, HoledRun, HolesIn, HolesDone, Stretches}
 use Rattle.data_write.proofs.Source.{stands-on, can-take, two-symbols, single-has, double-first, double-second}
 
 pub singles-start : {j start n each q : ℕ} {t bits st before : List ℕ} → SingleRounds j start n each q t bits st before (3 * start) 0 st before
@@ -231,7 +232,7 @@ holes-end {j} {first} {lead} {each} {total} {at} {left} {k} {q} {t} {bits} {st} 
     let e : k ≡ total = omega (arith, d .few) in subst (λ (x : ℕ). HolesDone j first lead each total x q t bits st before st′ grid) e (d .done)
 
 -- ---- a run on one port
-module _ {T j : ℕ} {run : Run} {grid : List ℕ} (s : SingleIn T j run grid) {h : Holes} (o : HolesOf (run .mask) h) where
+module _ {T j : ℕ} {run : Run} {grid : List ℕ} (s : RunOpen 1 T j run grid) {h : Holes} (o : HolesOf (run .mask) h) where
   pub single-total : h .count * run .halves ≡ runCount run
   unfolding runCount
   single-total = mul-comm (h .count) (run .halves) ∙ ap (λ (x : ℕ). run .halves * x) (o .count)

@@ -7,11 +7,11 @@ use lib.ListN.{length}
 use Rattle.gold.specs.declared.Registers.{Registers}
 use Rattle.codeword.specs.Bits48.{Standing}
 use Rattle.codeword.specs.Streams.{symbolsOf}
-use Rattle.grid.specs.Writing.{Written, Room}
+use Rattle.grid.specs.Writing.{Written}
 use Rattle.walk.specs.declared.Run.{Run}
 use Rattle.walk.specs.Runs.{runCount, Laid, SinglesAt}
 use Rattle.walk.specs.Parts.{sentPart}
-use Rattle.walk.specs.Forms.{Holed, Stretch, SingleForm}
+use Rattle.walk.specs.Forms.{Holed, Stretch}
 use Rattle.data_write.specs.Sent.{sentElement, TableOf}
 
 pub record SinglesIn (j start n : ℕ) (grid : List ℕ) : Type 0 where
@@ -59,11 +59,3 @@ pub record Stretches (j first lead each total q : ℕ) (t bits st before : List 
   pub few : k ≤ total
   pub stretch : k < total → Stretch first lead each k at left
   pub done : HolesDone j first lead each total k q t bits st before st′ grid
-
--- what a run on one port of T places needs
-pub record SingleIn (T j : ℕ) (run : Run) (grid : List ℕ) : Type 0 where
-  pub room : Room 1 T grid
-  pub inside : run .first + 6 * run .halves ≤ T
-  pub form : SingleForm (run .mask)
-  pub short : run .halves ≤ 255
-  pub index : j + runCount run ≤ 16800

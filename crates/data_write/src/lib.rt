@@ -16,11 +16,11 @@ ghost use mathlib.Core.Path.{_≡_};
 ghost use Prim.Native.Nat.{_+_, _*_, _≤_, _<_};
 ghost use lib.ListN.{length};
 ghost use Rattle.modulation.specs.Symbols.{Order, unitOf};
-ghost use Rattle.walk.specs.Addresses.{PairsIn, RunIn};
+ghost use Rattle.walk.specs.Addresses.{PairsIn, RunIn, RunOpen};
 ghost use Rattle.data_write.specs.Sent.{groupOf, TableOf, Sending};
 ghost use Rattle.data_write.specs.Pairs.{RoundIn, RoundDone, PairsFit, FirstAt, PairsDone, RunFilled};
-ghost use Rattle.data_write.specs.OnePort.{SinglesIn, SinglesDone, HolesIn, HolesDone, SingleIn};
-ghost use Rattle.data_write.specs.Areas.{AnyIn, RunsIn, RunsDone, FillIn, AreaFilled};
+ghost use Rattle.data_write.specs.OnePort.{SinglesIn, SinglesDone, HolesIn, HolesDone};
+ghost use Rattle.data_write.specs.Areas.{RunsIn, RunsDone, FillIn, AreaFilled};
 
 // The next four symbols at two pairs of places, at bytes `at` and `next` of their own ports and `across` further on the others. The table is read
 // before the grid is written, since the compiler cannot tell the two apart.
@@ -364,7 +364,7 @@ fn fill_single(
     j: usize,
     places: usize,
 ) -> usize
-    requires { ⌜ SingleIn places j run (now grid) × Sending q q j (now t) (now bits) (now st) ⌝ }
+    requires { ⌜ RunOpen 1 places j run (now grid) × Sending q q j (now t) (now bits) (now st) ⌝ }
     ensures { λ x. ⌜ RunFilled q 1 places j run q (now (t .entry)) (now (bits .entry)) (now (st .entry)) (now (grid .entry)) x (now (st .exit)) (now (grid .exit)) ⌝ }
 {
     let first = run.first;
@@ -391,7 +391,7 @@ fn fill_run(
     ports: u8,
     places: usize,
 ) -> usize
-    requires { ⌜ AnyIn ports places j run (now grid) × Sending (groupOf ports q) q j (now t) (now bits) (now st) ⌝ }
+    requires { ⌜ RunOpen ports places j run (now grid) × Sending (groupOf ports q) q j (now t) (now bits) (now st) ⌝ }
     ensures { λ x. ⌜ RunFilled (groupOf ports q) ports places j run q (now (t .entry)) (now (bits .entry)) (now (st .entry)) (now (grid .entry)) x (now (st .exit)) (now (grid .exit)) ⌝ }
 {
     if ports == 1 {

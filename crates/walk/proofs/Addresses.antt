@@ -1,6 +1,6 @@
 -- Where the two ports of a channel's pairs begin: laws on plain numbers. Assumes nothing.
 use Prim.Native.Nat.{ℕ, _+_, _*_, _/_, _%_, _≤_, _<_}
-use mathlib.Core.Path.{_≡_, sym, ap, _∙_}
+use mathlib.Core.Path.{_≡_, sym, ap, _∙_, subst}
 use mathlib.Core.Bool.{Bool, true, false, cond}
 use mathlib.Core.List.{List}
 use native.Mathlib.Nat.{add-mul, mul-le-mul, mul-add, mul-zero}
@@ -17,7 +17,7 @@ use Rattle.walk.specs.declared.Run.{Run}
 use Rattle.walk.specs.Runs.{runCount}
 use Rattle.walk.specs.Forms.{Paired}
 use Rattle.walk.proofs.Runs.{pair-inside, pair-count}
-use Rattle.walk.specs.Addresses.{OffsetsAt, PairsIn, RoundAt, RunIn}
+use Rattle.walk.specs.Addresses.{OffsetsAt, PairsIn, RoundAt, RunIn, RunOpen}
 
 pub own-turn : (P x y : ℕ) → x % 2 ≡ y % 2 → ownPort P x ≡ ownPort P y
 unfolding ownPort
@@ -96,12 +96,15 @@ run-pairs r m start room many even index at early inside p few is =
       inside = λ i h. omega (arith, pair-inside (r .mask) (r .halves) p i (omega arith));
     }
 
+pub room-later : {P T : ℕ} {f g : List ℕ} → length g ≡ length f → Room P T f → Room P T g
+room-later e r = record { some = r .some; most = r .most; not-three = r .not-three; fits = r .fits; size = e ∙ r .size }
+
 pub later-in :
     {P T gap j start step m j′ start′ : ℕ} {f g : List ℕ} (n k : ℕ) → length g ≡ length f → n + k ≤ m → 0 < k → j′ ≡ j + 2 * n → start′ ≡ start + step * n
     → PairsIn P T gap j start step m f → PairsIn P T gap j′ start′ step k g
 later-in {step = step} n k z l s ej es h =
     record {
-      room = record { some = h .room .some; most = h .room .most; not-three = h .room .not-three; fits = h .room .fits; size = z ∙ h .room .size };
+      room = room-later z (h .room);
       many = h .many;
       even = omega (arith, h .even);
       index = omega (arith, h .index);
@@ -193,3 +196,16 @@ module _
 
   pub run-in : PairsIn P T gap j start step m grid
   run-in = run-pairs r m start (h .room) (h .many) (h .even) (omega (arith, h .index, run-total)) at (omega (arith, h .before)) (h .inside) p few is
+
+-- ---- a run on one port, and on two or four
+module _ {P T j : ℕ} {r : Run} {grid : List ℕ} (s : RunOpen P T j r grid) where
+  pub open-one : P ≡ 1 → RunOpen 1 T j r grid
+  open-one e = subst (λ (x : ℕ). RunOpen x T j r grid) e s
+
+  pub open-pairs : (P ≡ 1 → ⊥) → RunIn P T j r grid
+  open-pairs n =
+      let many : 2 ≤ P = several n in
+      record { room = s .room; many = many; even = s .even many; before = s .before; inside = s .inside; form = s .pairs many; index = s .index }
+    where
+      several : (P ≡ 1 → ⊥) → 2 ≤ P
+      several n = omega (arith, s .room .some)

@@ -1,4 +1,4 @@
--- For the inner contracts and loops only: where the two ports of a channel's pairs begin, and what a run of pairs needs.
+-- For the inner contracts and loops only: where the two ports of a channel's pairs begin, and what a run needs.
 use Prim.Native.Nat.{ℕ, _+_, _*_, _/_, _%_, _≤_, _<_}
 use mathlib.Core.Path.{_≡_}
 use mathlib.Core.List.{List}
@@ -7,7 +7,7 @@ use Rattle.grid.specs.Writing.{Room}
 use Rattle.walk.specs.declared.PortOffsets.{PortOffsets}
 use Rattle.walk.specs.declared.Run.{Run}
 use Rattle.walk.specs.Runs.{runCount}
-use Rattle.walk.specs.Forms.{PairForm}
+use Rattle.walk.specs.Forms.{PairForm, SingleForm}
 
 -- the own port of the pair at index j, that of the next pair, and the way to the other port
 pub record OffsetsAt (P T j : ℕ) (r : PortOffsets) : Type 0 where
@@ -31,7 +31,7 @@ pub record RoundAt (P T j start step n at next i : ℕ) : Type 0 where
   pub at-pair : at ≡ 3 * (ownPort P (j / 2 % 2) * T + (start + step * (2 * i)))
   pub next-pair : next ≡ 3 * (ownPort P ((j + 2) / 2 % 2) * T + (start + step * (2 * i + 1)))
 
--- what a run needs
+-- what a run needs on two ports or four
 pub record RunIn (P T j : ℕ) (r : Run) (grid : List ℕ) : Type 0 where
   pub room : Room P T grid
   pub many : 2 ≤ P
@@ -39,4 +39,15 @@ pub record RunIn (P T j : ℕ) (r : Run) (grid : List ℕ) : Type 0 where
   pub before : r .first < T
   pub inside : r .first + 6 * r .halves ≤ T
   pub form : PairForm (r .mask)
+  pub index : j + runCount r ≤ 16800
+
+-- and on any number of ports
+pub record RunOpen (P T j : ℕ) (r : Run) (grid : List ℕ) : Type 0 where
+  pub room : Room P T grid
+  pub even : 2 ≤ P → j % 2 ≡ 0
+  pub before : r .first < T
+  pub inside : r .first + 6 * r .halves ≤ T
+  pub single : SingleForm (r .mask)
+  pub pairs : 2 ≤ P → PairForm (r .mask)
+  pub short : r .halves ≤ 255
   pub index : j + runCount r ≤ 16800

@@ -2,7 +2,8 @@
 use native.Mathlib.Omega.{arith}
 use mathlib.Core.Path.{ap}
 use Prim.Native.Nat.{ℕ, _+_}
-use Rattle.data_read.proofs.Places.{run-total, one-port, one-read, run-in}
+use Rattle.data_read.proofs.Places.{run-total, one-read}
+use Rattle.walk.proofs.Addresses.{open-one, open-pairs}
 use borrow.Author.Needs.{needs}
 use Rattle.data_read.proofs.read_run.Statement.{statement}
 use Rattle.data_read.proofs.read_run.Tie as tie
@@ -21,7 +22,7 @@ read-single-requires c κs =
     let a = c .before .before in
     let b = a .before .before .before in
     let d = b .before .before .before in
-    (one-port (d .pre .0) (a .if1 .taken), b .holes-of .ensures, d .pre .1)
+    (open-one (d .pre .0) (a .if1 .taken), b .holes-of .ensures, d .pre .1)
 
 same-length : tie.Need-same-length
 same-length c = search needs
@@ -38,7 +39,7 @@ read-pairs-requires : tie.Need-read-pairs-requires
 read-pairs-requires c κs =
     let a = c .before .before in
     let b = a .before .before .before .before .before .before in
-    (run-in (b .pre .0) (omega (arith, b .pre .0 .room .some, a .if1 .left)), b .pre .1)
+    (open-pairs (b .pre .0) (a .if1 .left), b .pre .1)
 
 same-length-2 : tie.Need-same-length-2
 same-length-2 c = search needs

@@ -6,7 +6,7 @@ use Rattle.data_write.proofs.fill_single.Statement.{statement}
 use Rattle.data_write.proofs.fill_single.Tie as tie
 
 holes-of-requires : tie.Need-holes-of-requires
-holes-of-requires c κs = c .before .before .pre .0 .form
+holes-of-requires c κs = c .before .before .pre .0 .single
 
 mul-total : tie.Need-mul-total
 mul-total c = omega (arith, single-small (c .before .before .before .before .pre .0) (c .before .holes-of .ensures))
