@@ -1,9 +1,8 @@
 -- For the inner contracts and loops only: what stands at a channel's places, pairs and runs in a grid, and numbers that tell whether it is right.
-use Prim.Native.Nat.{ℕ, _+_, _-_, _*_, _/_, _%_, _≤_, _<_}
+use Prim.Native.Nat.{ℕ, _+_, _*_, _/_, _%_, _≤_}
 use mathlib.Core.Path.{_≡_}
 use mathlib.Core.Bool.{Bool}
 use mathlib.Core.List.{List}
-use lib.ListN.{length}
 use Rattle.base.specs.Bytes.{elementOf, pairOf}
 use Rattle.base.specs.Counts.{nth}
 use Rattle.precoding.specs.Places.{ownPort, otherPort, partnerOf, beside}
@@ -12,7 +11,7 @@ use Rattle.grid.specs.Elements.{elementIn}
 use Rattle.walk.specs.declared.Cursor.{Cursor}
 use Rattle.walk.specs.declared.Run.{Run}
 use Rattle.walk.specs.Runs.{runCount, Laid}
-use Rattle.walk.specs.Forms.{Stretch}
+use Rattle.walk.specs.Forms.{StretchesAt, holedPlace}
 use Rattle.walk.specs.Addresses.{PairsIn}
 use Rattle.areas.specs.declared.Area.{Area}
 use Rattle.areas.specs.Areas.{areaAt, areaCount}
@@ -63,20 +62,15 @@ pub record Pairs (P T gap j start step m : ℕ) (f : Form) (g : List ℕ) (s : S
   pub turn : TurnAt P T j start step at next i
   pub done : PairsSeen P T gap j start step i f g (toldBy f s)
 
--- ---- places on one port, side by side, or between holes: `lead` before the first hole, then `each` before the next one
-pub record SinglesIn (start n : ℕ) (g : List ℕ) : Type 0 where
-  pub inside : 3 * (start + n) ≤ length g
-  pub small : start + n ≤ 16800
-
-pub record SinglesSeen (start n : ℕ) (f : Form) (g : List ℕ) (r : ℕ) : Type 0 where
-  pub seen : (q u : ℕ) → FormOf q u f → Tells r n (λ (i : ℕ). Own q u (elementIn g (start + i)))
+-- ---- places e 0, e 1, .. on one port; side by side, one or two at a time, and between holes
+pub record PlacesSeen (n : ℕ) (e : ℕ → ℕ) (f : Form) (g : List ℕ) (r : ℕ) : Type 0 where
+  pub seen : (q u : ℕ) → FormOf q u f → Tells r n (λ (i : ℕ). Own q u (elementIn g (e i)))
 
 pub record Singles (start n : ℕ) (f : Form) (g : List ℕ) (bad at i : ℕ) : Type 0 where
   pub few : i ≤ n
   pub place : at ≡ 3 * (start + i)
-  pub done : SinglesSeen start i f g bad
+  pub done : PlacesSeen i (_+_ start) f g bad
 
--- two at a time
 pub record Doubles (start n : ℕ) (f : Form) (g : List ℕ) (bad at i : ℕ) : Type 0 where
   pub few : i ≤ n
   pub place : at ≡ 3 * (start + 2 * i)
@@ -84,23 +78,9 @@ pub record Doubles (start n : ℕ) (f : Form) (g : List ℕ) (bad at i : ℕ) : 
       (q u : ℕ) → FormOf q u f
       → Tells bad i (λ (k : ℕ). Own q u (elementIn g (start + 2 * k)) × Own q u (elementIn g (start + (2 * k + 1))))
 
-abbrev pub holedAt : ℕ → ℕ → ℕ → ℕ
-holedAt lead each k = k + (k + (each - lead)) / each
-
-pub record HolesIn (first lead each total : ℕ) (g : List ℕ) : Type 0 where
-  pub early : lead ≤ each
-  pub some : 0 < each
-  pub from : first ≤ 16800
-  pub inside : (k : ℕ) → k < total → 3 * (first + holedAt lead each k + 1) ≤ length g
-  pub small : (k : ℕ) → k < total → first + holedAt lead each k + 1 ≤ 16800
-
-pub record HolesSeen (first lead each total : ℕ) (f : Form) (g : List ℕ) (r : ℕ) : Type 0 where
-  pub seen : (q u : ℕ) → FormOf q u f → Tells r total (λ (k : ℕ). Own q u (elementIn g (first + holedAt lead each k)))
-
 pub record Stretches (first lead each total : ℕ) (f : Form) (g : List ℕ) (bad at left k : ℕ) : Type 0 where
-  pub few : k ≤ total
-  pub stretch : k < total → Stretch first lead each k at left
-  pub done : HolesSeen first lead each k f g bad
+  pub stretches : StretchesAt first lead each total at left k
+  pub done : PlacesSeen k (holedPlace first lead each) f g bad
 
 -- ---- a run
 pub record RunSeen (P T j : ℕ) (run : Run) (f : Form) (g : List ℕ) (r : ℕ) : Type 0 where

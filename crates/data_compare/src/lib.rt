@@ -8,16 +8,16 @@ use element_pairs::three_at;
 use walk::Run;
 ghost use mathlib.Core.Path.{_≡_};
 ghost use mathlib.Core.Bool.{cond};
-ghost use Prim.Native.Nat.{_*_, _≤_, _<_};
+ghost use Prim.Native.Nat.{_+_, _*_, _≤_, _<_};
 ghost use lib.Dec.{eqb};
 ghost use Rattle.modulation.specs.Symbols.{Order};
-ghost use Rattle.walk.specs.Addresses.{PairsIn, RunIn, RunOpen};
-ghost use Rattle.walk.specs.Forms.{SingleForm};
+ghost use Rattle.walk.specs.Addresses.{PairsIn, RunIn, RunOpen, SinglesIn, HolesIn};
+ghost use Rattle.walk.specs.Forms.{SingleForm, holedPlace};
 ghost use Rattle.walk.specs.Runs.{runCount};
 ghost use Rattle.areas.specs.Runs.{AreaRuns};
 ghost use Rattle.data_compare.specs.Symbols.{AreaCompared, CompareIn};
 ghost use Rattle.data_compare.specs.Tests.{FormOf, wrongOf, sumsWith, toldBy};
-ghost use Rattle.data_compare.specs.Places.{StartsIn, Starting, PairsSeen, SinglesIn, SinglesSeen, HolesIn, HolesSeen, RunSeen, Through};
+ghost use Rattle.data_compare.specs.Places.{StartsIn, Starting, PairsSeen, PlacesSeen, RunSeen, Through};
 
 // What elements of an order and a unit have in common, for two elements as one number: `fixed` where `fixes` has bits, that is the
 // unit and that levels are odd; and a level's bits from `same` on are alike, so that it is one of the order.
@@ -174,7 +174,7 @@ fn see_pairs(f: Form, grid: &[u8], run: Run, j: usize, ports: u8, places: usize)
 // n places side by side on one port.
 fn singles(f: Form, grid: &[u8], start: usize, n: usize) -> u64
     requires { ⌜ SinglesIn start n (now grid) ⌝ }
-    ensures { λ r. ⌜ SinglesSeen start n f (now (grid .entry)) r ⌝ }
+    ensures { λ r. ⌜ PlacesSeen n (_+_ start) f (now (grid .entry)) r ⌝ }
 {
     let mut bad: u64 = 0;
     let mut at = 3 * start;
@@ -190,7 +190,7 @@ fn singles(f: Form, grid: &[u8], start: usize, n: usize) -> u64
 // Twice n places, two at a time.
 fn doubles(f: Form, grid: &[u8], start: usize, n: usize) -> u64
     requires { ⌜ SinglesIn start (2 * n) (now grid) ⌝ }
-    ensures { λ r. ⌜ SinglesSeen start (2 * n) f (now (grid .entry)) r ⌝ }
+    ensures { λ r. ⌜ PlacesSeen (2 * n) (_+_ start) f (now (grid .entry)) r ⌝ }
 {
     let mut bad: u64 = 0;
     let mut at = 3 * start;
@@ -206,7 +206,7 @@ fn doubles(f: Form, grid: &[u8], start: usize, n: usize) -> u64
 // `total` places of a run with holes, stretch after stretch between them: `lead` places before the first hole, then `each`.
 fn between(f: Form, grid: &[u8], first: usize, lead: usize, each: usize, total: usize) -> u64
     requires { ⌜ HolesIn first lead each total (now grid) ⌝ }
-    ensures { λ r. ⌜ HolesSeen first lead each total f (now (grid .entry)) r ⌝ }
+    ensures { λ r. ⌜ PlacesSeen total (holedPlace first lead each) f (now (grid .entry)) r ⌝ }
 {
     let s = walk::first_stretch(first, lead, each);
     let mut bad: u64 = 0;

@@ -2,12 +2,13 @@
 use Prim.Native.Nat.{ℕ, _+_, _*_, _/_, _%_, _≤_, _<_}
 use mathlib.Core.Path.{_≡_}
 use mathlib.Core.List.{List}
+use lib.ListN.{length}
 use Rattle.precoding.specs.Places.{ownPort, otherPort}
 use Rattle.grid.specs.Writing.{Room}
 use Rattle.walk.specs.declared.PortOffsets.{PortOffsets}
 use Rattle.walk.specs.declared.Run.{Run}
 use Rattle.walk.specs.Runs.{runCount}
-use Rattle.walk.specs.Forms.{PairForm, SingleForm}
+use Rattle.walk.specs.Forms.{PairForm, SingleForm, holedPlace}
 
 -- the own port of the pair at index j, that of the next pair, and the way to the other port
 pub record OffsetsAt (P T j : ℕ) (r : PortOffsets) : Type 0 where
@@ -51,3 +52,13 @@ pub record RunOpen (P T j : ℕ) (r : Run) (grid : List ℕ) : Type 0 where
   pub pairs : 2 ≤ P → PairForm (r .mask)
   pub short : r .halves ≤ 255
   pub index : j + runCount r ≤ 16800
+
+-- places on one port are in a grid: side by side, and between holes
+abbrev pub SinglesIn : ℕ → ℕ → List ℕ → Type 0
+SinglesIn start n grid = (3 * (start + n) ≤ length grid) × (start + n ≤ 16800)
+
+pub record HolesIn (first lead each total : ℕ) (grid : List ℕ) : Type 0 where
+  pub early : lead ≤ each
+  pub some : 0 < each
+  pub from : first ≤ 16800
+  pub inside : (k : ℕ) → k < total → SinglesIn (holedPlace first lead each k) 1 grid

@@ -2,7 +2,8 @@
 use native.Mathlib.Omega.{arith}
 use mathlib.Core.Path.{ap}
 use Prim.Native.Nat.{ℕ, _+_}
-use Rattle.data_read.proofs.Places.{run-total, one-read}
+use Rattle.data_read.proofs.Places.{one-read}
+use Rattle.walk.proofs.Singles.{holes-total}
 use Rattle.walk.proofs.Addresses.{open-one, open-pairs}
 use borrow.Author.Needs.{needs}
 use Rattle.data_read.proofs.read_run.Statement.{statement}
@@ -12,10 +13,10 @@ holes-of-requires : tie.Need-holes-of-requires
 holes-of-requires c κs = c .before .before .pre .0 .single
 
 mul-next : tie.Need-mul-next
-mul-next c = omega (arith, run-total (c .before .before .before .before .before .args .run) (c .before .before .holes-of .ensures), c .before .before .before .before .before .pre .0 .index)
+mul-next c = omega (arith, holes-total (c .before .before .before .before .before .args .run) (c .before .before .holes-of .ensures) (c .before .before .before .before .before .pre .0 .short) .0, c .before .before .before .before .before .pre .0 .index)
 
 add-next : tie.Need-add-next
-add-next c = omega (arith, run-total (c .before .before .before .before .before .args .run) (c .before .before .holes-of .ensures), c .before .before .before .before .before .pre .0 .index)
+add-next c = omega (arith, holes-total (c .before .before .before .before .before .args .run) (c .before .before .holes-of .ensures) (c .before .before .before .before .before .pre .0 .short) .0, c .before .before .before .before .before .pre .0 .index)
 
 read-single-requires : tie.Need-read-single-requires
 read-single-requires c κs =
@@ -33,7 +34,7 @@ returns c =
     let b = a .before .before .before in
     let d = b .before .before .before in
     let e = d .before .before .before in
-    (ap (λ (x : ℕ). e .args .j + x) (run-total (e .args .run) (d .holes-of .ensures)), one-read (e .args .places) (e .args .run) (b .if1 .taken) (a .read-single .ensures))
+    (ap (λ (x : ℕ). e .args .j + x) (holes-total (e .args .run) (d .holes-of .ensures) (e .pre .0 .short) .0), one-read (e .args .places) (e .args .run) (b .if1 .taken) (a .read-single .ensures))
 
 read-pairs-requires : tie.Need-read-pairs-requires
 read-pairs-requires c κs =
@@ -49,7 +50,7 @@ returns-2 c =
     let a = c .before .before in
     let b = a .before .before .before .before .before .before in
     let d = b .before .before .before in
-    (ap (λ (x : ℕ). d .args .j + x) (run-total (d .args .run) (b .holes-of .ensures)), a .read-pairs .ensures)
+    (ap (λ (x : ℕ). d .args .j + x) (holes-total (d .args .run) (b .holes-of .ensures) (d .pre .0 .short) .0), a .read-pairs .ensures)
 
 pub read-run-spec : {M : Type 1} → statement M
 read-run-spec =
