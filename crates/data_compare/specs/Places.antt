@@ -12,7 +12,6 @@ use Rattle.walk.specs.declared.Cursor.{Cursor}
 use Rattle.walk.specs.declared.Run.{Run}
 use Rattle.walk.specs.Runs.{runCount, Laid}
 use Rattle.walk.specs.Forms.{StretchesAt, holedPlace}
-use Rattle.walk.specs.Addresses.{PairsIn}
 use Rattle.areas.specs.declared.Area.{Area}
 use Rattle.areas.specs.Areas.{areaAt, areaCount}
 use Rattle.areas.specs.Runs.{AreaAt}
@@ -38,13 +37,6 @@ Right own P T q u g j = PlaceRight P T (j / 2 % 2) (j % 2) q u g (nth own T j) (
 pub record TurnAt (P T j start step at next i : ℕ) : Type 0 where
   pub at-pair : at ≡ 3 * (ownPort P ((j + 2 * i) / 2 % 2) * T + (start + step * i))
   pub next-pair : next ≡ 3 * (ownPort P ((j + 2 * (i + 1)) / 2 % 2) * T + (start + step * (i + 1)))
-
--- some pairs start there
-pub record StartsIn (P T j start step : ℕ) : Type 0 where
-  pub gap : ℕ
-  pub count : ℕ
-  pub grid : List ℕ
-  pub pairs : PairsIn P T gap j start step count grid
 
 pub record Starting (P T j start step : ℕ) (r : Starts) : Type 0 where
   pub first : TurnAt P T j start step (r .at) (r .next) 0

@@ -11,13 +11,13 @@ ghost use mathlib.Core.Bool.{cond};
 ghost use Prim.Native.Nat.{_+_, _*_, _≤_, _<_};
 ghost use lib.Dec.{eqb};
 ghost use Rattle.modulation.specs.Symbols.{Order};
-ghost use Rattle.walk.specs.Addresses.{PairsIn, RunIn, RunOpen, SinglesIn, HolesIn};
+ghost use Rattle.walk.specs.Addresses.{PairsIn, PairsFit, RunIn, RunOpen, SinglesIn, HolesIn};
 ghost use Rattle.walk.specs.Forms.{SingleForm, holedPlace};
 ghost use Rattle.walk.specs.Runs.{runCount};
 ghost use Rattle.areas.specs.Runs.{AreaRuns};
 ghost use Rattle.data_compare.specs.Symbols.{AreaCompared, CompareIn};
 ghost use Rattle.data_compare.specs.Tests.{FormOf, wrongOf, sumsWith, toldBy};
-ghost use Rattle.data_compare.specs.Places.{StartsIn, Starting, PairsSeen, PlacesSeen, RunSeen, Through};
+ghost use Rattle.data_compare.specs.Places.{Starting, PairsSeen, PlacesSeen, RunSeen, Through};
 
 // What elements of an order and a unit have in common, for two elements as one number: `fixed` where `fixes` has bits, that is the
 // unit and that levels are odd; and a level's bits from `same` on are alike, so that it is one of the order.
@@ -81,7 +81,7 @@ struct Starts {
 }
 
 fn starts_of(ports: u8, places: usize, j: usize, start: usize, step: usize) -> Starts
-    requires { ⌜ StartsIn ports places j start step ⌝ }
+    requires { ⌜ PairsFit ports places j start step ⌝ }
     ensures { λ r. ⌜ Starting ports places j start step r ⌝ }
 {
     let p = walk::port_offsets(ports, places, j);

@@ -14,10 +14,10 @@ use Rattle.element_pairs.specs.Numbers.{OneRead, TwoRead}
 use Rattle.section_bits.specs.Gathering.{Bits, GiveIn, Gives}
 use Rattle.walk.specs.declared.PortOffsets.{PortOffsets}
 use Rattle.walk.specs.declared.Run.{Run}
-use Rattle.walk.specs.Addresses.{OffsetsAt, PairsIn, RoundAt, SinglesIn, HolesIn}
+use Rattle.walk.specs.Addresses.{OffsetsAt, PairsIn, RunPairs, RoundAt, SinglesIn, HolesIn}
 use Rattle.walk.specs.Forms.{Paired, PairForm, all-six, pairs-left, pairs-right, pairs-apart, Stretch, StretchesAt, holedPlace}
 use Rattle.walk.specs.Runs.{runCount, placeAt}
-use Rattle.walk.proofs.Addresses.{own-inside, rounds-start, at-own, next-at, fits-at, fits-next, round-small, rounds-on}
+use Rattle.walk.proofs.Addresses.{run-total, sixes-all, rounds-start, at-own, next-at, fits-at, fits-next, round-small, rounds-on}
 use Rattle.walk.proofs.Forms.{left-pairs, right-pairs}
 use Rattle.areas.specs.Tables.{Smaller}
 use Rattle.areas.proofs.Stretches.{stretches-start, stretch-here, stretch-in, stretches-on}
@@ -123,9 +123,6 @@ module _
 -- one pair
 module _
     {P T j start q : ℕ} {d g st part : List ℕ} (h : PairsIn P T 1 j start 2 1 g) (s : Reading q j 2 d st part) {r : PortOffsets} (p : OffsetsAt P T j r) where
-  pub one-fits : 3 * (r .own + start) + 5 < length g
-  one-fits = omega (arith, p .own, own-inside h (j / 2 % 2) 0 (omega arith))
-
   pub one-gives : {w : ℕ} → w < 2 ^ (2 * q) → GiveIn (2 * q) w st part
   one-gives = give-in s refl (pair-groups q (s .table .order)) (j / 2) (pair-bits q j (h .even))
 
@@ -158,10 +155,9 @@ module _ (halves P T first : ℕ) {q j : ℕ} {d g st part st′ part′ : List 
       rw (a, c, k) (omega arith))
 
   pub sixes-even : (3 * halves % 2 ≡ 1 → ⊥) → ReadOn q j (6 * halves) (pairElement P T j first 2 1) d g st part st′ part′
-  sixes-even e = let k : 4 * (3 * halves / 2) ≡ 6 * halves = even e in subst (λ (x : ℕ). ReadOn q j x (pairElement P T j first 2 1) d g st part st′ part′) k o
-    where
-      even : (3 * halves % 2 ≡ 1 → ⊥) → 4 * (3 * halves / 2) ≡ 6 * halves
-      even e = omega arith
+  sixes-even e =
+      let k : 4 * (3 * halves / 2) ≡ 6 * halves = omega (arith, sixes-all halves e) in
+      subst (λ (x : ℕ). ReadOn q j x (pairElement P T j first 2 1) d g st part st′ part′) k o
 
 -- ---- side by side on one port, one or two in each round
 module _ (start : ℕ) {j q n : ℕ} {d g st part : List ℕ} (s : Reading q j n d st part) where
@@ -226,35 +222,37 @@ module _
       }
 
 -- ---- a run by its form
-module _ (P T j : ℕ) (run : Run) where
-  paired-element :
-      {off step gap per start : ℕ} → Paired (run .mask) off step gap per → start ≡ run .first + off → (i : ℕ)
-      → pairElement P T j start step gap i ≡ runElement P T j run i
-  paired-element {off} {step} {gap} {start = start} p at i =
-      ap (λ (x : ℕ). ownPort P ((j + i) / 2 % 2) * T + x) (pick (ℕ-discrete (i % 2) 0))
+module _ (P T j : ℕ) {run : Run} {gap start step m : ℕ} (p : RunPairs run gap start step m) where
+  paired-element : (i : ℕ) → pairElement P T j start step gap i ≡ runElement P T j run i
+  paired-element i = ap (λ (x : ℕ). ownPort P ((j + i) / 2 % 2) * T + x) (pick (ℕ-discrete (i % 2) 0))
     where
       pick : Dec (i % 2 ≡ 0) → start + step * (i / 2) + gap * (i % 2) ≡ run .first + placeAt (run .mask) i
       pick (yes z) =
           let k : i ≡ 2 * (i / 2) = omega arith in
-          omega (arith, p .even (i / 2), ap (placeAt (run .mask)) k, ap (λ (x : ℕ). gap * x) z, mul-zero gap)
+          omega (arith, p .place, p .paired .even (i / 2), ap (placeAt (run .mask)) k, ap (λ (x : ℕ). gap * x) z, mul-zero gap)
       pick (no z) =
           let k : i ≡ 2 * (i / 2) + 1 = omega arith in
           let o : i % 2 ≡ 1 = omega arith in
-          omega (arith, p .odd (i / 2), ap (placeAt (run .mask)) k, ap (λ (x : ℕ). gap * x) o, mul-one gap)
+          omega (arith, p .place, p .paired .odd (i / 2), ap (placeAt (run .mask)) k, ap (λ (x : ℕ). gap * x) o, mul-one gap)
 
-  module _ {q n : ℕ} {d g st part st′ part′ : List ℕ} where
-    pub paired-read :
-        {off step gap per : ℕ} (start : ℕ) → Paired (run .mask) off step gap per → start ≡ run .first + off → runCount run ≡ n
-        → ReadOn q j n (pairElement P T j start step gap) d g st part st′ part′
-        → ReadOn q j (runCount run) (runElement P T j run) d g st part st′ part′
-    paired-read start p at is o = rw is (read-same (λ i l. paired-element p at i) o)
+  pub paired-read :
+      {q n : ℕ} {d g st part st′ part′ : List ℕ} → 2 * m ≡ n → ReadOn q j n (pairElement P T j start step gap) d g st part st′ part′
+      → ReadOn q j (runCount run) (runElement P T j run) d g st part st′ part′
+  paired-read is o = rw (run-total p ∙ is) (read-same (λ i l. paired-element i) o)
 
 -- two pairs side by side, and before them a hole or not
-pub pairs-beside : {mask off : ℕ} → PairForm mask → (mask ≡ 63 → ⊥) → (mask ≡ 45 → ⊥) → BeforePairs mask off → Paired mask off 3 1 2 × (off ≤ 1)
+pairs-beside : {mask off : ℕ} → PairForm mask → (mask ≡ 63 → ⊥) → (mask ≡ 45 → ⊥) → BeforePairs mask off → Paired mask off 3 1 2 × (off ≤ 1)
 pairs-beside all-six a b o = absurd (a refl)
 pairs-beside pairs-left a b o = let z = o .left (λ e. omega arith) in (rw z (left-pairs refl), omega arith)
 pairs-beside pairs-right a b o = let z = o .right refl in (rw z (right-pairs refl), omega arith)
 pairs-beside pairs-apart a b o = absurd (b refl)
+
+pub beside-run :
+    (run : Run) {off : ℕ} → PairForm (run .mask) → (run .mask ≡ 63 → ⊥) → (run .mask ≡ 45 → ⊥) → BeforePairs (run .mask) off
+    → RunPairs run 1 (run .first + off) 3 (2 * run .halves)
+beside-run run {off} f a b o =
+    let p = pairs-beside f a b o in
+    record { off = off; per = 2; paired = p .0; short = omega arith; near = p .1; count = omega arith; place = refl }
 
 -- on one port
 pub single-read :

@@ -7,7 +7,7 @@ use native.Mathlib.Omega.{arith}
 use Rattle.gold.specs.declared.Registers.{Registers}
 use Rattle.modulation.specs.Symbols.{Order}
 use Rattle.codeword.specs.Streams.{symbolsOf}
-use Rattle.codeword.specs.Bits48.{Standing, CanTake, Takes}
+use Rattle.codeword.specs.Bits48.{Standing, Takes}
 use Rattle.codeword.proofs.Orders.{quad-groups}
 use Rattle.precoding.specs.Places.{ownPort, otherPort}
 use Rattle.grid.specs.Writing.{Written}
@@ -19,7 +19,7 @@ use Rattle.walk.proofs.Pairs.{written-none, written-join, pair-written}
 use Rattle.walk.proofs.Addresses.{at-own, at-other, next-at, next-other, rounds-start, rounds-on, round-small, fits-at, fits-next}
 use Rattle.data_write.specs.Sent.{sentElement, TableOf, Sending, FromTable}
 use Rattle.data_write.specs.declared.FirstRound.{FirstRound}
-use Rattle.data_write.specs.Pairs.{RoundIn, RoundDone, PairsFit, FirstAt, PairsDone, Rounds}
+use Rattle.data_write.specs.Pairs.{RoundIn, RoundDone, FirstAt, PairsDone, Rounds}
 use Rattle.data_write.proofs.Source.{stands-on, can-take, SymbolsAt, pair-has, first-symbols, next-symbols}
 
 module _ {P T gap j start step m : ℕ} {before : List ℕ} (h : PairsIn P T gap j start step m before) where
@@ -68,9 +68,6 @@ round-made {z = z} {own} {other} {own′} {other′} {middle = middle} k x y a b
     }
 
 -- ---- and rounds after rounds
-pub pairs-fit : {P T gap j start step m : ℕ} {grid : List ℕ} → PairsIn P T gap j start step m grid → PairsFit P T j start step
-pairs-fit {gap = gap} {m = m} {grid} h = record { gap = gap; pairs = m; grid = grid; inside = h }
-
 pub rounds-first :
     {P T gap j start step : ℕ} (n : ℕ) {q : ℕ} {t bits st before : List ℕ} {x : FirstRound} → PairsIn P T gap j start step (2 * n) before
     → FirstAt P T j start step x → Rounds P T gap j start step n q t bits st before (x .at) (x .next) 0 st before

@@ -13,7 +13,7 @@ use Rattle.walk.specs.declared.PortOffsets.{PortOffsets}
 use Rattle.walk.specs.declared.Run.{Run}
 use Rattle.walk.specs.Runs.{runCount, Laid, PairsAt}
 use Rattle.walk.specs.Parts.{sentPart}
-use Rattle.walk.specs.Addresses.{OffsetsAt, PairsIn, RoundAt}
+use Rattle.walk.specs.Addresses.{OffsetsAt, RoundAt}
 use Rattle.data_write.specs.declared.FirstRound.{FirstRound}
 use Rattle.data_write.specs.Sent.{sentElement, TableOf, FromTable}
 
@@ -37,13 +37,7 @@ pub record RoundDone (gap q : ℕ) (t bits st : List ℕ) (at next across : ℕ)
   pub put : PairPut gap at across own other before middle
   pub put-next : PairPut gap next across own-next other-next middle after
 
--- some pairs are inside a grid, and where rounds of them begin, by the offsets of their ports
-pub record PairsFit (P T j start step : ℕ) : Type 0 where
-  pub gap : ℕ
-  pub pairs : ℕ
-  pub grid : List ℕ
-  pub inside : PairsIn P T gap j start step pairs grid
-
+-- where rounds of pairs begin, by the offsets of their ports
 pub record FirstAt (P T j start step : ℕ) (x : FirstRound) : Type 0 where
   pub offsets : PortOffsets
   pub ports : OffsetsAt P T j offsets

@@ -16,10 +16,10 @@ ghost use mathlib.Core.Path.{_≡_};
 ghost use Prim.Native.Nat.{_+_, _*_, _≤_, _<_};
 ghost use lib.ListN.{length};
 ghost use Rattle.modulation.specs.Symbols.{Order, unitOf};
-ghost use Rattle.walk.specs.Addresses.{PairsIn, RunIn, RunOpen, SinglesIn, HolesIn};
+ghost use Rattle.walk.specs.Addresses.{PairsIn, PairsFit, RunIn, RunOpen, SinglesIn, HolesIn};
 ghost use Rattle.walk.specs.Forms.{holedPlace};
 ghost use Rattle.data_write.specs.Sent.{groupOf, TableOf, Sending};
-ghost use Rattle.data_write.specs.Pairs.{RoundIn, RoundDone, PairsFit, FirstAt, PairsDone, RunFilled};
+ghost use Rattle.data_write.specs.Pairs.{RoundIn, RoundDone, FirstAt, PairsDone, RunFilled};
 ghost use Rattle.data_write.specs.OnePort.{PlacesDone};
 ghost use Rattle.data_write.specs.Areas.{RunsIn, RunsDone, FillIn, AreaFilled};
 

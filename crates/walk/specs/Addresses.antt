@@ -8,7 +8,7 @@ use Rattle.grid.specs.Writing.{Room}
 use Rattle.walk.specs.declared.PortOffsets.{PortOffsets}
 use Rattle.walk.specs.declared.Run.{Run}
 use Rattle.walk.specs.Runs.{runCount}
-use Rattle.walk.specs.Forms.{PairForm, SingleForm, holedPlace}
+use Rattle.walk.specs.Forms.{Paired, PairForm, SingleForm, holedPlace}
 
 -- the own port of the pair at index j, that of the next pair, and the way to the other port
 pub record OffsetsAt (P T j : ℕ) (r : PortOffsets) : Type 0 where
@@ -25,6 +25,23 @@ pub record PairsIn (P T gap j start step m : ℕ) (grid : List ℕ) : Type 0 whe
   pub early : start ≤ T
   pub short : step ≤ 3
   pub inside : (i : ℕ) → i < m → start + step * i + gap < T
+
+-- some pairs are, from place `start` on
+pub record PairsFit (P T j start step : ℕ) : Type 0 where
+  pub gap : ℕ
+  pub pairs : ℕ
+  pub grid : List ℕ
+  pub inside : PairsIn P T gap j start step pairs grid
+
+-- THE PAIRS OF A RUN: m of them, from place `start` on
+pub record RunPairs (r : Run) (gap start step m : ℕ) : Type 0 where
+  pub off : ℕ
+  pub per : ℕ
+  pub paired : Paired (r .mask) off step gap per
+  pub short : step ≤ 3
+  pub near : off ≤ 1
+  pub count : m ≡ r .halves * per
+  pub place : start ≡ r .first + off
 
 -- two pairs in each round of a loop: where round i of n finds its pairs
 pub record RoundAt (P T j start step n at next i : ℕ) : Type 0 where
