@@ -32,30 +32,22 @@ singles-requires c κs = holes-next (c .before .before .before .before .loop .in
 
 add-k : tie.Need-add-k Inv-loop μ-loop
 add-k c =
-    let a = c .before .before .before .before .before in
-    let b = a .before in
-    let d = b .before in
+    let a = c .before .before .before .before .before in let b = a .before in let d = b .before in
     omega (arith, d .loop .inv .index, b .loop-test .taken, a .smaller .ensures .second)
 
 add-at : tie.Need-add-at Inv-loop μ-loop
 add-at c =
-    let a = c .before .before .before .before .before in
-    let b = a .before in
-    let d = b .before in
+    let a = c .before .before .before .before .before in let b = a .before in let d = b .before in
     omega (arith, holes-next (d .loop .inv) (b .loop-test .taken) (a .smaller .ensures) .0)
 
 add-at-2 : tie.Need-add-at-2 Inv-loop μ-loop
 add-at-2 c =
-    let a = c .before .before .before .before .before in
-    let b = a .before in
-    let d = b .before in
+    let a = c .before .before .before .before .before in let b = a .before in let d = b .before in
     omega (arith, holes-next (d .loop .inv) (b .loop-test .taken) (a .smaller .ensures) .0)
 
 loop-less : tie.Need-loop-less Inv-loop μ-loop
 loop-less c =
-    let a = c .before .before .before .before .before in
-    let b = a .before in
-    let d = b .before in
+    let a = c .before .before .before .before .before in let b = a .before in let d = b .before in
     omega (arith, b .loop-test .taken, some (d .loop .inv .stretches) (b .loop-test .taken) (a .smaller .ensures))
 
 loop-again : tie.Need-loop-again Inv-loop μ-loop

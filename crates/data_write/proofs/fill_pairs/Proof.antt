@@ -21,7 +21,8 @@ same-length c = search needs
 
 returns : tie.Need-returns
 returns c =
-    let a = c .before .before .before .before .before in let b = a .before .before .before in run-done (six-run (b .args .run) (a .if1 .taken)) (omega arith) (c .before .before .all-six .ensures)
+    let a = c .before .before .before .before .before in let b = a .before .before .before in
+    run-done (six-run (b .args .run) (a .if1 .taken)) (omega arith) (c .before .before .all-six .ensures)
 
 quads-requires : tie.Need-quads-requires
 quads-requires c κs = let a = c .before .before in let b = a .before .before .before .before in (run-in (left-run (b .args .run) (a .if2 .taken)) (b .pre .0), b .pre .1)
@@ -37,7 +38,8 @@ same-length-2 c = search needs
 
 returns-2 : tie.Need-returns-2
 returns-2 c =
-    let a = c .before .before .before .before .before in let b = a .before .before .before .before in run-done (left-run (b .args .run) (a .if2 .taken)) (omega arith) (c .before .before .quads .ensures)
+    let a = c .before .before .before .before .before in let b = a .before .before .before .before in
+    run-done (left-run (b .args .run) (a .if2 .taken)) (omega arith) (c .before .before .quads .ensures)
 
 add-quads : tie.Need-add-quads
 add-quads c = omega (arith, run-small (c .before .before .before .before .before .before .before .pre .0))
@@ -56,7 +58,8 @@ same-length-3 c = search needs
 
 returns-3 : tie.Need-returns-3
 returns-3 c =
-    let a = c .before .before .before .before .before in let b = a .before .before .before .before .before in run-done (right-run (b .args .run) (a .if3 .taken)) (omega arith) (c .before .before .quads2 .ensures)
+    let a = c .before .before .before .before .before in let b = a .before .before .before .before .before in
+    run-done (right-run (b .args .run) (a .if3 .taken)) (omega arith) (c .before .before .quads2 .ensures)
 
 quads-apart-requires : tie.Need-quads-apart-requires
 quads-apart-requires c κs =
