@@ -1,7 +1,7 @@
 -- AN AREA, run after run: where the cursor starts, what its run needs and is, where it stands after the run, and the end. The code has the extent of
 -- the grid from a slot's symbols and from the blocks. Assumes what an area's runs need.
-use Prim.Native.Nat.{ℕ, _+_, _*_, _%_, _≤_, _<_}
-use mathlib.Core.Path.{_≡_, refl, sym, ap, _∙_, subst}
+use Prim.Native.Nat.{ℕ, _+_, _*_, _≤_, _<_}
+use mathlib.Core.Path.{_≡_, refl, sym, ap, _∙_}
 use mathlib.Core.Bool.{Bool}
 use mathlib.Core.List.{List}
 use native.Mathlib.Omega.{arith}
