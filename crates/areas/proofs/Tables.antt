@@ -1,10 +1,9 @@
 -- THE TABLES OF AN AREA name its places: a byte for each symbol, spans with the centre and without it, rows that point to them. Assumes what
 -- the tables need.
 use Prim.Native.Nat.{ℕ, suc, _+_, _-_, _*_, _/_, _%_, _≤_, _<_}
-use mathlib.Core.Path.{_≡_, refl, sym, ap, ap₂, _∙_, subst}
+use mathlib.Core.Path.{_≡_, refl, sym, ap, _∙_, subst}
 use mathlib.Core.Bool.{Bool, true, false, not, cond, _&&_, _||_, and-false, and-true}
 use mathlib.Core.List.{List}
-use native.Mathlib.Nat.{mod-lt}
 use native.Mathlib.Decide.{decLe, ℕ-discrete}
 use native.Mathlib.Omega.{arith}
 use lib.Dec.{leb, ltb}
@@ -12,8 +11,6 @@ use lib.ListN.{length, getD, set, length-set}
 use lib.Seq.{getD-set-same, getD-set-other}
 use borrow.Author.Tests.{le-leb, lt-leb, lt-ltb, le-ltb}
 use Rattle.base.proofs.Tests.{both}
-use Rattle.base.specs.Counts.{cnt}
-use Rattle.base.proofs.Counts.{cnt-same}
 use Rattle.plan.specs.declared.Cell.{Cell}
 use Rattle.plan.specs.declared.Frame.{Frame}
 use Rattle.plan.proofs.Counts.{blocks-least, blocks-most}
@@ -22,8 +19,6 @@ use Rattle.counts.specs.Users.{taken as takenRow}
 use Rattle.places.specs.Places.{symbolAt, carrierAt, placesOf}
 use Rattle.places.specs.Halves.{without}
 use Rattle.places.proofs.Numbers.{place-both, carrier-inside, symbol-inside, symbols-most}
-use Rattle.grid.specs.Writing.{sends}
-use Rattle.walk.specs.Parts.{ownSends}
 use Rattle.walk.specs.Runs.{bitOf}
 use Rattle.walk.specs.Tables.{rowMask, rowFirst, rowEnd, inTables}
 use Rattle.walk.specs.Spans.{SpanPut, RowPut, SpanSet, RowSets}
@@ -32,7 +27,7 @@ use Rattle.walk.proofs.Spans.{put-ends, put-few, set-none, set-as, set-kept, se
 use Rattle.areas.specs.declared.Area.{Area}
 use Rattle.areas.specs.declared.RowSpans.{RowSpans}
 use Rattle.areas.specs.declared.SpanLists.{SpanLists}
-use Rattle.areas.specs.Areas.{areaHas, areaAt, areaIndex, areaCount, areaSends}
+use Rattle.areas.specs.Areas.{areaHas, areaAt}
 use Rattle.areas.specs.Masks.{Masks, centreOut}
 use Rattle.areas.specs.Tables.{RowMask, RowMasks, halfIn, ListsOf, Smaller, Greater, rowSpans, RowsSet, TablesIn, AreaTables}
 use Rattle.areas.proofs.AreaPlaces.{leb-same, leftOut, area-at}
@@ -325,23 +320,3 @@ module _ {a : Area} {masks before later : List ℕ} (h : TablesIn a masks before
 
     pub tables-made : {rows : List ℕ} → RowsSet (a .first) (a .last) l masks 14 rows → AreaTables a rows spans
     tables-made r = area-tables h l (subst (λ (x : ℕ). ListsOf x (a .from) (a .to) spans l) is lists) r
-
--- ---- what is known of the places in tables is known of the area
-module _ {a : Area} {rows spans : List ℕ} (t : AreaTables a rows spans) where
-  abbrev own : ℕ → Bool
-  own = inTables (carriers (a .cell)) rows spans
-
-  pub tables-index : (x : ℕ) → x ≤ placesOf (a .cell) → cnt own x ≡ areaIndex a x
-  unfolding areaIndex
-  tables-index x l = cnt-same own (areaAt a) x (λ y h. t .places y (omega arith))
-
-  pub tables-count : cnt own (placesOf (a .cell)) ≡ areaCount a
-  unfolding areaCount areaIndex
-  tables-count = tables-index (placesOf (a .cell)) (omega arith)
-
-  pub tables-sends : 0 < placesOf (a .cell) → (e : ℕ) → ownSends own (a .cell .ports) (placesOf (a .cell)) e ≡ areaSends a e
-  unfolding ownSends areaSends
-  tables-sends some e =
-      let l = mod-lt e some in
-      ap₂ (λ (x : Bool) (j : ℕ). x && sends (a .cell .ports) (j / 2 % 2) (e / placesOf (a .cell))) (t .places (e % placesOf (a .cell)) l)
-      (tables-index (e % placesOf (a .cell)) (omega arith))

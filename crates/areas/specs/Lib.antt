@@ -1,3 +1,4 @@
 pub mod Areas
 pub mod Masks
 pub mod Tables
+pub mod Runs

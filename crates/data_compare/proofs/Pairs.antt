@@ -14,10 +14,8 @@ use Rattle.element_pairs.specs.Numbers.{elementFrom, upper, TwoRead}
 use Rattle.walk.specs.declared.PortOffsets.{PortOffsets}
 use Rattle.walk.specs.declared.Run.{Run}
 use Rattle.walk.specs.Runs.{PairsAt}
-use Rattle.walk.specs.Forms.{Paired}
-use Rattle.walk.specs.Addresses.{OffsetsAt, PairsIn, RunIn}
-use Rattle.walk.proofs.Runs.{pairs-of}
-use Rattle.walk.proofs.Addresses.{own-turn, own-inside, other-inside, own-most, run-total}
+use Rattle.walk.specs.Addresses.{OffsetsAt, PairsIn, RunPairs, RunIn}
+use Rattle.walk.proofs.Addresses.{own-turn, own-inside, other-inside, own-most, run-total, laid-pairs}
 use Rattle.data_compare.specs.declared.Form.{Form}
 use Rattle.data_compare.specs.declared.Sums.{Sums}
 use Rattle.data_compare.specs.declared.Starts.{Starts}
@@ -149,14 +147,11 @@ module _ {own : ℕ → Bool} {T gap j start step m : ℕ} (even : j % 2 ≡ 0) 
 
 -- ---- a run, by its form
 pub run-seen :
-    {P T j r : ℕ} {run : Run} {f : Form} {g : List ℕ} (h : RunIn P T j run g) {off step gap per : ℕ} (p : Paired (run .mask) off step gap per)
-    (few : step ≤ 3) (one : off ≤ 1) (m start : ℕ) (is : m ≡ run .halves * per) (at : start ≡ run .first + off)
+    {P T gap start step m j r : ℕ} {run : Run} {f : Form} {g : List ℕ} → RunIn P T j run g → RunPairs run gap start step m
     → PairsSeen P T gap j start step m f g r → RunSeen P T j run f g r
-run-seen {P} {T} {j} {r} {run} {f} {g} h {off} {step} {gap} {per} p few one m start is at d =
+run-seen {T = T} {j = j} h p d =
     record {
       seen = λ own q u laid o.
-          let a : PairsAt own T j start step gap m =
-          subst (λ (x : ℕ). PairsAt own T j start step gap x) (sym is) (subst (λ (x : ℕ). PairsAt own T j x step gap (run .halves * per)) (sym at) (pairs-of laid p)) in
-          rw (run-total h p few one m start is at)
-          (tells-both (λ i l. pair-indices (h .even) a i l) (λ i l. indices-pair (h .even) a i l) (d .seen q u o));
+          let a = laid-pairs p laid in
+          rw (run-total p) (tells-both (λ i l. pair-indices (h .even) a i l) (λ i l. indices-pair (h .even) a i l) (d .seen q u o));
     }

@@ -1,25 +1,20 @@
 -- For the inner contracts and loops only: what stands at a channel's places, pairs and runs in a grid, and numbers that tell whether it is right.
-use Prim.Native.Nat.{ℕ, _+_, _-_, _*_, _/_, _%_, _≤_, _<_}
+use Prim.Native.Nat.{ℕ, _+_, _*_, _/_, _%_, _≤_}
 use mathlib.Core.Path.{_≡_}
 use mathlib.Core.Bool.{Bool}
 use mathlib.Core.List.{List}
-use lib.ListN.{length}
 use Rattle.base.specs.Bytes.{elementOf, pairOf}
 use Rattle.base.specs.Counts.{nth}
 use Rattle.precoding.specs.Places.{ownPort, otherPort, partnerOf, beside}
-use Rattle.layout.specs.Owners.{symbols, carriers}
 use Rattle.places.specs.Places.{placesOf}
 use Rattle.grid.specs.Elements.{elementIn}
-use Rattle.grid.specs.Writing.{Room}
 use Rattle.walk.specs.declared.Cursor.{Cursor}
 use Rattle.walk.specs.declared.Run.{Run}
 use Rattle.walk.specs.Runs.{runCount, Laid}
-use Rattle.walk.specs.Forms.{PairForm, SingleForm, Stretch}
-use Rattle.walk.specs.Addresses.{PairsIn}
-use Rattle.walk.specs.Tables.{AtIndex}
+use Rattle.walk.specs.Forms.{StretchesAt, holedPlace}
 use Rattle.areas.specs.declared.Area.{Area}
-use Rattle.areas.specs.Areas.{areaAt, areaCount, AreaIn, SignalsIn}
-use Rattle.areas.specs.Tables.{AreaTables}
+use Rattle.areas.specs.Areas.{areaAt, areaCount}
+use Rattle.areas.specs.Runs.{AreaAt}
 use Rattle.data_compare.specs.declared.Form.{Form}
 use Rattle.data_compare.specs.declared.Sums.{Sums}
 use Rattle.data_compare.specs.declared.Starts.{Starts}
@@ -43,13 +38,6 @@ pub record TurnAt (P T j start step at next i : ℕ) : Type 0 where
   pub at-pair : at ≡ 3 * (ownPort P ((j + 2 * i) / 2 % 2) * T + (start + step * i))
   pub next-pair : next ≡ 3 * (ownPort P ((j + 2 * (i + 1)) / 2 % 2) * T + (start + step * (i + 1)))
 
--- some pairs start there
-pub record StartsIn (P T j start step : ℕ) : Type 0 where
-  pub gap : ℕ
-  pub count : ℕ
-  pub grid : List ℕ
-  pub pairs : PairsIn P T gap j start step count grid
-
 pub record Starting (P T j start step : ℕ) (r : Starts) : Type 0 where
   pub first : TurnAt P T j start step (r .at) (r .next) 0
   pub across : (turn : ℕ) → 3 * (ownPort P turn * T) + r .across ≡ 3 * (otherPort P turn * T)
@@ -66,20 +54,15 @@ pub record Pairs (P T gap j start step m : ℕ) (f : Form) (g : List ℕ) (s : S
   pub turn : TurnAt P T j start step at next i
   pub done : PairsSeen P T gap j start step i f g (toldBy f s)
 
--- ---- places on one port, side by side, or between holes: `lead` before the first hole, then `each` before the next one
-pub record SinglesIn (start n : ℕ) (g : List ℕ) : Type 0 where
-  pub inside : 3 * (start + n) ≤ length g
-  pub small : start + n ≤ 16800
-
-pub record SinglesSeen (start n : ℕ) (f : Form) (g : List ℕ) (r : ℕ) : Type 0 where
-  pub seen : (q u : ℕ) → FormOf q u f → Tells r n (λ (i : ℕ). Own q u (elementIn g (start + i)))
+-- ---- places e 0, e 1, .. on one port; side by side, one or two at a time, and between holes
+pub record PlacesSeen (n : ℕ) (e : ℕ → ℕ) (f : Form) (g : List ℕ) (r : ℕ) : Type 0 where
+  pub seen : (q u : ℕ) → FormOf q u f → Tells r n (λ (i : ℕ). Own q u (elementIn g (e i)))
 
 pub record Singles (start n : ℕ) (f : Form) (g : List ℕ) (bad at i : ℕ) : Type 0 where
   pub few : i ≤ n
   pub place : at ≡ 3 * (start + i)
-  pub done : SinglesSeen start i f g bad
+  pub done : PlacesSeen i (_+_ start) f g bad
 
--- two at a time
 pub record Doubles (start n : ℕ) (f : Form) (g : List ℕ) (bad at i : ℕ) : Type 0 where
   pub few : i ≤ n
   pub place : at ≡ 3 * (start + 2 * i)
@@ -87,53 +70,21 @@ pub record Doubles (start n : ℕ) (f : Form) (g : List ℕ) (bad at i : ℕ) : 
       (q u : ℕ) → FormOf q u f
       → Tells bad i (λ (k : ℕ). Own q u (elementIn g (start + 2 * k)) × Own q u (elementIn g (start + (2 * k + 1))))
 
-abbrev pub holedAt : ℕ → ℕ → ℕ → ℕ
-holedAt lead each k = k + (k + (each - lead)) / each
-
-pub record HolesIn (first lead each total : ℕ) (g : List ℕ) : Type 0 where
-  pub early : lead ≤ each
-  pub some : 0 < each
-  pub from : first ≤ 16800
-  pub inside : (k : ℕ) → k < total → 3 * (first + holedAt lead each k + 1) ≤ length g
-  pub small : (k : ℕ) → k < total → first + holedAt lead each k + 1 ≤ 16800
-
-pub record HolesSeen (first lead each total : ℕ) (f : Form) (g : List ℕ) (r : ℕ) : Type 0 where
-  pub seen : (q u : ℕ) → FormOf q u f → Tells r total (λ (k : ℕ). Own q u (elementIn g (first + holedAt lead each k)))
-
 pub record Stretches (first lead each total : ℕ) (f : Form) (g : List ℕ) (bad at left k : ℕ) : Type 0 where
-  pub few : k ≤ total
-  pub stretch : k < total → Stretch first lead each k at left
-  pub done : HolesSeen first lead each k f g bad
+  pub stretches : StretchesAt first lead each total at left k
+  pub done : PlacesSeen k (holedPlace first lead each) f g bad
 
--- ---- a run. What it needs, on one port or more
-pub record AnyIn (P T j : ℕ) (run : Run) (g : List ℕ) : Type 0 where
-  pub room : Room P T g
-  pub before : run .first < T
-  pub inside : run .first + 6 * run .halves ≤ T
-  pub single : SingleForm (run .mask)
-  pub short : run .halves ≤ 255
-  pub index : j + runCount run ≤ 16800
-  pub pairs : 2 ≤ P → PairForm (run .mask)
-  pub even : 2 ≤ P → j % 2 ≡ 0
-
+-- ---- a run
 pub record RunSeen (P T j : ℕ) (run : Run) (f : Form) (g : List ℕ) (r : ℕ) : Type 0 where
   pub seen : (own : ℕ → Bool) (q u : ℕ) → Laid own T j run → FormOf q u f → Tells r (runCount run) (λ (k : ℕ). Right own P T q u g (j + k))
 
 -- ---- an area
-pub record RunsIn (a : Area) (rows spans g : List ℕ) : Type 0 where
-  pub order : ℕ
-  pub unit : ℕ
-  pub area : AreaIn a order unit g
-  pub signals : SignalsIn a
-  pub tables : AreaTables a rows spans
-
 -- the places of the indices below n are compared
 pub record AreaSeen (a : Area) (f : Form) (g : List ℕ) (n r : ℕ) : Type 0 where
   pub seen : (q u : ℕ) → FormOf q u f → Tells r n (Right (areaAt a) (a .cell .ports) (placesOf (a .cell)) q u g)
 
 pub record Going (a : Area) (rows spans : List ℕ) (f : Form) (g : List ℕ) (c : Cursor) (j r : ℕ) : Type 0 where
-  pub comes : AtIndex (carriers (a .cell)) (symbols (a .cell)) rows spans c j
-  pub even : 2 ≤ a .cell .ports → j % 2 ≡ 0
+  pub cursor : AreaAt a rows spans c j
   pub done : AreaSeen a f g j r
 
 pub record Through (a : Area) (f : Form) (g : List ℕ) (j r : ℕ) : Type 0 where

@@ -8,15 +8,16 @@ use element_pairs::three_at;
 use walk::Run;
 ghost use mathlib.Core.Path.{_≡_};
 ghost use mathlib.Core.Bool.{cond};
-ghost use Prim.Native.Nat.{_*_, _≤_, _<_};
+ghost use Prim.Native.Nat.{_+_, _*_, _≤_, _<_};
 ghost use lib.Dec.{eqb};
 ghost use Rattle.modulation.specs.Symbols.{Order};
-ghost use Rattle.walk.specs.Addresses.{PairsIn, RunIn};
-ghost use Rattle.walk.specs.Forms.{SingleForm};
+ghost use Rattle.walk.specs.Addresses.{PairsIn, PairsFit, RunIn, RunOpen, SinglesIn, HolesIn};
+ghost use Rattle.walk.specs.Forms.{SingleForm, holedPlace};
 ghost use Rattle.walk.specs.Runs.{runCount};
+ghost use Rattle.areas.specs.Runs.{AreaRuns};
 ghost use Rattle.data_compare.specs.Symbols.{AreaCompared, CompareIn};
 ghost use Rattle.data_compare.specs.Tests.{FormOf, wrongOf, sumsWith, toldBy};
-ghost use Rattle.data_compare.specs.Places.{StartsIn, Starting, PairsSeen, SinglesIn, SinglesSeen, HolesIn, HolesSeen, AnyIn, RunSeen, RunsIn, Through};
+ghost use Rattle.data_compare.specs.Places.{Starting, PairsSeen, PlacesSeen, RunSeen, Through};
 
 // What elements of an order and a unit have in common, for two elements as one number: `fixed` where `fixes` has bits, that is the
 // unit and that levels are odd; and a level's bits from `same` on are alike, so that it is one of the order.
@@ -80,7 +81,7 @@ struct Starts {
 }
 
 fn starts_of(ports: u8, places: usize, j: usize, start: usize, step: usize) -> Starts
-    requires { ⌜ StartsIn ports places j start step ⌝ }
+    requires { ⌜ PairsFit ports places j start step ⌝ }
     ensures { λ r. ⌜ Starting ports places j start step r ⌝ }
 {
     let p = walk::port_offsets(ports, places, j);
@@ -173,7 +174,7 @@ fn see_pairs(f: Form, grid: &[u8], run: Run, j: usize, ports: u8, places: usize)
 // n places side by side on one port.
 fn singles(f: Form, grid: &[u8], start: usize, n: usize) -> u64
     requires { ⌜ SinglesIn start n (now grid) ⌝ }
-    ensures { λ r. ⌜ SinglesSeen start n f (now (grid .entry)) r ⌝ }
+    ensures { λ r. ⌜ PlacesSeen n (_+_ start) f (now (grid .entry)) r ⌝ }
 {
     let mut bad: u64 = 0;
     let mut at = 3 * start;
@@ -189,7 +190,7 @@ fn singles(f: Form, grid: &[u8], start: usize, n: usize) -> u64
 // Twice n places, two at a time.
 fn doubles(f: Form, grid: &[u8], start: usize, n: usize) -> u64
     requires { ⌜ SinglesIn start (2 * n) (now grid) ⌝ }
-    ensures { λ r. ⌜ SinglesSeen start (2 * n) f (now (grid .entry)) r ⌝ }
+    ensures { λ r. ⌜ PlacesSeen (2 * n) (_+_ start) f (now (grid .entry)) r ⌝ }
 {
     let mut bad: u64 = 0;
     let mut at = 3 * start;
@@ -205,7 +206,7 @@ fn doubles(f: Form, grid: &[u8], start: usize, n: usize) -> u64
 // `total` places of a run with holes, stretch after stretch between them: `lead` places before the first hole, then `each`.
 fn between(f: Form, grid: &[u8], first: usize, lead: usize, each: usize, total: usize) -> u64
     requires { ⌜ HolesIn first lead each total (now grid) ⌝ }
-    ensures { λ r. ⌜ HolesSeen first lead each total f (now (grid .entry)) r ⌝ }
+    ensures { λ r. ⌜ PlacesSeen total (holedPlace first lead each) f (now (grid .entry)) r ⌝ }
 {
     let s = walk::first_stretch(first, lead, each);
     let mut bad: u64 = 0;
@@ -224,7 +225,7 @@ fn between(f: Form, grid: &[u8], first: usize, lead: usize, each: usize, total: 
 
 // A run on one port.
 fn see_single(f: Form, grid: &[u8], run: Run, j: usize, places: usize) -> u64
-    requires { ⌜ AnyIn 1 places j run (now grid) ⌝ }
+    requires { ⌜ RunOpen 1 places j run (now grid) ⌝ }
     ensures { λ r. ⌜ RunSeen 1 places j run f (now (grid .entry)) r ⌝ }
 {
     let first = run.first;
@@ -238,7 +239,7 @@ fn see_single(f: Form, grid: &[u8], run: Run, j: usize, places: usize) -> u64
 
 // A run of half blocks, from the channel's index j on.
 fn see_run(f: Form, grid: &[u8], run: Run, j: usize, ports: u8, places: usize) -> u64
-    requires { ⌜ AnyIn ports places j run (now grid) ⌝ }
+    requires { ⌜ RunOpen ports places j run (now grid) ⌝ }
     ensures { λ r. ⌜ RunSeen ports places j run f (now (grid .entry)) r ⌝ }
 {
     if ports == 1 {
@@ -264,7 +265,7 @@ struct Sum {
 
 // All runs of an area, by its tables.
 fn see_runs(f: Form, grid: &[u8], a: Area, rows: &[u8; 45], spans: &[u8; 512]) -> Sum
-    requires { ⌜ RunsIn a (now rows) (now spans) (now grid) ⌝ }
+    requires { ⌜ AreaRuns a (now rows) (now spans) (now grid) ⌝ }
     ensures { λ r. ⌜ Through a f (now (grid .entry)) (r .j) (r .bad) ⌝ }
 {
     let symbols = 2 * layout::slot_length(a.cell);

@@ -3,7 +3,7 @@ use Prim.Native.Nat.{ℕ, _+_, _-_, _*_, _/_, _%_, _^_, _≤_, _<_}
 use mathlib.Core.Path.{_≡_, refl, sym, ap, _∙_, subst}
 use mathlib.Core.List.{List}
 use native.Mathlib.Nat.{mul-comm, mul-assoc, mul-zero, mul-one, zero-mul}
-use native.Mathlib.Decide.{decLe, ℕ-discrete}
+use native.Mathlib.Decide.{ℕ-discrete}
 use native.Mathlib.Omega.{arith}
 use lib.ListN.{length}
 use Rattle.gold.specs.Sequence.{binary}
@@ -12,18 +12,16 @@ use Rattle.precoding.specs.Places.{ownPort}
 use Rattle.constellation.specs.Axis.{wordOf}
 use Rattle.element_pairs.specs.Numbers.{OneRead, TwoRead}
 use Rattle.section_bits.specs.Gathering.{Bits, GiveIn, Gives}
-use Rattle.walk.specs.declared.Holes.{Holes}
 use Rattle.walk.specs.declared.PortOffsets.{PortOffsets}
 use Rattle.walk.specs.declared.Run.{Run}
-use Rattle.walk.specs.Addresses.{OffsetsAt, PairsIn, RoundAt, RunIn}
-use Rattle.walk.specs.Forms.{Paired, PairForm, all-six, pairs-left, pairs-right, pairs-apart, HolesOf, Stretch}
+use Rattle.walk.specs.Addresses.{OffsetsAt, PairsIn, RunPairs, RoundAt, SinglesIn, HolesIn}
+use Rattle.walk.specs.Forms.{Paired, PairForm, all-six, pairs-left, pairs-right, pairs-apart, Stretch, StretchesAt, holedPlace}
 use Rattle.walk.specs.Runs.{runCount, placeAt}
-use Rattle.walk.proofs.Addresses.{own-inside, rounds-start, at-own, next-at, fits-at, fits-next, round-small, rounds-on}
-use Rattle.walk.proofs.Forms.{place-63, left-pairs, right-pairs}
-use Rattle.walk.proofs.Runs.{within-at, six-count}
-use Rattle.walk.proofs.Singles.{stretch-at, stretch-on}
+use Rattle.walk.proofs.Addresses.{run-total, sixes-all, rounds-start, at-own, next-at, fits-at, fits-next, round-small, rounds-on}
+use Rattle.walk.proofs.Forms.{left-pairs, right-pairs}
 use Rattle.areas.specs.Tables.{Smaller}
-use Rattle.data_read.specs.Runs.{bothOf, Stands, Reading, ReadOn, pairElement, holedElement, runElement, BeforePairs, HolesIn, RunOpen}
+use Rattle.areas.proofs.Stretches.{stretches-start, stretch-here, stretch-in, stretches-on}
+use Rattle.data_read.specs.Runs.{bothOf, Stands, Reading, ReadOn, pairElement, runElement, BeforePairs}
 use Rattle.data_read.proofs.Words.{both-bits, four-bits}
 use Rattle.data_read.proofs.Gatherings.{give-in, read-none, read-same, read-later, read-give, read-join}
 
@@ -125,9 +123,6 @@ module _
 -- one pair
 module _
     {P T j start q : ℕ} {d g st part : List ℕ} (h : PairsIn P T 1 j start 2 1 g) (s : Reading q j 2 d st part) {r : PortOffsets} (p : OffsetsAt P T j r) where
-  pub one-fits : 3 * (r .own + start) + 5 < length g
-  one-fits = omega (arith, p .own, own-inside h (j / 2 % 2) 0 (omega arith))
-
   pub one-gives : {w : ℕ} → w < 2 ^ (2 * q) → GiveIn (2 * q) w st part
   one-gives = give-in s refl (pair-groups q (s .table .order)) (j / 2) (pair-bits q j (h .even))
 
@@ -160,10 +155,9 @@ module _ (halves P T first : ℕ) {q j : ℕ} {d g st part st′ part′ : List 
       rw (a, c, k) (omega arith))
 
   pub sixes-even : (3 * halves % 2 ≡ 1 → ⊥) → ReadOn q j (6 * halves) (pairElement P T j first 2 1) d g st part st′ part′
-  sixes-even e = let k : 4 * (3 * halves / 2) ≡ 6 * halves = even e in subst (λ (x : ℕ). ReadOn q j x (pairElement P T j first 2 1) d g st part st′ part′) k o
-    where
-      even : (3 * halves % 2 ≡ 1 → ⊥) → 4 * (3 * halves / 2) ≡ 6 * halves
-      even e = omega arith
+  sixes-even e =
+      let k : 4 * (3 * halves / 2) ≡ 6 * halves = omega (arith, sixes-all halves e) in
+      subst (λ (x : ℕ). ReadOn q j x (pairElement P T j first 2 1) d g st part st′ part′) k o
 
 -- ---- side by side on one port, one or two in each round
 module _ (start : ℕ) {j q n : ℕ} {d g st part : List ℕ} (s : Reading q j n d st part) where
@@ -198,45 +192,22 @@ all-read {q} {j} {e} {d} {g} {st} {part} {st′} {part′} {i} {n} few l o =
 
 -- ---- stretches between holes
 pub record Stretches (q j first lead each total : ℕ) (d g st part : List ℕ) (at left k : ℕ) (st′ part′ : List ℕ) : Type 0 where
-  pub holes : HolesIn j first lead each total g
+  pub holes : HolesIn first lead each total g
+  pub index : j + total ≤ 16800
   pub reading : Reading q j total d st part
-  pub few : k ≤ total
-  pub stretch : k < total → Stretch first lead each k at left
-  pub read : ReadOn q j k (holedElement first lead each) d g st part st′ part′
+  pub stretches : StretchesAt first lead each total at left k
+  pub read : ReadOn q j k (holedPlace first lead each) d g st part st′ part′
 
 pub holes-start :
-    {q j first lead each total at left : ℕ} {d g st part : List ℕ} → HolesIn j first lead each total g → Reading q j total d st part
+    {q j first lead each total at left : ℕ} {d g st part : List ℕ} → HolesIn first lead each total g → j + total ≤ 16800 → Reading q j total d st part
     → Stretch first lead each 0 at left → Stretches q j first lead each total d g st part at left 0 st part
-holes-start h s x = record { holes = h; reading = s; few = omega arith; stretch = λ l. x; read = read-none s }
+holes-start h i s x = record { holes = h; index = i; reading = s; stretches = stretches-start x; read = read-none s }
 
 module _
     {q j first lead each total at left k n : ℕ} {d g st part st′ part′ : List ℕ} (x : Stretches q j first lead each total d g st part at left k st′ part′)
     (l : k < total) (m : Smaller left (total - k) n) where
-  pub some : 0 < n
-  some = pick (decLe left n)
-    where
-      pick : Dec (left ≤ n) → 0 < n
-      pick (yes e) = omega (arith, x .stretch l .some)
-      pick (no e) = omega (arith, m .one (omega arith))
-
-  -- the stretch is taken whole where places are left after it
-  whole : k + n < total → n ≡ left
-  whole b = pick (decLe left n)
-    where
-      pick : Dec (left ≤ n) → n ≡ left
-      pick (yes e) = omega (arith, m .first)
-      pick (no e) = absurd (omega (arith, m .one (omega arith)))
-
-  last-place : at + n ≡ holedElement first lead each (k + (n - 1)) + 1
-  last-place = let a = stretch-at (x .stretch l) (n - 1) (omega (arith, some, m .first)) in omega (arith, some, a)
-
-  pub stretch-fits : (3 * (at + n) ≤ length g) × (at + n ≤ 16800) × (k + n ≤ 16800)
-  stretch-fits =
-      let a = x .holes .inside (k + (n - 1)) (omega (arith, some, m .second)) in
-      (omega (arith, last-place, a .0), omega (arith, last-place, a .1), omega (arith, x .holes .index, m .second))
-
-  pub stretch-in : (3 * (at + n) ≤ length g) × (at + n ≤ 16800) × Reading q (j + k) n d st′ part′
-  stretch-in = (stretch-fits .0, stretch-fits .1, read-later (x .read) (x .reading) n (omega (arith, m .second)))
+  pub holes-next : SinglesIn at n g × Reading q (j + k) n d st′ part′
+  holes-next = (stretch-in (x .stretches) l m (x .holes), read-later (x .read) (x .reading) n (omega (arith, m .second)))
 
   pub holes-on :
       {st″ part″ : List ℕ} → ReadOn q (j + k) n (_+_ at) d g st′ part′ st″ part″
@@ -244,107 +215,51 @@ module _
   holes-on o =
       record {
         holes = x .holes;
+        index = x .index;
         reading = x .reading;
-        few = omega (arith, m .second);
-        stretch = λ b.
-            let e : n ≡ left = whole b in
-            let z : at + (n + 1) ≡ at + left + 1 = omega arith in
-            rw (z, e) (stretch-on (x .stretch l));
-        read = read-join (x .read) refl o (λ i c. stretch-at (x .stretch l) i (omega (arith, m .first)));
+        stretches = stretches-on (x .stretches) l m;
+        read = read-join (x .read) refl o (stretch-here (x .stretches) l m);
       }
 
 -- ---- a run by its form
-module _ (P T j : ℕ) (run : Run) where
-  paired-element :
-      {off step gap per start : ℕ} → Paired (run .mask) off step gap per → start ≡ run .first + off → (i : ℕ)
-      → pairElement P T j start step gap i ≡ runElement P T j run i
-  paired-element {off} {step} {gap} {start = start} p at i =
-      ap (λ (x : ℕ). ownPort P ((j + i) / 2 % 2) * T + x) (pick (ℕ-discrete (i % 2) 0))
+module _ (P T j : ℕ) {run : Run} {gap start step m : ℕ} (p : RunPairs run gap start step m) where
+  paired-element : (i : ℕ) → pairElement P T j start step gap i ≡ runElement P T j run i
+  paired-element i = ap (λ (x : ℕ). ownPort P ((j + i) / 2 % 2) * T + x) (pick (ℕ-discrete (i % 2) 0))
     where
       pick : Dec (i % 2 ≡ 0) → start + step * (i / 2) + gap * (i % 2) ≡ run .first + placeAt (run .mask) i
       pick (yes z) =
           let k : i ≡ 2 * (i / 2) = omega arith in
-          omega (arith, p .even (i / 2), ap (placeAt (run .mask)) k, ap (λ (x : ℕ). gap * x) z, mul-zero gap)
+          omega (arith, p .place, p .paired .even (i / 2), ap (placeAt (run .mask)) k, ap (λ (x : ℕ). gap * x) z, mul-zero gap)
       pick (no z) =
           let k : i ≡ 2 * (i / 2) + 1 = omega arith in
           let o : i % 2 ≡ 1 = omega arith in
-          omega (arith, p .odd (i / 2), ap (placeAt (run .mask)) k, ap (λ (x : ℕ). gap * x) o, mul-one gap)
+          omega (arith, p .place, p .paired .odd (i / 2), ap (placeAt (run .mask)) k, ap (λ (x : ℕ). gap * x) o, mul-one gap)
 
-  module _ {q n : ℕ} {d g st part st′ part′ : List ℕ} where
-    pub paired-read :
-        {off step gap per : ℕ} (start : ℕ) → Paired (run .mask) off step gap per → start ≡ run .first + off → runCount run ≡ n
-        → ReadOn q j n (pairElement P T j start step gap) d g st part st′ part′
-        → ReadOn q j (runCount run) (runElement P T j run) d g st part st′ part′
-    paired-read start p at is o = rw is (read-same (λ i l. paired-element p at i) o)
+  pub paired-read :
+      {q n : ℕ} {d g st part st′ part′ : List ℕ} → 2 * m ≡ n → ReadOn q j n (pairElement P T j start step gap) d g st part st′ part′
+      → ReadOn q j (runCount run) (runElement P T j run) d g st part st′ part′
+  paired-read is o = rw (run-total p ∙ is) (read-same (λ i l. paired-element i) o)
 
 -- two pairs side by side, and before them a hole or not
-pub pairs-beside : {mask off : ℕ} → PairForm mask → (mask ≡ 63 → ⊥) → (mask ≡ 45 → ⊥) → BeforePairs mask off → Paired mask off 3 1 2 × (off ≤ 1)
+pairs-beside : {mask off : ℕ} → PairForm mask → (mask ≡ 63 → ⊥) → (mask ≡ 45 → ⊥) → BeforePairs mask off → Paired mask off 3 1 2 × (off ≤ 1)
 pairs-beside all-six a b o = absurd (a refl)
 pairs-beside pairs-left a b o = let z = o .left (λ e. omega arith) in (rw z (left-pairs refl), omega arith)
 pairs-beside pairs-right a b o = let z = o .right refl in (rw z (right-pairs refl), omega arith)
 pairs-beside pairs-apart a b o = absurd (b refl)
 
+pub beside-run :
+    (run : Run) {off : ℕ} → PairForm (run .mask) → (run .mask ≡ 63 → ⊥) → (run .mask ≡ 45 → ⊥) → BeforePairs (run .mask) off
+    → RunPairs run 1 (run .first + off) 3 (2 * run .halves)
+beside-run run {off} f a b o =
+    let p = pairs-beside f a b o in
+    record { off = off; per = 2; paired = p .0; short = omega arith; near = p .1; count = omega arith; place = refl }
+
 -- on one port
-pub run-total : (run : Run) {h : Holes} → HolesOf (run .mask) h → h .count * run .halves ≡ runCount run
-unfolding runCount
-run-total run {h} o = mul-comm (h .count) (run .halves) ∙ ap (λ (x : ℕ). run .halves * x) (o .count)
-
-module _ {T j : ℕ} {run : Run} {g : List ℕ} (s : RunOpen 1 T j run g) {h : Holes} (o : HolesOf (run .mask) h) where
-  one-element : (i : ℕ) → run .first + placeAt (run .mask) i ≡ runElement 1 T j run i
-  unfolding ownPort
-  one-element i = omega (arith, zero-mul T)
-
-  pub single-total : h .count * run .halves ≡ runCount run
-  single-total = run-total run o
-
-  within : (k : ℕ) → k < runCount run → placeAt (run .mask) k < 6 * run .halves
-  unfolding runCount
-  within k l = within-at (run .mask) (run .halves) k l
-
-  six-total : h .each ≡ 0 → 2 * (3 * run .halves) ≡ runCount run
-  six-total e = omega (arith, six-count run (o .whole e))
-
-  module _ {q : ℕ} {d st part : List ℕ} (r : Reading q j (runCount run) d st part) where
-    pub doubles-in :
-        h .each ≡ 0
-        → (3 * (run .first + 2 * (3 * run .halves)) ≤ length g) × (run .first + 2 * (3 * run .halves) ≤ 16800) × Reading q j (2 * (3 * run .halves)) d st part
-    doubles-in e = (omega (arith, s .inside, s .room .size), omega (arith, s .inside, s .room .fits), rw (six-total e) r)
-
-    pub holes-in :
-        (h .each ≡ 0 → ⊥) → HolesIn j (run .first) (h .lead) (h .each) (h .count * run .halves) g × Reading q j (h .count * run .halves) d st part
-    holes-in e =
-        let p = o .holed e in (
-          record {
-            early = p .early;
-            some = p .some;
-            start = omega (arith, s .inside, s .room .fits);
-            index = omega (arith, single-total, s .index);
-            inside = λ k l.
-                let a = within k (omega (arith, single-total)) in
-                let c = p .place k in
-                (omega (arith, a, c, s .inside, s .room .size), omega (arith, a, c, s .inside, s .room .fits));
-          },
-          rw single-total r,
-        )
-
-    module _ {st′ part′ : List ℕ} where
-      pub doubles-read : h .each ≡ 0 → ReadOn q j (2 * (3 * run .halves)) (_+_ (run .first)) d g st part st′ part′ → ReadOn q j (runCount run) (runElement 1 T j run) d g st part st′ part′
-      doubles-read e x =
-          rw (← six-total e)
-          (read-same (λ i l. ap (_+_ (run .first)) (sym (ap (λ (m : ℕ). placeAt m i) (o .whole e) ∙ place-63 i)) ∙ one-element i) x)
-
-      pub holes-read :
-          (h .each ≡ 0 → ⊥) → ReadOn q j (h .count * run .halves) (holedElement (run .first) (h .lead) (h .each)) d g st part st′ part′
-          → ReadOn q j (runCount run) (runElement 1 T j run) d g st part st′ part′
-      holes-read e x = rw (← single-total) (read-same (λ i l. ap (_+_ (run .first)) (sym (o .holed e .place i)) ∙ one-element i) x)
-
--- and on two or four
-pub run-in : {P T j : ℕ} {run : Run} {g : List ℕ} → RunOpen P T j run g → 2 ≤ P → RunIn P T j run g
-run-in s many =
-    record { room = s .room; many = many; even = s .even many; before = s .before; inside = s .inside; form = s .pairs many; index = s .index }
-
-pub one-port : {P T j : ℕ} {run : Run} {g : List ℕ} → RunOpen P T j run g → P ≡ 1 → RunOpen 1 T j run g
-one-port {T = T} {j} {run} {g} s e = subst (λ (x : ℕ). RunOpen x T j run g) e s
+pub single-read :
+    (T : ℕ) (run : Run) {q j n : ℕ} {d g st part st′ part′ : List ℕ} {e : ℕ → ℕ} → n ≡ runCount run → ((k : ℕ) → e k ≡ run .first + placeAt (run .mask) k)
+    → ReadOn q j n e d g st part st′ part′ → ReadOn q j (runCount run) (runElement 1 T j run) d g st part st′ part′
+unfolding ownPort
+single-read T run is here x = rw (← is) (read-same (λ i l. omega (arith, here i, zero-mul T)) x)
 
 pub one-read :
     (T : ℕ) (run : Run) {P q j : ℕ} {d g st part st′ part′ : List ℕ} → P ≡ 1 → ReadOn q j (runCount run) (runElement 1 T j run) d g st part st′ part′

@@ -1,17 +1,16 @@
 -- THE AREA, run after run, from its tables to its places, and its section. Assumes what reading an area needs.
 use Prim.Native.Nat.{ℕ, _+_, _-_, _*_, _/_, _%_, _^_, _≤_, _<_}
 use mathlib.Core.Path.{_≡_, refl, sym, ap, ap₂, _∙_, subst}
-use mathlib.Core.Bool.{Bool, true, cond}
+use mathlib.Core.Bool.{true, cond}
 use mathlib.Core.List.{List}
 use native.Mathlib.Nat.{zero-add, mul-zero, mul-comm, mod-eq-of-lt}
 use native.Mathlib.Omega.{arith}
 use lib.Dec.{eqb}
 use lib.ListN.{length, getD}
 use Rattle.base.specs.Bytes.{pairOf}
-use Rattle.base.specs.Counts.{cnt}
 use Rattle.base.specs.Digits.{dig, dig-two}
 use Rattle.base.proofs.Bytes.{level-back}
-use Rattle.base.proofs.Counts.{cnt-most, nth-of, nth-same}
+use Rattle.base.proofs.Counts.{nth-of}
 use Rattle.base.proofs.Rows.{at-div, at-mod}
 use Rattle.base.proofs.Tables.{filled}
 use Rattle.gold.specs.declared.Registers.{Registers}
@@ -25,12 +24,10 @@ use Rattle.modulation.proofs.Symbols.{demap-only}
 use Rattle.codeword.specs.Codewords.{scrambled}
 use Rattle.codeword.specs.Streams.{outputs}
 use Rattle.precoding.specs.Places.{ownPort}
-use Rattle.plan.proofs.Counts.{blocks-most}
-use Rattle.layout.specs.Owners.{symbols, carriers}
+use Rattle.layout.specs.Owners.{symbols}
 use Rattle.layout.specs.Rules.{slotLength}
 use Rattle.payload.specs.Sections.{sectionBytes}
 use Rattle.places.specs.Places.{placesOf}
-use Rattle.places.proofs.Numbers.{symbols-most}
 use Rattle.recovery.specs.Recovery.{wordOf, sectionOf}
 use Rattle.element_pairs.specs.Numbers.{elementFrom}
 use Rattle.constellation.specs.Axis.{wordOf as tableWord}
@@ -39,25 +36,21 @@ use Rattle.constellation.proofs.Axes.{word-back}
 use Rattle.section_bits.specs.Gathering.{upTo, Bits, bitsIn, Begun, Flushed}
 use Rattle.walk.specs.declared.Cursor.{Cursor}
 use Rattle.walk.specs.declared.Run.{Run}
+use Rattle.walk.specs.Addresses.{RunOpen}
 use Rattle.walk.specs.Runs.{runCount, placeAt, Laid}
-use Rattle.walk.specs.Tables.{inTables, cursorStart, cursorRun, cursorNext, CursorIn}
-use Rattle.walk.proofs.Runs.{form-even}
-use Rattle.walk.proofs.Cursors.{starts, run-in, run-laid, goes-on, through}
+use Rattle.walk.specs.Tables.{cursorStart, cursorRun, cursorNext}
 use Rattle.areas.specs.declared.Area.{Area}
 use Rattle.areas.specs.Areas.{areaAt, areaCount}
 use Rattle.areas.specs.Tables.{AreaTables}
-use Rattle.areas.proofs.Tables.{tables-count}
+use Rattle.areas.proofs.Runs.{area-starts, area-laid, area-few, area-open, area-next, area-count}
 use Rattle.data_compare.specs.Symbols.{areaPlace, areaSymbol}
 use Rattle.data_read.specs.Reading.{areaBit, AreaReads}
-use Rattle.data_read.specs.Runs.{Stands, Reading, ReadOn, runElement, RunOpen, RunRead}
+use Rattle.data_read.specs.Runs.{Stands, Reading, ReadOn, runElement, RunRead}
 use Rattle.data_read.specs.Areas.{symbolElement, sentBit, RunsIn, Going}
 use Rattle.data_read.proofs.Gatherings.{read-none, read-later, read-join}
 
--- ---- run after run; the code has the extent of the grid from a slot's symbols and from the blocks
+-- ---- run after run
 module _ {a : Area} {q : ℕ} {rows spans d g st part : List ℕ} (h : RunsIn a q rows spans d g st part) where
-  abbrev own : ℕ → Bool
-  own = inTables (carriers (a .cell)) rows spans
-
   abbrev P : ℕ
   P = a .cell .ports
 
@@ -65,74 +58,49 @@ module _ {a : Area} {q : ℕ} {rows spans d g st part : List ℕ} (h : RunsIn a 
   T = placesOf (a .cell)
 
   pub area-begins : {c : Cursor} → c ≡ cursorStart rows → Going a q rows spans d g st part c 0 st part
-  area-begins e = rw e (record { comes = starts (h .tables .sets); even = λ many. refl; read = read-none (h .reading) })
+  area-begins e = record { cursor = area-starts (h .runs) e; read = read-none (h .reading) }
 
   module _ {slot blocks : ℕ} (es : slot ≡ slotLength (a .cell)) (eb : blocks ≡ a .cell .blocks) where
-    pub extent : (2 * slot ≤ 14) × (12 * blocks ≤ 1200) × (2 * slot * (12 * blocks) ≤ 16800)
-    extent = rw (es, eb) (symbols-most (a .cell), omega (arith, blocks-most (a .cell) (h .area .cell)), h .area .room .fits)
+    module _
+        {c : Cursor} {j : ℕ} {st′ part′ : List ℕ} (k : Going a q rows spans d g st part c j st′ part′) (less : c .s < 2 * slot) {run : Run}
+        (er : run ≡ cursorRun (12 * blocks) rows spans c) where
+      laid : Laid (areaAt a) T j run
+      laid = area-laid (h .runs) es eb (k .cursor) less er
 
-    module _ {c : Cursor} {j : ℕ} {st′ part′ : List ℕ} (k : Going a q rows spans d g st part c j st′ part′) (less : c .s < 2 * slot) where
-      abbrev runIs : Run
-      runIs = cursorRun (carriers (a .cell)) rows spans c
+      pub area-run : run .halves ≤ 255 → RunOpen P (2 * slot * (12 * blocks)) j run g × Reading q j (runCount run) d st′ part′
+      area-run short = (
+        area-open (h .runs) es eb (k .cursor) less er short,
+        subst (λ (x : ℕ). Reading q x (runCount run) d st′ part′) (zero-add j)
+            (read-later (k .read) (h .reading) (runCount run) (area-few (h .runs) es eb (k .cursor) less er)),
+      )
 
-      l : c .s < symbols (a .cell)
-      l = omega (arith, es)
+      -- its elements are those of the area's next symbols
+      next-element : (i : ℕ) → i < runCount run → runElement P T j run i ≡ symbolElement a (j + i)
+      unfolding ownPort areaPlace
+      next-element i m =
+          let z : (j + i) / 2 % 2 % 2 ≡ (j + i) / 2 % 2 = omega arith in
+          ap₂ (λ (x y : ℕ). x * T + y) (ap (λ (x : ℕ). cond (eqb P 4) x 0) z)
+          (sym (nth-of (areaAt a) T (run .first + placeAt (run .mask) i) (laid .owned i m) (laid .within i m)) ∙ ap (areaPlace a) (laid .index i m))
 
-      laid : Laid own T j runIs
-      laid = run-laid (h .tables .sets) (k .comes) l
-
-      pub cursor-in : CursorIn (12 * blocks) rows spans c
-      cursor-in = rw eb (run-in (h .tables .sets) (k .comes) (symbols-most (a .cell)) (omega (arith, blocks-most (a .cell) (h .area .cell))) l)
-
-      module _ {run : Run} (er : run ≡ cursorRun (12 * blocks) rows spans c) where
-        pub area-run : run .halves ≤ 255 → RunOpen P (2 * slot * (12 * blocks)) j run g × Reading q j (runCount run) d st′ part′
-        area-run short =
-            rw (er, es, eb) (
-              record {
-                room = h .area .room;
-                even = k .even;
-                before = laid .before;
-                inside = laid .inside;
-                single = h .tables .single (c .s) l;
-                pairs = λ many. h .tables .pairs (h .signals many .0) (h .signals many .1) (c .s) l;
-                short = subst (λ (x : Run). x .halves ≤ 255) (er ∙ ap (λ (x : ℕ). cursorRun (12 * x) rows spans c) eb) short;
-                index = omega (arith, laid .total, cnt-most own T, h .area .room .fits);
-              },
-              subst (λ (x : ℕ). Reading q x (runCount runIs) d st′ part′) (zero-add j)
-                  (read-later (k .read) (h .reading) (runCount runIs) (omega (arith, laid .total, tables-count (h .tables)))),
-            )
-
-        -- its elements are those of the area's next symbols
-        next-element : (i : ℕ) → i < runCount runIs → runElement P T j runIs i ≡ symbolElement a (j + i)
-        unfolding ownPort areaPlace
-        next-element i m =
-            let z : (j + i) / 2 % 2 % 2 ≡ (j + i) / 2 % 2 = omega arith in
-            ap₂ (λ (x y : ℕ). x * T + y) (ap (λ (x : ℕ). cond (eqb P 4) x 0) z)
-            (sym (nth-of own T (runIs .first + placeAt (runIs .mask) i) (laid .owned i m) (laid .within i m))
-            ∙ nth-same own (areaAt a) T (h .tables .places) (cnt own (runIs .first + placeAt (runIs .mask) i))
-            ∙ ap (areaPlace a) (laid .index i m))
-
-        pub area-on :
-            {c′ : Cursor} {j′ : ℕ} {st″ part″ : List ℕ} → c′ ≡ cursorNext rows c
-            → RunRead q P (2 * slot * (12 * blocks)) j run d g st′ part′ j′ st″ part″
-            → Going a q rows spans d g st part c′ j′ st″ part″
-        area-on {c′} {j′} {st″} {part″} ec x =
-            let x′ : RunRead q P T j runIs d g st′ part′ j′ st″ part″ = rw (er, es, eb) at x in
-            rw (ec, x′ .0)
-            (record {
-              comes = goes-on (h .tables .sets) (k .comes) l;
-              even = λ many. omega (arith, k .even many, form-even runIs (h .tables .pairs (h .signals many .0) (h .signals many .1) (c .s) l));
-              read =
-                  read-join (k .read) refl
-                  (subst (λ (y : ℕ). ReadOn q y (runCount runIs) (runElement P T j runIs) d g st′ part′ st″ part″) (sym (zero-add j)) (x′ .1)) next-element;
-            })
+      pub area-on :
+          {c′ : Cursor} {j′ : ℕ} {st″ part″ : List ℕ} → c′ ≡ cursorNext rows c
+          → RunRead q P (2 * slot * (12 * blocks)) j run d g st′ part′ j′ st″ part″
+          → Going a q rows spans d g st part c′ j′ st″ part″
+      area-on {c′} {j′} {st″} {part″} ec x =
+          let x′ : RunRead q P T j run d g st′ part′ j′ st″ part″ = rw (es, eb) at x in
+          rw (x′ .0)
+          (record {
+            cursor = area-next (h .runs) es eb (k .cursor) less er ec;
+            read =
+                read-join (k .read) refl
+                (subst (λ (y : ℕ). ReadOn q y (runCount run) (runElement P T j run) d g st′ part′ st″ part″) (sym (zero-add j)) (x′ .1)) next-element;
+          })
 
     pub area-ends :
         {c : Cursor} {j : ℕ} {st′ part′ : List ℕ} → Going a q rows spans d g st part c j st′ part′ → 2 * slot ≤ c .s
         → ReadOn q 0 (areaCount a) (symbolElement a) d g st part st′ part′
     area-ends {c} {j} {st′} {part′} k m =
-        subst (λ (x : ℕ). ReadOn q 0 x (symbolElement a) d g st part st′ part′)
-        (through (h .tables .sets) (k .comes) (omega (arith, es)) ∙ tables-count (h .tables)) (k .read)
+        subst (λ (x : ℕ). ReadOn q 0 x (symbolElement a) d g st part st′ part′) (area-count (h .runs) es eb (k .cursor) m) (k .read)
 
 -- ---- bits of a constellation point
 -- by the table they are those that recovery takes
@@ -195,9 +163,7 @@ module _ {a : Area} {q : ℕ} {d masks g : List ℕ} (h : AreaReads a q d masks 
     pub runs-in : {rows spans : List ℕ} → AreaTables a rows spans → RunsIn a q rows spans d g st part
     runs-in t =
         record {
-          area = h .section .area;
-          signals = h .signals;
-          tables = t;
+          runs = record { cell = h .section .area .cell; room = h .section .area .room; signals = h .signals; tables = t };
           reading =
               record {
                 table = record { order = h .section .area .order; axis = h .axis };

@@ -1,18 +1,16 @@
 -- For the inner contracts and loops only: an area's symbols as its runs are read.
-use Prim.Native.Nat.{ℕ, _+_, _-_, _*_, _/_, _%_, _≤_}
-use mathlib.Core.Path.{_≡_}
+use Prim.Native.Nat.{ℕ, _+_, _-_, _*_, _/_, _%_}
 use mathlib.Core.List.{List}
 use Rattle.base.specs.Digits.{dig}
 use Rattle.modulation.specs.Demapping.{demapOf}
 use Rattle.precoding.specs.Places.{ownPort}
-use Rattle.layout.specs.Owners.{symbols, carriers}
+use Rattle.layout.specs.Owners.{symbols}
 use Rattle.places.specs.Places.{placesOf}
 use Rattle.recovery.specs.Recovery.{wordOf}
 use Rattle.walk.specs.declared.Cursor.{Cursor}
-use Rattle.walk.specs.Tables.{AtIndex}
 use Rattle.areas.specs.declared.Area.{Area}
-use Rattle.areas.specs.Areas.{areaCount, AreaIn, SignalsIn}
-use Rattle.areas.specs.Tables.{AreaTables}
+use Rattle.areas.specs.Areas.{areaCount}
+use Rattle.areas.specs.Runs.{AreaRuns, AreaAt}
 use Rattle.data_compare.specs.Symbols.{areaPlace, areaSymbol}
 use Rattle.data_read.specs.Runs.{Reading, ReadOn}
 
@@ -26,13 +24,10 @@ sentBit a q g i = dig (wordOf (demapOf q (areaSymbol a g (i / q)))) (q - 1 - i %
 
 -- what all runs of an area need
 pub record RunsIn (a : Area) (q : ℕ) (rows spans d grid st part : List ℕ) : Type 0 where
-  pub area : AreaIn a q 0 grid
-  pub signals : SignalsIn a
-  pub tables : AreaTables a rows spans
+  pub runs : AreaRuns a rows spans grid
   pub reading : Reading q 0 (areaCount a) d st part
 
 -- the cursor has come to index j, and the symbols before it are read
 pub record Going (a : Area) (q : ℕ) (rows spans d grid st part : List ℕ) (c : Cursor) (j : ℕ) (st′ part′ : List ℕ) : Type 0 where
-  pub comes : AtIndex (carriers (a .cell)) (symbols (a .cell)) rows spans c j
-  pub even : 2 ≤ a .cell .ports → j % 2 ≡ 0
+  pub cursor : AreaAt a rows spans c j
   pub read : ReadOn q 0 j (symbolElement a) d grid st part st′ part′

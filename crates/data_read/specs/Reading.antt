@@ -1,6 +1,6 @@
 -- For the inner contracts and loops only: the bits of the channels that fill their places k first, then s, read from a grid where each bit's symbol
 -- stands. proofs/AreaBits.antt: PBCH's and the users' bits are those of recovery/specs/Recovery.antt.
-use Prim.Native.Nat.{ℕ, _+_, _-_, _/_, _%_, _≤_, _<_}
+use Prim.Native.Nat.{ℕ, _+_, _-_, _/_, _%_, _<_}
 use mathlib.Core.Path.{_≡_}
 use mathlib.Core.Bool.{true}
 use mathlib.Core.List.{List}

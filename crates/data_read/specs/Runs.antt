@@ -1,5 +1,5 @@
 -- For the inner contracts and loops only: places of a channel, whatever channel it is, whose symbols' bits go into a section one after the other.
-use Prim.Native.Nat.{ℕ, _+_, _-_, _*_, _/_, _%_, _^_, _≤_, _<_}
+use Prim.Native.Nat.{ℕ, _+_, _*_, _/_, _%_, _^_, _≤_, _<_}
 use mathlib.Core.Path.{_≡_}
 use mathlib.Core.List.{List}
 use lib.ListN.{length}
@@ -9,11 +9,9 @@ use Rattle.modulation.specs.Symbols.{Order}
 use Rattle.precoding.specs.Places.{ownPort}
 use Rattle.constellation.specs.Axis.{Axis, wordOf}
 use Rattle.grid.specs.Elements.{elementIn}
-use Rattle.grid.specs.Writing.{Room}
 use Rattle.element_pairs.specs.Numbers.{elementFrom, upper}
 use Rattle.section_bits.specs.Gathering.{Bits, bitsIn, State, Gathered}
 use Rattle.walk.specs.declared.Run.{Run}
-use Rattle.walk.specs.Forms.{PairForm, SingleForm}
 use Rattle.walk.specs.Runs.{runCount, placeAt}
 
 -- ---- bits
@@ -51,10 +49,6 @@ pub record ReadOn (q j n : ℕ) (e : ℕ → ℕ) (d g st part st′ part′ : L
 abbrev pub pairElement : ℕ → ℕ → ℕ → ℕ → ℕ → ℕ → ℕ → ℕ
 pairElement P T j start step gap i = ownPort P ((j + i) / 2 % 2) * T + (start + step * (i / 2) + gap * (i % 2))
 
--- of places on one port between holes
-abbrev pub holedElement : ℕ → ℕ → ℕ → ℕ → ℕ
-holedElement first lead each i = first + (i + (i + (each - lead)) / each)
-
 -- of a run's places
 abbrev pub runElement : ℕ → ℕ → ℕ → Run → ℕ → ℕ
 runElement P T j run i = ownPort P ((j + i) / 2 % 2) * T + (run .first + placeAt (run .mask) i)
@@ -64,25 +58,6 @@ pub record BeforePairs (mask off : ℕ) : Type 0 where
   pub right : mask ≡ 54 → off ≡ 1
   pub left : (mask ≡ 54 → ⊥) → off ≡ 0
 
--- places between holes that are inside the grid
-pub record HolesIn (j first lead each total : ℕ) (grid : List ℕ) : Type 0 where
-  pub early : lead ≤ each
-  pub some : 0 < each
-  pub start : first ≤ 16800
-  pub index : j + total ≤ 16800
-  pub inside : (k : ℕ) → k < total → (3 * holedElement first lead each k + 2 < length grid) × (holedElement first lead each k < 16800)
-
--- a run of a channel that has P ports of T places
-pub record RunOpen (P T j : ℕ) (run : Run) (grid : List ℕ) : Type 0 where
-  pub room : Room P T grid
-  pub even : 2 ≤ P → j % 2 ≡ 0
-  pub before : run .first < T
-  pub inside : run .first + 6 * run .halves ≤ T
-  pub single : SingleForm (run .mask)
-  pub pairs : 2 ≤ P → PairForm (run .mask)
-  pub short : run .halves ≤ 255
-  pub index : j + runCount run ≤ 16800
-
--- it is read, and the index after it
+-- a run is read, and the index after it
 abbrev pub RunRead : ℕ → ℕ → ℕ → ℕ → Run → List ℕ → List ℕ → List ℕ → List ℕ → ℕ → List ℕ → List ℕ → Type 0
 RunRead q P T j run d g st part x st′ part′ = (x ≡ j + runCount run) × ReadOn q j (runCount run) (runElement P T j run) d g st part st′ part′

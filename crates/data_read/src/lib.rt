@@ -15,12 +15,12 @@ ghost use Prim.Native.Nat.{_+_, _*_, _≤_, _<_, _^_};
 ghost use lib.ListN.{length};
 ghost use Rattle.payload.specs.Sections.{sectionBytes};
 ghost use Rattle.recovery.specs.Recovery.{sectionOf};
-ghost use Rattle.walk.specs.Addresses.{PairsIn, RunIn};
-ghost use Rattle.walk.specs.Forms.{HolesOf};
+ghost use Rattle.walk.specs.Addresses.{PairsIn, RunIn, RunOpen, SinglesIn, HolesIn};
+ghost use Rattle.walk.specs.Forms.{HolesOf, holedPlace};
 ghost use Rattle.walk.specs.Runs.{runCount};
 ghost use Rattle.areas.specs.Areas.{areaCount};
 ghost use Rattle.data_read.specs.Reading.{areaBit, AreaReads};
-ghost use Rattle.data_read.specs.Runs.{bothOf, Table, Reading, ReadOn, pairElement, runElement, BeforePairs, HolesIn, holedElement, RunOpen, RunRead};
+ghost use Rattle.data_read.specs.Runs.{bothOf, Table, Reading, ReadOn, pairElement, runElement, BeforePairs, RunRead};
 ghost use Rattle.data_read.specs.Areas.{symbolElement, RunsIn};
 
 // The bits of two symbols, whose elements are one number.
@@ -202,7 +202,7 @@ fn singles(
     start: usize,
     n: usize,
 )
-    requires { ⌜ (3 * (start + n) ≤ length (now grid)) × (start + n ≤ 16800) × Reading q j n (now d) (now st) (now part) ⌝ }
+    requires { ⌜ SinglesIn start n (now grid) × Reading q j n (now d) (now st) (now part) ⌝ }
     ensures { λ _. ⌜ ReadOn q j n (_+_ start) (now (d .entry)) (now (grid .entry)) (now (st .entry)) (now (part .entry)) (now (st .exit)) (now (part .exit)) ⌝ }
 {
     let mut at = 3 * start;
@@ -226,7 +226,7 @@ fn doubles(
     start: usize,
     n: usize,
 )
-    requires { ⌜ (3 * (start + 2 * n) ≤ length (now grid)) × (start + 2 * n ≤ 16800) × Reading q j (2 * n) (now d) (now st) (now part) ⌝ }
+    requires { ⌜ SinglesIn start (2 * n) (now grid) × Reading q j (2 * n) (now d) (now st) (now part) ⌝ }
     ensures { λ _. ⌜ ReadOn q j (2 * n) (_+_ start) (now (d .entry)) (now (grid .entry)) (now (st .entry)) (now (part .entry)) (now (st .exit)) (now (part .exit)) ⌝ }
 {
     let mut at = 3 * start;
@@ -252,8 +252,8 @@ fn between(
     each: usize,
     total: usize,
 )
-    requires { ⌜ HolesIn j first lead each total (now grid) × Reading q j total (now d) (now st) (now part) ⌝ }
-    ensures { λ _. ⌜ ReadOn q j total (holedElement first lead each) (now (d .entry)) (now (grid .entry)) (now (st .entry)) (now (part .entry)) (now (st .exit)) (now (part .exit)) ⌝ }
+    requires { ⌜ HolesIn first lead each total (now grid) × (j + total ≤ 16800) × Reading q j total (now d) (now st) (now part) ⌝ }
+    ensures { λ _. ⌜ ReadOn q j total (holedPlace first lead each) (now (d .entry)) (now (grid .entry)) (now (st .entry)) (now (part .entry)) (now (st .exit)) (now (part .exit)) ⌝ }
 {
     let s = walk::first_stretch(first, lead, each);
     let mut at = s.at;

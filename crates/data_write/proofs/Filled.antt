@@ -1,9 +1,8 @@
 -- THE LAWS OF FILLING RUNS OF PAIRS: one pair, pairs after pairs, and a run by its form. Assumes what a run needs.
-use Prim.Native.Nat.{ℕ, _+_, _*_, _/_, _%_, _^_, _≤_, _<_}
+use Prim.Native.Nat.{ℕ, _+_, _*_, _/_, _%_, _^_}
 use mathlib.Core.Path.{_≡_, sym, _∙_, subst}
 use mathlib.Core.List.{List}
 use native.Mathlib.Omega.{arith}
-use lib.ListN.{length}
 use Rattle.gold.specs.declared.Registers.{Registers}
 use Rattle.codeword.specs.Streams.{symbolsOf}
 use Rattle.codeword.specs.Bits48.{Standing, CanTake, Takes}
@@ -13,12 +12,11 @@ use Rattle.element_pairs.specs.Numbers.{PairPut}
 use Rattle.walk.specs.declared.PortOffsets.{PortOffsets}
 use Rattle.walk.specs.declared.Run.{Run}
 use Rattle.walk.specs.Runs.{PairsAt}
-use Rattle.walk.specs.Forms.{Paired}
 use Rattle.walk.specs.Parts.{sentPart}
-use Rattle.walk.specs.Addresses.{OffsetsAt, PairsIn, RunIn}
-use Rattle.walk.proofs.Runs.{pairs-of, pairs-fewer, pairs-later}
+use Rattle.walk.specs.Addresses.{OffsetsAt, PairsIn, RunPairs}
+use Rattle.walk.proofs.Runs.{pairs-fewer, pairs-later}
 use Rattle.walk.proofs.Pairs.{written-join}
-use Rattle.walk.proofs.Addresses.{other-inside, run-total}
+use Rattle.walk.proofs.Addresses.{run-total, laid-pairs, sixes-all}
 use Rattle.data_write.specs.Sent.{sentElement, Sending, FromTable}
 use Rattle.data_write.specs.Pairs.{PairsDone, RunFilled}
 use Rattle.data_write.proofs.Source.{stands-on, can-take, two-symbols}
@@ -30,9 +28,6 @@ module _
     (p : OffsetsAt P T j r) where
   pub one-takes : CanTake (2 * q) bits st
   one-takes = can-take {j = j} (pair-groups q (s .order)) (s .order) (omega (arith, h .index)) (s .standing)
-
-  pub one-fits : 3 * (r .own + start) + 3 * r .across + 5 < length grid
-  one-fits = omega (arith, p .own, p .across (j / 2 % 2), other-inside h (j / 2 % 2) 0 (omega arith))
 
   pub one-done :
       {z v u : ℕ} {st′ after : List ℕ} → Takes (2 * q) bits st z st′ → FromTable t (z / 2 ^ q) z v u
@@ -96,24 +91,17 @@ module _
   sixes-odd e s = done-join (2 * (3 * halves / 2)) 1 (3 * halves) (omega arith) (omega arith) (omega arith) d s
 
   pub sixes-even : (3 * halves % 2 ≡ 1 → ⊥) → PairsDone P T 1 j first 2 (3 * halves) (3 * halves) q t bits st f st′ g
-  sixes-even e = let z : 2 * (3 * halves / 2) ≡ 3 * halves = even e in subst (λ (x : ℕ). PairsDone P T 1 j first 2 x x q t bits st f st′ g) z d
-    where
-      even : (3 * halves % 2 ≡ 1 → ⊥) → 2 * (3 * halves / 2) ≡ 3 * halves
-      even e = omega arith
+  sixes-even e = subst (λ (x : ℕ). PairsDone P T 1 j first 2 x x q t bits st f st′ g) (sixes-all halves e) d
 
 -- ---- a run, by its form
 pub run-done :
-    {P T j q : ℕ} {run : Run} {t bits st grid st′ after : List ℕ} (h : RunIn P T j run grid) {off step gap per : ℕ} (p : Paired (run .mask) off step gap per)
-    (few : step ≤ 3) (one : off ≤ 1) (m start : ℕ) (is : m ≡ run .halves * per) (at : start ≡ run .first + off) (next : ℕ) → next ≡ j + 2 * m
+    {P T gap start step m j q next : ℕ} {run : Run} {t bits st grid st′ after : List ℕ} → RunPairs run gap start step m → next ≡ j + 2 * m
     → PairsDone P T gap j start step m m q t bits st grid st′ after → RunFilled (2 * q) P T j run q t bits st grid next st′ after
-run-done {P} {T} {j} {q} {run} {t} {bits} {st} {grid} {st′} {after} h {off} {step} {gap} {per} p few one m start is at next on d =
-    let total = run-total h p few one m start is at in
+run-done p on d =
+    let total = run-total p in
     record {
       next-index = omega (arith, total);
       size = d .size;
       stands = λ r c. rw total (d .stands r c);
-      filled = λ own unit r tb c l.
-          rw total
-          (d .done own unit r tb c
-          (subst (λ (x : ℕ). PairsAt own T j start step gap x) (sym is) (subst (λ (x : ℕ). PairsAt own T j x step gap (run .halves * per)) (sym at) (pairs-of l p))));
+      filled = λ own unit r tb c l. rw total (d .done own unit r tb c (laid-pairs p l));
     }

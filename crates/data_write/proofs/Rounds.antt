@@ -7,7 +7,7 @@ use native.Mathlib.Omega.{arith}
 use Rattle.gold.specs.declared.Registers.{Registers}
 use Rattle.modulation.specs.Symbols.{Order}
 use Rattle.codeword.specs.Streams.{symbolsOf}
-use Rattle.codeword.specs.Bits48.{Standing, CanTake, Takes}
+use Rattle.codeword.specs.Bits48.{Standing, Takes}
 use Rattle.codeword.proofs.Orders.{quad-groups}
 use Rattle.precoding.specs.Places.{ownPort, otherPort}
 use Rattle.grid.specs.Writing.{Written}
@@ -19,7 +19,7 @@ use Rattle.walk.proofs.Pairs.{written-none, written-join, pair-written}
 use Rattle.walk.proofs.Addresses.{at-own, at-other, next-at, next-other, rounds-start, rounds-on, round-small, fits-at, fits-next}
 use Rattle.data_write.specs.Sent.{sentElement, TableOf, Sending, FromTable}
 use Rattle.data_write.specs.declared.FirstRound.{FirstRound}
-use Rattle.data_write.specs.Pairs.{RoundIn, RoundDone, PairsFit, FirstAt, PairsDone, Rounds}
+use Rattle.data_write.specs.Pairs.{RoundIn, RoundDone, FirstAt, PairsDone, Rounds}
 use Rattle.data_write.proofs.Source.{stands-on, can-take, SymbolsAt, pair-has, first-symbols, next-symbols}
 
 module _ {P T gap j start step m : ℕ} {before : List ℕ} (h : PairsIn P T gap j start step m before) where
@@ -68,37 +68,36 @@ round-made {z = z} {own} {other} {own′} {other′} {middle = middle} k x y a b
     }
 
 -- ---- and rounds after rounds
-pub pairs-fit : {P T gap j start step m : ℕ} {grid : List ℕ} → PairsIn P T gap j start step m grid → PairsFit P T j start step
-pairs-fit {gap = gap} {m = m} {grid} h = record { gap = gap; pairs = m; grid = grid; inside = h }
-
 pub rounds-first :
-    {P T gap j start step : ℕ} (n : ℕ) {q : ℕ} {t bits st before : List ℕ} {x : FirstRound} → PairsIn P T gap j start step (2 * n) before
-    → FirstAt P T j start step x → Rounds P T gap j start step n q t bits st before (x .at) (x .next) 0 st before
-rounds-first n h p = record { round = rw (p .at, p .next) (rounds-start h (p .ports)); done = none-done h }
+    {P T gap j start step : ℕ} (n : ℕ) {q : ℕ} {t bits st before : List ℕ} {x : FirstRound} → PairsIn P T gap j start step (2 * n) before × Sending (2 * q) q j t bits st
+    → FirstAt P T j start step x → Rounds P T gap j start step n q t bits st before x (x .at) (x .next) 0 st before
+rounds-first n h p = record { pairs = h .0; sending = h .1; first = p; round = rw (p .at, p .next) (rounds-start (h .0) (p .ports)); done = none-done (h .0) }
 
 module _
-    {P T gap j start step n q : ℕ} {t bits st before : List ℕ} (h : PairsIn P T gap j start step (2 * n) before) (s : Sending (2 * q) q j t bits st)
-    {x : FirstRound} (p : FirstAt P T j start step x) {at next i : ℕ} {st′ grid : List ℕ}
-    (d : Rounds P T gap j start step n q t bits st before at next i st′ grid) (l : i < n) where
+    {P T gap j start step n q : ℕ} {t bits st before : List ℕ} {x : FirstRound} {at next i : ℕ} {st′ grid : List ℕ}
+    (d : Rounds P T gap j start step n q t bits st before x at next i st′ grid) (l : i < n) where
   pub round-in : RoundIn gap q bits st′ at next (x .across) grid
   round-in =
       record {
-        takes = can-take {j = j + 2 * (2 * i)} (quad-groups q (s .order)) (s .order) (omega (arith, h .index)) (d .done .stands (s .pair) (s .standing));
-        few = omega (arith, s .order .2);
-        first = omega (arith, d .done .size, p .across, fits-at h (p .ports) (d .round) l);
-        second = omega (arith, d .done .size, p .across, fits-next h (p .ports) (d .round) l);
+        takes = can-take {j = j + 2 * (2 * i)} (quad-groups q (d .sending .order)) (d .sending .order) (omega (arith, d .pairs .index)) (d .done .stands (d .sending .pair) (d .sending .standing));
+        few = omega (arith, d .sending .order .2);
+        first = omega (arith, d .done .size, d .first .across, fits-at (d .pairs) (d .first .ports) (d .round) l);
+        second = omega (arith, d .done .size, d .first .across, fits-next (d .pairs) (d .first .ports) (d .round) l);
       }
 
   pub few-bytes : (at ≤ 100800) × (next ≤ 100800) × (n ≤ 8400)
-  few-bytes = let b = round-small h (p .ports) (d .round) l in (b .0, b .1, omega (arith, h .index))
+  few-bytes = let b = round-small (d .pairs) (d .first .ports) (d .round) l in (b .0, b .1, omega (arith, d .pairs .index))
 
   filled-on :
       {z v u v′ u′ : ℕ} {st″ f k : List ℕ} → Takes (4 * q) bits st′ z st″ → FromTable t (z / 2 ^ q / 2 ^ q / 2 ^ q) (z / 2 ^ q / 2 ^ q) v u
       → FromTable t (z / 2 ^ q) z v′ u′ → PairPut gap at (x .across) v u grid f → PairPut gap next (x .across) v′ u′ f k
-      → Rounds P T gap j start step n q t bits st before (at + 6 * step) (next + 6 * step) (i + 1) st″ k
+      → Rounds P T gap j start step n q t bits st before x (at + 6 * step) (next + 6 * step) (i + 1) st″ k
   filled-on {z} {v} {u} {v′} {u′} {st″} {f} {k} tk y y′ a b =
       record {
-        round = rounds-on h (p .ports) (d .round) l;
+        pairs = d .pairs;
+        sending = d .sending;
+        first = d .first;
+        round = rounds-on (d .pairs) (d .first .ports) (d .round) l;
         done =
             record {
               size = b .size ∙ a .size ∙ d .done .size;
@@ -107,13 +106,13 @@ module _
             };
       }
     where
-      far : (b : ℕ) → b + x .across ≡ b + 3 * p .offsets .across
-      far b = ap (λ (a : ℕ). b + a) (p .across)
+      far : (b : ℕ) → b + x .across ≡ b + 3 * d .first .offsets .across
+      far b = ap (λ (a : ℕ). b + a) (d .first .across)
 
       on : (reg : Registers) → Standing (2 * q) bits reg (q * j) st → Standing (2 * q) bits reg (q * (j + 2 * (2 * (i + 1)))) st″
       on reg g =
           subst (λ (c : ℕ). Standing (2 * q) bits reg c st″) (stands-on q (j + 2 * (2 * i)) 4 (j + 2 * (2 * (i + 1))) (omega arith))
-          (tk .goes (2 * q) reg (q * (j + 2 * (2 * i))) (quad-groups q (s .order)) (d .done .stands reg g) .1)
+          (tk .goes (2 * q) reg (q * (j + 2 * (2 * i))) (quad-groups q (d .sending .order)) (d .done .stands reg g) .1)
 
       all :
           (own : ℕ → Bool) (unit : ℕ) (reg : Registers) → TableOf P q unit t → Standing (2 * q) bits reg (q * j) st → PairsAt own T j start step gap (2 * n)
@@ -122,25 +121,27 @@ module _
           let e : 2 * (2 * i) + 2 + 2 ≡ 2 * (2 * (i + 1)) = omega arith in
           let e′ : j + 2 * (2 * i) + 2 ≡ j + 2 * (2 * i + 1) = omega arith in
           let e″ : j + 2 * (2 * i + 1) ≡ j + (2 * (2 * i) + 2) = omega arith in
-          let held = tk .goes (2 * q) reg (q * (j + 2 * (2 * i))) (quad-groups q (s .order)) (d .done .stands reg g) .0 in
+          let held = tk .goes (2 * q) reg (q * (j + 2 * (2 * i))) (quad-groups q (d .sending .order)) (d .done .stands reg g) .0 in
           let first : SymbolsAt q bits reg (j + 2 * (2 * i)) (z / 2 ^ q / 2 ^ q / 2 ^ q) (z / 2 ^ q / 2 ^ q) = first-symbols bits reg q (j + 2 * (2 * i)) z held in
           let second : SymbolsAt q bits reg (j + 2 * (2 * i + 1)) (z / 2 ^ q) z =
           subst (λ (c : ℕ). SymbolsAt q bits reg c (z / 2 ^ q) z) e′ (next-symbols bits reg q (j + 2 * (2 * i)) z held) in
           subst (λ (c : ℕ). Written (sentPart own P T j c) (sentElement own P T unit (symbolsOf q bits reg)) before k) e
           (written-join own P T (sentElement own P T unit (symbolsOf q bits reg)) j (2 * (2 * i) + 2) 2
           (written-join own P T (sentElement own P T unit (symbolsOf q bits reg)) j (2 * (2 * i)) 2 (d .done .done own unit reg tb g pa)
-          (pair-filled h own tb (s .order) pa (2 * i) (omega arith) (at-own h (p .ports) (d .round) l) (far at ∙ at-other h (p .ports) (d .round) l) first y (a .own) (a .other)))
+          (pair-filled (d .pairs) own tb (d .sending .order) pa (2 * i) (omega arith) (at-own (d .pairs) (d .first .ports) (d .round) l)
+          (far at ∙ at-other (d .pairs) (d .first .ports) (d .round) l) first y (a .own) (a .other)))
           (subst (λ (c : ℕ). Written (sentPart own P T c 2) (sentElement own P T unit (symbolsOf q bits reg)) f k) e″
-          (pair-filled h own tb (s .order) pa (2 * i + 1) (omega arith) (next-at h (p .ports) (d .round) l) (far next ∙ next-other h (p .ports) (d .round) l) second y′ (b .own) (b .other))))
+          (pair-filled (d .pairs) own tb (d .sending .order) pa (2 * i + 1) (omega arith) (next-at (d .pairs) (d .first .ports) (d .round) l)
+          (far next ∙ next-other (d .pairs) (d .first .ports) (d .round) l) second y′ (b .own) (b .other))))
 
   pub round-on :
       {st″ k : List ℕ} → RoundDone gap q t bits st′ at next (x .across) grid st″ k
-      → Rounds P T gap j start step n q t bits st before (at + 6 * step) (next + 6 * step) (i + 1) st″ k
+      → Rounds P T gap j start step n q t bits st before x (at + 6 * step) (next + 6 * step) (i + 1) st″ k
   round-on y = filled-on (y .takes) (y .first) (y .second) (y .put) (y .put-next)
 
 pub filled-end :
-    {P T gap j start step n q at next i : ℕ} {t bits st before st′ grid : List ℕ} → Rounds P T gap j start step n q t bits st before at next i st′ grid
+    {P T gap j start step n q at next i : ℕ} {x : FirstRound} {t bits st before st′ grid : List ℕ} → Rounds P T gap j start step n q t bits st before x at next i st′ grid
     → n ≤ i → PairsDone P T gap j start step (2 * n) (2 * n) q t bits st before st′ grid
-filled-end {P} {T} {gap} {j} {start} {step} {n} {q} {at} {next} {i} {t} {bits} {st} {before} {st′} {grid} d l =
+filled-end {P} {T} {gap} {j} {start} {step} {n} {q} {i = i} {t = t} {bits} {st} {before} {st′} {grid} d l =
     let e : 2 * i ≡ 2 * n = omega (arith, d .round .rounds) in
     subst (λ (x : ℕ). PairsDone P T gap j start step (2 * n) x q t bits st before st′ grid) e (d .done)

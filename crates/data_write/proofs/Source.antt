@@ -5,7 +5,6 @@ use mathlib.Core.Bool.{Bool}
 use mathlib.Core.List.{List}
 use native.Mathlib.Nat.{mul-add, mul-comm, zero-mul}
 use native.Mathlib.Omega.{arith}
-use lib.ListN.{getD}
 use Rattle.base.proofs.Rows.{at-div, at-mod}
 use Rattle.base.specs.declared.Pair.{Pair}
 use Rattle.base.specs.Bits.{bitAt}
@@ -23,7 +22,7 @@ use Rattle.element_pairs.specs.Numbers.{elementFrom, upper}
 use Rattle.constellation.specs.Pairs.{jointOf, partnersOf}
 use Rattle.constellation.proofs.Numbers.{number-few, own-value, pair-values, joint-low, joint-high}
 use Rattle.walk.proofs.Pairs.{PairHas}
-use Rattle.data_write.specs.Sent.{sentElement, TableOf, Sending, entryOf, FromTable}
+use Rattle.data_write.specs.Sent.{sentElement, TableOf, entryOf, FromTable}
 
 -- ---- bits
 -- those of c symbols after those of a

@@ -1,37 +1,23 @@
 -- For the inner contracts and loops only: what filling an area needs, and what is done.
-use Prim.Native.Nat.{ℕ, _*_, _%_, _≤_}
+use Prim.Native.Nat.{ℕ, _*_}
 use mathlib.Core.Path.{_≡_}
-use mathlib.Core.Bool.{Bool}
 use mathlib.Core.List.{List}
 use lib.ListN.{length}
 use Rattle.gold.specs.declared.Registers.{Registers}
 use Rattle.gold.specs.Steps.{after as afterBits}
 use Rattle.codeword.specs.Bits48.{Standing}
 use Rattle.codeword.specs.Streams.{symbolsOf}
-use Rattle.layout.specs.Owners.{symbols, carriers}
+use Rattle.layout.specs.Owners.{symbols}
 use Rattle.places.specs.Places.{placesOf}
 use Rattle.grid.specs.Writing.{Written}
 use Rattle.walk.specs.declared.Cursor.{Cursor}
-use Rattle.walk.specs.declared.Run.{Run}
-use Rattle.walk.specs.Addresses.{RunIn}
-use Rattle.walk.specs.Tables.{inTables, AtIndex}
 use Rattle.walk.specs.Parts.{sentPart}
 use Rattle.areas.specs.declared.Area.{Area}
-use Rattle.areas.specs.Areas.{areaCount, areaSends, areaElement, AreaIn}
+use Rattle.areas.specs.Areas.{areaAt, areaCount, areaSends, areaElement, AreaIn}
 pub use Rattle.areas.specs.Areas.{SignalsIn}
-use Rattle.areas.specs.Tables.{RowMasks, AreaTables}
+use Rattle.areas.specs.Tables.{RowMasks}
+use Rattle.areas.specs.Runs.{AreaRuns, AreaAt}
 use Rattle.data_write.specs.Sent.{sentElement, groupOf, TableOf, Sending}
-use Rattle.data_write.specs.OnePort.{SingleIn}
-
--- what a run needs on one port, and on two or four
-pub record AnyIn (P T j : ℕ) (run : Run) (grid : List ℕ) : Type 0 where
-  pub some : 1 ≤ P
-  pub single : P ≡ 1 → SingleIn T j run grid
-  pub pairs : 2 ≤ P → RunIn P T j run grid
-
--- the places that an area's tables name
-abbrev pub tablesAt : Area → List ℕ → List ℕ → ℕ → Bool
-tablesAt a rows spans = inTables (carriers (a .cell)) rows spans
 
 abbrev pub portsOf : Area → ℕ
 portsOf a = a .cell .ports
@@ -41,22 +27,18 @@ groupIn a q = groupOf (portsOf a) q
 
 -- what all runs of an area need
 pub record RunsIn (a : Area) (q : ℕ) (rows spans t bits st grid : List ℕ) : Type 0 where
-  pub unit : ℕ
-  pub area : AreaIn a q unit grid
-  pub signals : SignalsIn a
-  pub tables : AreaTables a rows spans
+  pub runs : AreaRuns a rows spans grid
   pub sending : Sending (groupIn a q) q 0 t bits st
 
 -- the cursor has come to index j, the places before it are filled, and the bits stand after their symbols
 pub record Going (a : Area) (q : ℕ) (rows spans t bits st before : List ℕ) (c : Cursor) (j : ℕ) (st′ grid : List ℕ) : Type 0 where
-  pub comes : AtIndex (carriers (a .cell)) (symbols (a .cell)) rows spans c j
-  pub even : 2 ≤ portsOf a → j % 2 ≡ 0
+  pub cursor : AreaAt a rows spans c j
   pub size : length grid ≡ length before
   pub stands : (r : Registers) → Standing (groupIn a q) bits r (q * 0) st → Standing (groupIn a q) bits r (q * j) st′
   pub written :
       (unit : ℕ) (r : Registers) → TableOf (portsOf a) q unit t → Standing (groupIn a q) bits r (q * 0) st
-      → Written (sentPart (tablesAt a rows spans) (portsOf a) (placesOf (a .cell)) 0 j)
-      (sentElement (tablesAt a rows spans) (portsOf a) (placesOf (a .cell)) unit (symbolsOf q bits r)) before grid
+      → Written (sentPart (areaAt a) (portsOf a) (placesOf (a .cell)) 0 j)
+      (sentElement (areaAt a) (portsOf a) (placesOf (a .cell)) unit (symbolsOf q bits r)) before grid
 
 -- what is done with all of them
 pub record RunsDone (a : Area) (q : ℕ) (rows spans t bits st before st′ after : List ℕ) : Type 0 where

@@ -15,7 +15,7 @@ use Rattle.walk.specs.Runs.{runCount, Laid, PairsAt}
 use Rattle.walk.specs.Parts.{sentPart}
 use Rattle.walk.specs.Addresses.{OffsetsAt, PairsIn, RoundAt}
 use Rattle.data_write.specs.declared.FirstRound.{FirstRound}
-use Rattle.data_write.specs.Sent.{sentElement, TableOf, FromTable}
+use Rattle.data_write.specs.Sent.{sentElement, TableOf, Sending, FromTable}
 
 -- what two pairs of places need, `gap` from a pair's first place to its second, and what is done with them
 pub record RoundIn (gap q : ℕ) (bits st : List ℕ) (at next across : ℕ) (grid : List ℕ) : Type 0 where
@@ -37,13 +37,7 @@ pub record RoundDone (gap q : ℕ) (t bits st : List ℕ) (at next across : ℕ)
   pub put : PairPut gap at across own other before middle
   pub put-next : PairPut gap next across own-next other-next middle after
 
--- some pairs are inside a grid, and where rounds of them begin, by the offsets of their ports
-pub record PairsFit (P T j start step : ℕ) : Type 0 where
-  pub gap : ℕ
-  pub pairs : ℕ
-  pub grid : List ℕ
-  pub inside : PairsIn P T gap j start step pairs grid
-
+-- where rounds of pairs begin, by the offsets of their ports
 pub record FirstAt (P T j start step : ℕ) (x : FirstRound) : Type 0 where
   pub offsets : PortOffsets
   pub ports : OffsetsAt P T j offsets
@@ -60,7 +54,10 @@ pub record PairsDone (P T gap j start step m i q : ℕ) (t bits st before st′ 
       → Written (sentPart own P T j (2 * i)) (sentElement own P T unit (symbolsOf q bits r)) before after
 
 -- two pairs in each round, those of i rounds are filled
-pub record Rounds (P T gap j start step n q : ℕ) (t bits st before : List ℕ) (at next i : ℕ) (st′ grid : List ℕ) : Type 0 where
+pub record Rounds (P T gap j start step n q : ℕ) (t bits st before : List ℕ) (f : FirstRound) (at next i : ℕ) (st′ grid : List ℕ) : Type 0 where
+  pub pairs : PairsIn P T gap j start step (2 * n) before
+  pub sending : Sending (2 * q) q j t bits st
+  pub first : FirstAt P T j start step f
   pub round : RoundAt P T j start step n at next i
   pub done : PairsDone P T gap j start step (2 * n) (2 * i) q t bits st before st′ grid
 

@@ -16,11 +16,12 @@ ghost use mathlib.Core.Path.{_≡_};
 ghost use Prim.Native.Nat.{_+_, _*_, _≤_, _<_};
 ghost use lib.ListN.{length};
 ghost use Rattle.modulation.specs.Symbols.{Order, unitOf};
-ghost use Rattle.walk.specs.Addresses.{PairsIn, RunIn};
+ghost use Rattle.walk.specs.Addresses.{PairsIn, PairsFit, RunIn, RunOpen, SinglesIn, HolesIn};
+ghost use Rattle.walk.specs.Forms.{holedPlace};
 ghost use Rattle.data_write.specs.Sent.{groupOf, TableOf, Sending};
-ghost use Rattle.data_write.specs.Pairs.{RoundIn, RoundDone, PairsFit, FirstAt, PairsDone, RunFilled};
-ghost use Rattle.data_write.specs.OnePort.{SinglesIn, SinglesDone, HolesIn, HolesDone, SingleIn};
-ghost use Rattle.data_write.specs.Areas.{AnyIn, RunsIn, RunsDone, FillIn, AreaFilled};
+ghost use Rattle.data_write.specs.Pairs.{RoundIn, RoundDone, FirstAt, PairsDone, RunFilled};
+ghost use Rattle.data_write.specs.OnePort.{PlacesDone};
+ghost use Rattle.data_write.specs.Areas.{RunsIn, RunsDone, FillIn, AreaFilled};
 
 // The next four symbols at two pairs of places, at bytes `at` and `next` of their own ports and `across` further on the others. The table is read
 // before the grid is written, since the compiler cannot tell the two apart.
@@ -284,8 +285,8 @@ fn singles(
     start: usize,
     n: usize,
 )
-    requires { ⌜ SinglesIn j start n (now grid) × Sending q q j (now t) (now bits) (now st) ⌝ }
-    ensures { λ _. ⌜ SinglesDone j start n n q (now (t .entry)) (now (bits .entry)) (now (st .entry)) (now (grid .entry)) (now (st .exit)) (now (grid .exit)) ⌝ }
+    requires { ⌜ SinglesIn start n (now grid) × (j + n ≤ 16800) × Sending q q j (now t) (now bits) (now st) ⌝ }
+    ensures { λ _. ⌜ PlacesDone j n (_+_ start) n q (now (t .entry)) (now (bits .entry)) (now (st .entry)) (now (grid .entry)) (now (st .exit)) (now (grid .exit)) ⌝ }
 {
     let mut at = 3 * start;
     let mut i: usize = 0;
@@ -308,8 +309,8 @@ fn doubles(
     start: usize,
     n: usize,
 )
-    requires { ⌜ SinglesIn j start (2 * n) (now grid) × Sending q q j (now t) (now bits) (now st) ⌝ }
-    ensures { λ _. ⌜ SinglesDone j start (2 * n) (2 * n) q (now (t .entry)) (now (bits .entry)) (now (st .entry)) (now (grid .entry)) (now (st .exit)) (now (grid .exit)) ⌝ }
+    requires { ⌜ SinglesIn start (2 * n) (now grid) × (j + 2 * n ≤ 16800) × Sending q q j (now t) (now bits) (now st) ⌝ }
+    ensures { λ _. ⌜ PlacesDone j (2 * n) (_+_ start) (2 * n) q (now (t .entry)) (now (bits .entry)) (now (st .entry)) (now (grid .entry)) (now (st .exit)) (now (grid .exit)) ⌝ }
 {
     let two = 2 * q;
     let mut at = 3 * start;
@@ -337,8 +338,8 @@ fn between(
     each: usize,
     total: usize,
 )
-    requires { ⌜ HolesIn j first lead each total (now grid) × Sending q q j (now t) (now bits) (now st) ⌝ }
-    ensures { λ _. ⌜ HolesDone j first lead each total total q (now (t .entry)) (now (bits .entry)) (now (st .entry)) (now (grid .entry)) (now (st .exit)) (now (grid .exit)) ⌝ }
+    requires { ⌜ HolesIn first lead each total (now grid) × (j + total ≤ 16800) × Sending q q j (now t) (now bits) (now st) ⌝ }
+    ensures { λ _. ⌜ PlacesDone j total (holedPlace first lead each) total q (now (t .entry)) (now (bits .entry)) (now (st .entry)) (now (grid .entry)) (now (st .exit)) (now (grid .exit)) ⌝ }
 {
     let s = walk::first_stretch(first, lead, each);
     let mut at = s.at;
@@ -364,7 +365,7 @@ fn fill_single(
     j: usize,
     places: usize,
 ) -> usize
-    requires { ⌜ SingleIn places j run (now grid) × Sending q q j (now t) (now bits) (now st) ⌝ }
+    requires { ⌜ RunOpen 1 places j run (now grid) × Sending q q j (now t) (now bits) (now st) ⌝ }
     ensures { λ x. ⌜ RunFilled q 1 places j run q (now (t .entry)) (now (bits .entry)) (now (st .entry)) (now (grid .entry)) x (now (st .exit)) (now (grid .exit)) ⌝ }
 {
     let first = run.first;
@@ -391,7 +392,7 @@ fn fill_run(
     ports: u8,
     places: usize,
 ) -> usize
-    requires { ⌜ AnyIn ports places j run (now grid) × Sending (groupOf ports q) q j (now t) (now bits) (now st) ⌝ }
+    requires { ⌜ RunOpen ports places j run (now grid) × Sending (groupOf ports q) q j (now t) (now bits) (now st) ⌝ }
     ensures { λ x. ⌜ RunFilled (groupOf ports q) ports places j run q (now (t .entry)) (now (bits .entry)) (now (st .entry)) (now (grid .entry)) x (now (st .exit)) (now (grid .exit)) ⌝ }
 {
     if ports == 1 {

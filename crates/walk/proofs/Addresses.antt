@@ -1,6 +1,6 @@
 -- Where the two ports of a channel's pairs begin: laws on plain numbers. Assumes nothing.
 use Prim.Native.Nat.{ℕ, _+_, _*_, _/_, _%_, _≤_, _<_}
-use mathlib.Core.Path.{_≡_, sym, ap, _∙_}
+use mathlib.Core.Path.{_≡_, sym, ap, _∙_, subst}
 use mathlib.Core.Bool.{Bool, true, false, cond}
 use mathlib.Core.List.{List}
 use native.Mathlib.Nat.{add-mul, mul-le-mul, mul-add, mul-zero}
@@ -14,10 +14,10 @@ use Rattle.grid.specs.Writing.{Room}
 use Rattle.grid.proofs.Sending.{own-lt, other-lt, element-fits}
 use Rattle.walk.specs.declared.PortOffsets.{PortOffsets}
 use Rattle.walk.specs.declared.Run.{Run}
-use Rattle.walk.specs.Runs.{runCount}
-use Rattle.walk.specs.Forms.{Paired}
-use Rattle.walk.proofs.Runs.{pair-inside, pair-count}
-use Rattle.walk.specs.Addresses.{OffsetsAt, PairsIn, RoundAt, RunIn}
+use Rattle.walk.specs.Runs.{runCount, Laid, PairsAt}
+use Rattle.walk.proofs.Forms.{six-pairs, left-pairs, right-pairs, apart-pairs}
+use Rattle.walk.proofs.Runs.{pair-inside, pair-count, pairs-of}
+use Rattle.walk.specs.Addresses.{OffsetsAt, PairsIn, PairsFit, RunPairs, RoundAt, RunIn, RunOpen}
 
 pub own-turn : (P x y : ℕ) → x % 2 ≡ y % 2 → ownPort P x ≡ ownPort P y
 unfolding ownPort
@@ -80,28 +80,16 @@ module _ {P T gap j start step m : ℕ} {grid : List ℕ} (h : PairsIn P T gap j
 pub port-fits : (a T : ℕ) → a ≤ 255 → T ≤ 16800 → Fits w64 (a * T)
 port-fits a T h l = record { fits = omega (arith, mul-le-mul {n₁ = a} {m₁ = T} {n₂ = 255} {m₂ = 16800} h l) }
 
--- ---- the pairs of a run, and a part of them. A run of no half blocks at its row's end may start at the last place
-pub run-pairs :
-    {P T j : ℕ} {grid : List ℕ} {off step gap per : ℕ} (r : Run) (m start : ℕ) → Room P T grid → 2 ≤ P → j % 2 ≡ 0 → j + 2 * m ≤ 16800
-    → start ≡ r .first + off → start ≤ T → r .first + 6 * r .halves ≤ T → Paired (r .mask) off step gap per → step ≤ 3 → m ≡ r .halves * per
-    → PairsIn P T gap j start step m grid
-run-pairs r m start room many even index at early inside p few is =
-    record {
-      room = room;
-      many = many;
-      even = even;
-      index = index;
-      early = early;
-      short = few;
-      inside = λ i h. omega (arith, pair-inside (r .mask) (r .halves) p i (omega arith));
-    }
+-- ---- a part of the pairs
+pub room-later : {P T : ℕ} {f g : List ℕ} → length g ≡ length f → Room P T f → Room P T g
+room-later e r = record { some = r .some; most = r .most; not-three = r .not-three; fits = r .fits; size = e ∙ r .size }
 
 pub later-in :
     {P T gap j start step m j′ start′ : ℕ} {f g : List ℕ} (n k : ℕ) → length g ≡ length f → n + k ≤ m → 0 < k → j′ ≡ j + 2 * n → start′ ≡ start + step * n
     → PairsIn P T gap j start step m f → PairsIn P T gap j′ start′ step k g
 later-in {step = step} n k z l s ej es h =
     record {
-      room = record { some = h .room .some; most = h .room .most; not-three = h .room .not-three; fits = h .room .fits; size = z ∙ h .room .size };
+      room = room-later z (h .room);
       many = h .many;
       even = omega (arith, h .even);
       index = omega (arith, h .index);
@@ -131,7 +119,18 @@ module _ (halves : ℕ) {P T j first : ℕ} {grid : List ℕ} (h : PairsIn P T 1
       {after : List ℕ} → length after ≡ length grid → 3 * halves % 2 ≡ 1 → PairsIn P T 1 (j + 4 * (3 * halves / 2)) (first + 4 * (3 * halves / 2)) 2 1 after
   sixes-last z e = later-in (2 * (3 * halves / 2)) 1 z (omega arith) (omega arith) (omega arith) (omega arith) h
 
+pub sixes-all : (halves : ℕ) → (3 * halves % 2 ≡ 1 → ⊥) → 2 * (3 * halves / 2) ≡ 3 * halves
+sixes-all halves e = omega arith
+
+-- ---- one pair
+pub one-fits :
+    {P T j start : ℕ} {grid : List ℕ} {r : PortOffsets} → PairsIn P T 1 j start 2 1 grid → OffsetsAt P T j r → 3 * (r .own + start) + 3 * r .across + 5 < length grid
+one-fits {j = j} h p = omega (arith, p .own, p .across (j / 2 % 2), other-inside h (j / 2 % 2) 0 (omega arith))
+
 -- ---- rounds of two pairs
+pub pairs-fit : {P T gap j start step m : ℕ} {grid : List ℕ} → PairsIn P T gap j start step m grid → PairsFit P T j start step
+pairs-fit {gap = gap} {m = m} {grid} h = record { gap = gap; pairs = m; grid = grid; inside = h }
+
 module _ {P T gap j start step n : ℕ} {grid : List ℕ} (h : PairsIn P T gap j start step (2 * n) grid) {r : PortOffsets} (p : OffsetsAt P T j r) where
   pub rounds-start : RoundAt P T j start step n (3 * (r .own + start)) (3 * (r .next + start + step)) 0
   rounds-start =
@@ -183,13 +182,53 @@ module _ {P T gap j start step n : ℕ} {grid : List ℕ} (h : PairsIn P T gap j
           next-pair = omega (arith, t .next-pair, step-next step i, step-next step (i + 1), steps-on step i);
         }
 
--- ---- the pairs of a run that may be done
-module _
-    {P T j : ℕ} {r : Run} {grid : List ℕ} (h : RunIn P T j r grid) {off step gap per : ℕ} (p : Paired (r .mask) off step gap per) (few : step ≤ 3)
-    (one : off ≤ 1) (m start : ℕ) (is : m ≡ r .halves * per) (at : start ≡ r .first + off) where
+-- ---- the pairs of a run, by its form
+module _ (r : Run) where
+  pub six-run : r .mask ≡ 63 → RunPairs r 1 (r .first) 2 (3 * r .halves)
+  six-run e = record { off = 0; per = 3; paired = six-pairs e; short = omega arith; near = omega arith; count = omega arith; place = omega arith }
+
+  pub left-run : r .mask ≡ 27 → RunPairs r 1 (r .first) 3 (2 * r .halves)
+  left-run e = record { off = 0; per = 2; paired = left-pairs e; short = omega arith; near = omega arith; count = omega arith; place = omega arith }
+
+  pub right-run : r .mask ≡ 54 → RunPairs r 1 (r .first + 1) 3 (2 * r .halves)
+  right-run e = record { off = 1; per = 2; paired = right-pairs e; short = omega arith; near = omega arith; count = omega arith; place = omega arith }
+
+  pub apart-run : r .mask ≡ 45 → RunPairs r 2 (r .first) 3 (2 * r .halves)
+  apart-run e = record { off = 0; per = 2; paired = apart-pairs e; short = omega arith; near = omega arith; count = omega arith; place = omega arith }
+
+module _ {r : Run} {gap start step m : ℕ} (p : RunPairs r gap start step m) where
   pub run-total : runCount r ≡ 2 * m
   unfolding runCount
-  run-total = pair-count (r .mask) (r .halves) p ∙ ap (λ (x : ℕ). 2 * x) (sym is)
+  run-total = pair-count (r .mask) (r .halves) (p .paired) ∙ ap (λ (x : ℕ). 2 * x) (sym (p .count))
 
-  pub run-in : PairsIn P T gap j start step m grid
-  run-in = run-pairs r m start (h .room) (h .many) (h .even) (omega (arith, h .index, run-total)) at (omega (arith, h .before)) (h .inside) p few is
+  pub laid-pairs : {own : ℕ → Bool} {T j : ℕ} → Laid own T j r → PairsAt own T j start step gap m
+  laid-pairs l = rw (p .count, p .place) (pairs-of l (p .paired))
+
+  -- a run of no half blocks at its row's end may start at the last place
+  pub run-in : {P T j : ℕ} {grid : List ℕ} → RunIn P T j r grid → PairsIn P T gap j start step m grid
+  run-in h =
+      record {
+        room = h .room;
+        many = h .many;
+        even = h .even;
+        index = omega (arith, h .index, run-total);
+        early = omega (arith, h .before, p .near, p .place);
+        short = p .short;
+        inside = λ i l. omega (arith, h .inside, p .place, pair-inside (r .mask) (r .halves) (p .paired) i (omega (arith, p .count)));
+      }
+
+pub run-small : {P T j : ℕ} {r : Run} {grid : List ℕ} → RunIn P T j r grid → (r .first + 6 * r .halves ≤ 16800) × (r .first < 16800) × (j ≤ 16800)
+run-small h = (omega (arith, h .inside, h .room .fits), omega (arith, h .before, h .room .fits), omega (arith, h .index))
+
+-- ---- a run on one port, and on two or four
+module _ {P T j : ℕ} {r : Run} {grid : List ℕ} (s : RunOpen P T j r grid) where
+  pub open-one : P ≡ 1 → RunOpen 1 T j r grid
+  open-one e = subst (λ (x : ℕ). RunOpen x T j r grid) e s
+
+  pub open-pairs : (P ≡ 1 → ⊥) → RunIn P T j r grid
+  open-pairs n =
+      let many : 2 ≤ P = several n in
+      record { room = s .room; many = many; even = s .even many; before = s .before; inside = s .inside; form = s .pairs many; index = s .index }
+    where
+      several : (P ≡ 1 → ⊥) → 2 ≤ P
+      several n = omega (arith, s .room .some)

@@ -1,9 +1,10 @@
--- THE LAWS OF PLACES ON ONE PORT: a stretch of a run's places between holes, and one place or two written as one number. Assumes nothing.
+-- THE LAWS OF PLACES ON ONE PORT: a stretch of a run's places between holes, a run by its holes, and one place or two written as one number.
+-- Assumes nothing.
 use Prim.Native.Nat.{ℕ, _+_, _-_, _*_, _/_, _≤_, _<_}
 use mathlib.Core.Path.{_≡_, refl, sym, ap, ap₂, _∙_}
 use mathlib.Core.Bool.{Bool, true, false, _||_}
 use mathlib.Core.List.{List}
-use native.Mathlib.Nat.{add-mul, one-mul, zero-mul}
+use native.Mathlib.Nat.{add-mul, one-mul, zero-mul, mul-comm, mul-le-mul}
 use native.Mathlib.Omega.{arith}
 use lib.Dec.{eqb}
 use borrow.Author.Tests.{eqb-true}
@@ -15,40 +16,24 @@ use Rattle.grid.specs.Writing.{Written}
 use Rattle.grid.proofs.Writing.{same}
 use Rattle.element_pairs.specs.Numbers.{elementFrom, upper, OnePut, TwoPut}
 use Rattle.walk.specs.declared.Run.{Run}
-use Rattle.walk.specs.Runs.{runCount, placeAt, Laid, SinglesAt}
+use Rattle.walk.specs.declared.Holes.{Holes}
+use Rattle.walk.specs.Runs.{runCount, placeAt, Laid, PlacesAt}
 use Rattle.walk.specs.Parts.{sentPart}
-use Rattle.walk.specs.Forms.{Holed, Stretch}
+use Rattle.walk.specs.Forms.{HolesOf, Stretch, holedPlace}
+use Rattle.walk.specs.Addresses.{RunOpen, SinglesIn, HolesIn}
 use Rattle.walk.proofs.Forms.{place-63}
-use Rattle.walk.proofs.Runs.{within-at}
+use Rattle.walk.proofs.Runs.{within-at, six-count}
 use Rattle.walk.proofs.Parts.{part-place, part-join}
 use Rattle.walk.proofs.Pairs.{swap, pair-value}
 
 -- ---- stretches
 module _ {first lead each k at c : ℕ} (s : Stretch first lead each k at c) where
   -- the next c places are side by side
-  pub stretch-at : (i : ℕ) → i < c → at + i ≡ first + (k + i + (k + i + (each - lead)) / each)
+  pub stretch-at : (i : ℕ) → i < c → at + i ≡ holedPlace first lead each (k + i)
   stretch-at i l =
       let e : k + i + (each - lead) ≡ s .holes * each + (each - c + i) = omega (arith, s .rest) in
       let d : (k + i + (each - lead)) / each ≡ s .holes = ap (λ (x : ℕ). x / each) e ∙ at-div (s .holes) each (each - c + i) (omega (arith, s .few)) in
       omega (arith, d, s .place)
-
-  pub stretch-singles :
-      {own : ℕ → Bool} {T j : ℕ} {r : Run} → r .first ≡ first → Holed (r .mask) lead each → Laid own T j r → (n : ℕ) → n ≤ c → k + n ≤ runCount r
-      → SinglesAt own T (j + k) at n
-  stretch-singles {own} {T} {j} {r} ef h l n few fit =
-      record {
-        owned = λ i b. ap own (here i b) ∙ l .owned (k + i) (omega arith);
-        index = λ i b. ap (cnt own) (here i b) ∙ l .index (k + i) (omega arith) ∙ (omega arith);
-        within = λ i b. omega (arith, here i b, l .within (k + i) (omega arith));
-      }
-    where
-      here : (i : ℕ) → i < n → at + i ≡ r .first + placeAt (r .mask) (k + i)
-      here i b = omega (arith, stretch-at i (omega arith), h .place (k + i))
-
-  pub stretch-inside : (r : Run) → r .first ≡ first → Holed (r .mask) lead each → (n : ℕ) → 0 < n → n ≤ c → k + n ≤ runCount r → at + n ≤ r .first + 6 * r .halves
-  unfolding runCount
-  stretch-inside r ef h n some few fit =
-      omega (arith, stretch-at (n - 1) (omega arith), h .place (k + (n - 1)), within-at (r .mask) (r .halves) (k + (n - 1)) (omega arith))
 
   -- and after a hole the next stretch stands
   pub stretch-on : Stretch first lead each (k + c) (at + c + 1) each
@@ -68,17 +53,60 @@ stretch-lead first lead each some few =
 pub stretch-hole : (first lead each : ℕ) → lead ≡ 0 → 0 < each → Stretch first lead each 0 (first + 1) each
 stretch-hole first lead each e some = record { some = some; few = omega arith; holes = 1; place = omega arith; rest = omega (arith, one-mul each, e) }
 
--- all six open
-pub six-singles : {own : ℕ → Bool} {T j : ℕ} {r : Run} → r .mask ≡ 63 → Laid own T j r → SinglesAt own T j (r .first) (runCount r)
-six-singles {own} {T} {j} {r} e l =
+-- ---- places of a channel: some of them, and those of a run
+pub places-as :
+    {own : ℕ → Bool} {T j m n : ℕ} {e e′ : ℕ → ℕ} (k : ℕ) → k + n ≤ m → ((i : ℕ) → i < n → e′ i ≡ e (k + i)) → PlacesAt own T j m e
+    → PlacesAt own T (j + k) n e′
+places-as {own} k few here p =
     record {
-      owned = λ i b. ap own (here i) ∙ l .owned i b;
-      index = λ i b. ap (cnt own) (here i) ∙ l .index i b;
-      within = λ i b. omega (arith, here i, l .within i b);
+      owned = λ i b. ap own (here i b) ∙ p .owned (k + i) (omega arith);
+      index = λ i b. ap (cnt own) (here i b) ∙ p .index (k + i) (omega arith) ∙ (omega arith);
+      within = λ i b. omega (arith, here i b, p .within (k + i) (omega arith));
     }
-  where
-    here : (i : ℕ) → r .first + i ≡ r .first + placeAt (r .mask) i
-    here i = ap (λ (x : ℕ). r .first + x) (sym (ap (λ (m : ℕ). placeAt m i) e ∙ place-63 i))
+
+pub laid-places :
+    {own : ℕ → Bool} {T j n : ℕ} {r : Run} {e : ℕ → ℕ} → n ≡ runCount r → ((k : ℕ) → e k ≡ r .first + placeAt (r .mask) k) → Laid own T j r
+    → PlacesAt own T j n e
+laid-places {own} is here l =
+    record {
+      owned = λ i b. ap own (here i) ∙ l .owned i (omega (arith, is));
+      index = λ i b. ap (cnt own) (here i) ∙ l .index i (omega (arith, is));
+      within = λ i b. omega (arith, here i, l .within i (omega (arith, is)));
+    }
+
+-- ---- a run on one port, by its holes
+pub holes-total : (r : Run) {h : Holes} → HolesOf (r .mask) h → r .halves ≤ 255 → (h .count * r .halves ≡ runCount r) × (h .count * r .halves ≤ 1530)
+unfolding runCount
+holes-total r {h} o short = (
+  mul-comm (h .count) (r .halves) ∙ ap (λ (x : ℕ). r .halves * x) (o .count),
+  omega (arith, mul-le-mul {n₁ = h .count} {m₁ = r .halves} {n₂ = 6} {m₂ = 255} (o .most) short),
+)
+
+module _ {T j : ℕ} {r : Run} {grid : List ℕ} (s : RunOpen 1 T j r grid) {h : Holes} (o : HolesOf (r .mask) h) where
+  pub holed-at : (h .each ≡ 0 → ⊥) → (k : ℕ) → holedPlace (r .first) (h .lead) (h .each) k ≡ r .first + placeAt (r .mask) k
+  holed-at e k = ap (λ (x : ℕ). r .first + x) (sym (o .holed e .place k))
+
+  pub holes-in : (h .each ≡ 0 → ⊥) → HolesIn (r .first) (h .lead) (h .each) (h .count * r .halves) grid
+  unfolding runCount
+  holes-in e =
+      record {
+        early = o .holed e .early;
+        some = o .holed e .some;
+        from = omega (arith, s .before, s .room .fits);
+        inside = λ k l.
+            let a = within-at (r .mask) (r .halves) k (omega (arith, holes-total r o (s .short) .0)) in
+            (omega (arith, a, holed-at e k, s .inside, s .room .size), omega (arith, a, holed-at e k, s .inside, s .room .fits));
+      }
+
+  -- no hole
+  pub six-at : h .each ≡ 0 → (k : ℕ) → r .first + k ≡ r .first + placeAt (r .mask) k
+  six-at e k = ap (λ (x : ℕ). r .first + x) (sym (ap (λ (m : ℕ). placeAt m k) (o .whole e) ∙ place-63 k))
+
+  pub six-total : h .each ≡ 0 → 2 * (3 * r .halves) ≡ runCount r
+  six-total e = omega (arith, six-count r (o .whole e))
+
+  pub doubles-in : SinglesIn (r .first) (2 * (3 * r .halves)) grid
+  doubles-in = (omega (arith, s .inside, s .room .size), omega (arith, s .inside, s .room .fits))
 
 -- ---- one place on one port, as one number
 either : (b : Bool) → b || b ≡ b

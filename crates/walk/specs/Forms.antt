@@ -10,6 +10,10 @@ pub record Holed (mask lead each : ℕ) : Type 0 where
   pub some : 0 < each
   pub place : (k : ℕ) → placeAt mask k ≡ k + (k + (each - lead)) / each
 
+-- such places from `first` on
+abbrev pub holedPlace : ℕ → ℕ → ℕ → ℕ → ℕ
+holedPlace first lead each k = first + (k + (k + (each - lead)) / each)
+
 -- places in pairs: pair i stands at `off` + `step` × i and `gap` further; `per` pairs in a half block
 pub record Paired (mask off step gap per : ℕ) : Type 0 where
   pub even : (i : ℕ) → placeAt mask (2 * i) ≡ off + step * i
@@ -50,3 +54,8 @@ pub record Stretch (first lead each k at c : ℕ) : Type 0 where
   pub holes : ℕ
   pub place : at ≡ first + k + holes
   pub rest : k + (each - lead) ≡ holes * each + (each - c)
+
+-- of `total` places k are passed, stretch after stretch
+pub record StretchesAt (first lead each total at left k : ℕ) : Type 0 where
+  pub few : k ≤ total
+  pub stretch : k < total → Stretch first lead each k at left

@@ -39,8 +39,8 @@ pub record PairsAt (own : ℕ → Bool) (T j start step gap m : ℕ) : Type 0 wh
   pub odd : (i : ℕ) → i < m → cnt own (start + step * i + gap) ≡ j + 2 * i + 1
   pub within : (i : ℕ) → i < m → start + step * i + gap < T
 
--- n places side by side, from `start` on, are those of the indices j, j + 1, ..
-pub record SinglesAt (own : ℕ → Bool) (T j start n : ℕ) : Type 0 where
-  pub owned : (i : ℕ) → i < n → own (start + i) ≡ true
-  pub index : (i : ℕ) → i < n → cnt own (start + i) ≡ j + i
-  pub within : (i : ℕ) → i < n → start + i < T
+-- n places e 0, e 1, .. are those of the indices j, j + 1, ..
+pub record PlacesAt (own : ℕ → Bool) (T j n : ℕ) (e : ℕ → ℕ) : Type 0 where
+  pub owned : (i : ℕ) → i < n → own (e i) ≡ true
+  pub index : (i : ℕ) → i < n → cnt own (e i) ≡ j + i
+  pub within : (i : ℕ) → i < n → e i < T

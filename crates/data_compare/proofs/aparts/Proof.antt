@@ -1,6 +1,7 @@
 -- `data_compare::aparts` meets its contract, as `sides` does. Assumes nothing.
 use Prim.Native.Nat.{_-_}
 use native.Mathlib.Omega.{arith}
+use Rattle.walk.proofs.Addresses.{pairs-fit}
 use Rattle.data_compare.specs.Places.{Pairs}
 use Rattle.data_compare.proofs.Pairs.{pairs-start, pair-fits, pairs-on, pairs-end}
 use Rattle.data_compare.proofs.aparts.Statement.{statement}
@@ -13,7 +14,7 @@ abbrev μ-loop : tie.MeasureT-loop
 μ-loop f grid ports places j start n across at₀ next₀ s₀ i₀ at next s i = n - i
 
 starts-of-requires : tie.Need-starts-of-requires Inv-loop μ-loop
-starts-of-requires c κs = record { gap = 2; count = c .before .args .n; grid = c .before .args .grid .now; pairs = c .before .pre }
+starts-of-requires c κs = pairs-fit (c .before .pre)
 
 loop-holds : tie.Need-loop-holds Inv-loop μ-loop
 loop-holds c = pairs-start (c .starts-of .ensures)

@@ -1,16 +1,16 @@
 -- `data_compare::see_run` meets its contract. Assumes nothing.
-use Rattle.data_compare.proofs.Areas.{any-one, any-pairs}
+use Rattle.walk.proofs.Addresses.{open-one, open-pairs}
 use Rattle.data_compare.proofs.see_run.Statement.{statement}
 use Rattle.data_compare.proofs.see_run.Tie as tie
 
 see-single-requires : tie.Need-see-single-requires
-see-single-requires c κs = any-one (c .before .before .pre) (c .if1 .taken)
+see-single-requires c κs = open-one (c .before .before .pre) (c .if1 .taken)
 
 returns : tie.Need-returns
 returns c = rw (c .before .if1 .taken) (c .see-single .ensures)
 
 see-pairs-requires : tie.Need-see-pairs-requires
-see-pairs-requires c κs = any-pairs (c .before .before .pre) (c .if1 .left)
+see-pairs-requires c κs = open-pairs (c .before .before .pre) (c .if1 .left)
 
 returns-2 : tie.Need-returns-2
 returns-2 c = c .see-pairs .ensures

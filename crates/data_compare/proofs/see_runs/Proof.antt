@@ -1,8 +1,10 @@
 -- `data_compare::see_runs` meets its contract. Invariant: the runs before the cursor are compared. Assumes nothing.
+use mathlib.Core.Path.{refl}
 use native.Mathlib.Omega.{arith}
 use Rattle.walk.proofs.Cursors.{less, measure}
+use Rattle.areas.proofs.Runs.{extent, cursor-in, area-open}
 use Rattle.data_compare.specs.Places.{Going}
-use Rattle.data_compare.proofs.Areas.{slot-small, extent-small, area-begins, cursor-in, area-run, area-on, area-ends}
+use Rattle.data_compare.proofs.Areas.{area-begins, area-on, area-ends}
 use Rattle.data_compare.proofs.see_runs.Statement.{statement}
 use Rattle.data_compare.proofs.see_runs.Tie as tie
 
@@ -16,48 +18,48 @@ slot-length-requires : tie.Need-slot-length-requires Inv-loop μ-loop
 slot-length-requires c κs = tt
 
 mul-symbols : tie.Need-mul-symbols Inv-loop μ-loop
-mul-symbols c = omega (arith, slot-small (c .before .before .args .a .cell) (c .slot-length .ensures))
+mul-symbols c = omega (arith, extent (c .before .before .pre) (c .slot-length .ensures) refl .0)
 
 wide-requires : tie.Need-wide-requires Inv-loop μ-loop
 wide-requires c κs = tt
 
 mul-carriers : tie.Need-mul-carriers Inv-loop μ-loop
-mul-carriers c = omega (arith, extent-small (c .before .before .before .pre) (c .before .slot-length .ensures) (c .wide .ensures))
+mul-carriers c = omega (arith, extent (c .before .before .before .pre) (c .before .slot-length .ensures) (c .wide .ensures))
 
 mul-places : tie.Need-mul-places Inv-loop μ-loop
-mul-places c = omega (arith, extent-small (c .before .before .before .pre) (c .before .slot-length .ensures) (c .wide .ensures))
+mul-places c = omega (arith, extent (c .before .before .before .pre) (c .before .slot-length .ensures) (c .wide .ensures))
 
 start-requires : tie.Need-start-requires Inv-loop μ-loop
 start-requires c κs = tt
 
 loop-holds : tie.Need-loop-holds Inv-loop μ-loop
-loop-holds c = area-begins (c .before .before .before .before .pre) (c .before .before .slot-length .ensures) (c .before .wide .ensures) (c .start .ensures)
+loop-holds c = area-begins (c .before .before .before .before .pre) (c .start .ensures)
 
 run-at-requires : tie.Need-run-at-requires Inv-loop μ-loop
 run-at-requires c κs =
     let a = c .before .before in let b = a .before .before in let d = b .before in let e = d .before .before in
-    cursor-in (e .pre) (d .slot-length .ensures) (b .wide .ensures) (a .loop .inv) (c .if1 .taken)
+    cursor-in (e .pre) (d .slot-length .ensures) (b .wide .ensures) (a .loop .inv .cursor) (c .if1 .taken)
 
 see-run-requires : tie.Need-see-run-requires Inv-loop μ-loop
 see-run-requires c κs =
     let a = c .before .before .before in let b = a .before .before in let d = b .before in let e = d .before .before in
-    area-run (e .pre) (d .slot-length .ensures) (b .wide .ensures) (a .loop .inv) (c .before .if1 .taken) (c .run-at .ensures .0) (c .run-at .ensures .1)
+    area-open (e .pre) (d .slot-length .ensures) (b .wide .ensures) (a .loop .inv .cursor) (c .before .if1 .taken) (c .run-at .ensures .0) (c .run-at .ensures .1)
 
 places-of-requires : tie.Need-places-of-requires Inv-loop μ-loop
 places-of-requires c κs =
     let a = c .before .before in let b = a .before .before in let d = b .before .before in let e = d .before in let f = e .before .before in
-    let r = area-run (f .pre) (e .slot-length .ensures) (d .wide .ensures) (b .loop .inv) (a .if1 .taken) (c .before .run-at .ensures .0) (c .before .run-at .ensures .1) in
+    let r = area-open (f .pre) (e .slot-length .ensures) (d .wide .ensures) (b .loop .inv .cursor) (a .if1 .taken) (c .before .run-at .ensures .0) (c .before .run-at .ensures .1) in
     (r .single, r .short)
 
 add-j : tie.Need-add-j Inv-loop μ-loop
 add-j c =
     let a = c .before .before in let b = a .before in let d = b .before .before in let e = d .before .before in let f = e .before in let g = f .before .before in
-    omega (arith, c .places-of .ensures, area-run (g .pre) (f .slot-length .ensures) (e .wide .ensures) (d .loop .inv) (b .if1 .taken) (a .run-at .ensures .0) (a .run-at .ensures .1) .index)
+    omega (arith, c .places-of .ensures, area-open (g .pre) (f .slot-length .ensures) (e .wide .ensures) (d .loop .inv .cursor) (b .if1 .taken) (a .run-at .ensures .0) (a .run-at .ensures .1) .index)
 
 next-requires : tie.Need-next-requires Inv-loop μ-loop
 next-requires c κs =
     let a = c .before .before .before in let b = a .before .before .before .before .before in let d = b .before .before in
-    omega (arith, slot-small (d .args .a .cell) (b .slot-length .ensures), a .if1 .taken)
+    omega (arith, extent (d .pre) (b .slot-length .ensures) refl .0, a .if1 .taken)
 
 loop-less : tie.Need-loop-less Inv-loop μ-loop
 loop-less c =

@@ -2,7 +2,7 @@
 use Prim.Native.Nat.{_-_}
 use native.Mathlib.Omega.{arith}
 use Rattle.data_compare.specs.Places.{Singles}
-use Rattle.data_compare.proofs.OnePort.{singles-start, single-fits, singles-on, singles-end}
+use Rattle.data_compare.proofs.OnePort.{singles-start, single-fits, singles-on, all-seen}
 use Rattle.data_compare.proofs.singles.Statement.{statement}
 use Rattle.data_compare.proofs.singles.Tie as tie
 
@@ -13,7 +13,7 @@ abbrev μ-loop : tie.MeasureT-loop
 μ-loop f grid start n bad₀ at₀ i₀ bad at i = n - i
 
 mul-at : tie.Need-mul-at Inv-loop μ-loop
-mul-at c = omega (arith, c .before .pre .small)
+mul-at c = omega (arith, c .before .pre .1)
 
 loop-holds : tie.Need-loop-holds Inv-loop μ-loop
 loop-holds c = singles-start
@@ -28,7 +28,7 @@ add-at : tie.Need-add-at Inv-loop μ-loop
 add-at c = omega (arith, single-fits (c .before .before .before .before .before .pre) (c .before .before .before .loop .inv) (c .before .before .loop-test .taken))
 
 add-i : tie.Need-add-i Inv-loop μ-loop
-add-i c = omega (arith, c .before .before .before .before .before .pre .small, c .before .before .loop-test .taken)
+add-i c = omega (arith, c .before .before .before .before .before .pre .1, c .before .before .loop-test .taken)
 
 loop-less : tie.Need-loop-less Inv-loop μ-loop
 loop-less c = omega (arith, c .before .before .loop-test .taken)
@@ -38,7 +38,7 @@ loop-again c =
     let a = c .before .before in let b = a .before in let d = b .before .before in singles-on (d .pre) (b .loop .inv) (a .loop-test .taken) (c .before .three-at .ensures) (c .wrong .ensures)
 
 returns : tie.Need-returns Inv-loop μ-loop
-returns c = singles-end (c .before .loop .inv) (c .loop-test .left)
+returns c = all-seen (c .before .loop .inv .few) (c .loop-test .left) (c .before .loop .inv .done)
 
 pub singles-spec : {M : Type 1} → statement M
 singles-spec = tie.close (tie.spec Inv-loop μ-loop mul-at loop-holds three-at-requires wrong-requires add-at add-i loop-less loop-again returns)

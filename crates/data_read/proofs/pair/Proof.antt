@@ -1,7 +1,7 @@
 -- `data_read::pair` meets its contract. Assumes nothing.
 use native.Mathlib.Omega.{arith}
-use Rattle.walk.proofs.Addresses.{offsets-small}
-use Rattle.data_read.proofs.Places.{one-fits, one-gives, one-on}
+use Rattle.walk.proofs.Addresses.{offsets-small, one-fits}
+use Rattle.data_read.proofs.Places.{one-gives, one-on}
 use borrow.Author.Needs.{needs}
 use Rattle.data_read.proofs.pair.Statement.{statement}
 use Rattle.data_read.proofs.pair.Tie as tie
@@ -16,7 +16,7 @@ mul-six-at : tie.Need-mul-six-at
 mul-six-at c = omega (arith, offsets-small (c .before .before .before .before .pre .0) (c .before .port-offsets .ensures))
 
 six-at-requires : tie.Need-six-at-requires
-six-at-requires c κs = one-fits (c .before .before .before .before .pre .0) (c .before .before .before .before .pre .1) (c .before .port-offsets .ensures)
+six-at-requires c κs = omega (arith, one-fits (c .before .before .before .before .pre .0) (c .before .port-offsets .ensures))
 
 mul-give : tie.Need-mul-give
 mul-give c = omega (arith, c .before .before .before .before .before .before .pre .1 .table .order)

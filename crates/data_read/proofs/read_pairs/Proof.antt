@@ -1,11 +1,8 @@
--- `data_read::read_pairs` meets its contract. Assumes nothing.
+-- `data_read::read_pairs` meets its contract: the pairs of each form. Assumes nothing.
 use native.Mathlib.Omega.{arith}
-use Prim.Native.Nat.{_+_, _*_}
-use mathlib.Core.Path.{_∙_}
-use Rattle.walk.proofs.Addresses.{run-in, run-total}
-use Rattle.walk.proofs.Forms.{six-pairs, apart-pairs}
+use Rattle.walk.proofs.Addresses.{six-run, apart-run, run-in, run-small, run-total}
 use Rattle.data_read.proofs.Gatherings.{read-fewer}
-use Rattle.data_read.proofs.Places.{paired-read, pairs-beside}
+use Rattle.data_read.proofs.Places.{paired-read, beside-run}
 use borrow.Author.Needs.{needs}
 use Rattle.data_read.proofs.read_pairs.Statement.{statement}
 use Rattle.data_read.proofs.read_pairs.Tie as tie
@@ -14,10 +11,8 @@ all-six-requires : tie.Need-all-six-requires
 all-six-requires c κs =
     let a = c .before .before in
     let b = a .before .before .before in
-    let p = six-pairs (a .if1 .taken) in (
-      run-in (b .pre .0) (p) (omega arith) (omega arith) (3 * b .args .run .halves) (b .args .run .first) (omega arith) (omega arith),
-      read-fewer (b .pre .1) (omega (arith, run-total (b .pre .0) (p) (omega arith) (omega arith) (3 * b .args .run .halves) (b .args .run .first) (omega arith) (omega arith))),
-    )
+    let p = six-run (b .args .run) (a .if1 .taken) in
+    (run-in p (b .pre .0), read-fewer (b .pre .1) (omega (arith, run-total p)))
 
 same-length : tie.Need-same-length
 same-length c = search needs
@@ -27,18 +22,14 @@ returns c =
     let a = c .before .before in
     let b = a .before .before .before in
     let d = b .before .before .before in
-    let p = six-pairs (b .if1 .taken) in
-    paired-read (d .args .ports) (d .args .places) (d .args .j) (d .args .run) (d .args .run .first) p (omega arith)
-    (run-total (d .pre .0) (p) (omega arith) (omega arith) (3 * d .args .run .halves) (d .args .run .first) (omega arith) (omega arith) ∙ (omega arith)) (a .all-six .ensures)
+    paired-read (d .args .ports) (d .args .places) (d .args .j) (six-run (d .args .run) (b .if1 .taken)) (omega arith) (a .all-six .ensures)
 
 aparts-requires : tie.Need-aparts-requires
 aparts-requires c κs =
     let a = c .before .before in
     let b = a .before .before .before .before in
-    let p = apart-pairs (a .if2 .taken) in (
-      run-in (b .pre .0) (p) (omega arith) (omega arith) (2 * b .args .run .halves) (b .args .run .first) (omega arith) (omega arith),
-      read-fewer (b .pre .1) (omega (arith, run-total (b .pre .0) (p) (omega arith) (omega arith) (2 * b .args .run .halves) (b .args .run .first) (omega arith) (omega arith))),
-    )
+    let p = apart-run (b .args .run) (a .if2 .taken) in
+    (run-in p (b .pre .0), read-fewer (b .pre .1) (omega (arith, run-total p)))
 
 same-length-2 : tie.Need-same-length-2
 same-length-2 c = search needs
@@ -48,9 +39,7 @@ returns-2 c =
     let a = c .before .before in
     let b = a .before .before .before in
     let d = b .before .before .before .before in
-    let p = apart-pairs (b .if2 .taken) in
-    paired-read (d .args .ports) (d .args .places) (d .args .j) (d .args .run) (d .args .run .first) p (omega arith)
-    (run-total (d .pre .0) (p) (omega arith) (omega arith) (2 * d .args .run .halves) (d .args .run .first) (omega arith) (omega arith) ∙ (omega arith)) (a .aparts .ensures)
+    paired-read (d .args .ports) (d .args .places) (d .args .j) (apart-run (d .args .run) (b .if2 .taken)) (omega arith) (a .aparts .ensures)
 
 before-pairs-requires : tie.Need-before-pairs-requires
 before-pairs-requires c κs = search needs
@@ -60,7 +49,8 @@ add-start c =
     let a = c .before in
     let b = a .before in
     let d = b .before .before .before in
-    omega (arith, pairs-beside (d .pre .0 .form) (b .if1 .left) (a .if2 .left) (c .before-pairs .ensures) .1, d .pre .0 .before, d .pre .0 .room .fits)
+    let p = beside-run (d .args .run) (d .pre .0 .form) (b .if1 .left) (a .if2 .left) (c .before-pairs .ensures) in
+    omega (arith, p .near, run-small (d .pre .0))
 
 sides-requires : tie.Need-sides-requires
 sides-requires c κs =
@@ -68,10 +58,8 @@ sides-requires c κs =
     let b = a .before in
     let d = b .before in
     let e = d .before .before .before in
-    let o = pairs-beside (e .pre .0 .form) (d .if1 .left) (b .if2 .left) (a .before-pairs .ensures) in (
-      run-in (e .pre .0) (o .0) (omega arith) (o .1) (2 * e .args .run .halves) (e .args .run .first + a .before-pairs .result) (omega arith) (omega arith),
-      read-fewer (e .pre .1) (omega (arith, run-total (e .pre .0) (o .0) (omega arith) (o .1) (2 * e .args .run .halves) (e .args .run .first + a .before-pairs .result) (omega arith) (omega arith))),
-    )
+    let p = beside-run (e .args .run) (e .pre .0 .form) (d .if1 .left) (b .if2 .left) (a .before-pairs .ensures) in
+    (run-in p (e .pre .0), read-fewer (e .pre .1) (omega (arith, run-total p)))
 
 same-length-3 : tie.Need-same-length-3
 same-length-3 c = search needs
@@ -83,9 +71,8 @@ returns-3 c =
     let d = b .before in
     let e = d .before in
     let f = e .before .before .before in
-    let o = pairs-beside (f .pre .0 .form) (e .if1 .left) (d .if2 .left) (b .before-pairs .ensures) in
-    paired-read (f .args .ports) (f .args .places) (f .args .j) (f .args .run) (f .args .run .first + b .before-pairs .result) (o .0) (omega arith)
-    (run-total (f .pre .0) (o .0) (omega arith) (o .1) (2 * f .args .run .halves) (f .args .run .first + b .before-pairs .result) (omega arith) (omega arith) ∙ (omega arith)) (a .sides .ensures)
+    let p = beside-run (f .args .run) (f .pre .0 .form) (e .if1 .left) (d .if2 .left) (b .before-pairs .ensures) in
+    paired-read (f .args .ports) (f .args .places) (f .args .j) p (omega arith) (a .sides .ensures)
 
 pub read-pairs-spec : {M : Type 1} → statement M
 read-pairs-spec =

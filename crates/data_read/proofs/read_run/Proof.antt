@@ -2,7 +2,9 @@
 use native.Mathlib.Omega.{arith}
 use mathlib.Core.Path.{ap}
 use Prim.Native.Nat.{ℕ, _+_}
-use Rattle.data_read.proofs.Places.{run-total, one-port, one-read, run-in}
+use Rattle.data_read.proofs.Places.{one-read}
+use Rattle.walk.proofs.Singles.{holes-total}
+use Rattle.walk.proofs.Addresses.{open-one, open-pairs}
 use borrow.Author.Needs.{needs}
 use Rattle.data_read.proofs.read_run.Statement.{statement}
 use Rattle.data_read.proofs.read_run.Tie as tie
@@ -11,17 +13,17 @@ holes-of-requires : tie.Need-holes-of-requires
 holes-of-requires c κs = c .before .before .pre .0 .single
 
 mul-next : tie.Need-mul-next
-mul-next c = omega (arith, run-total (c .before .before .before .before .before .args .run) (c .before .before .holes-of .ensures), c .before .before .before .before .before .pre .0 .index)
+mul-next c = omega (arith, holes-total (c .before .before .before .before .before .args .run) (c .before .before .holes-of .ensures) (c .before .before .before .before .before .pre .0 .short) .0, c .before .before .before .before .before .pre .0 .index)
 
 add-next : tie.Need-add-next
-add-next c = omega (arith, run-total (c .before .before .before .before .before .args .run) (c .before .before .holes-of .ensures), c .before .before .before .before .before .pre .0 .index)
+add-next c = omega (arith, holes-total (c .before .before .before .before .before .args .run) (c .before .before .holes-of .ensures) (c .before .before .before .before .before .pre .0 .short) .0, c .before .before .before .before .before .pre .0 .index)
 
 read-single-requires : tie.Need-read-single-requires
 read-single-requires c κs =
     let a = c .before .before in
     let b = a .before .before .before in
     let d = b .before .before .before in
-    (one-port (d .pre .0) (a .if1 .taken), b .holes-of .ensures, d .pre .1)
+    (open-one (d .pre .0) (a .if1 .taken), b .holes-of .ensures, d .pre .1)
 
 same-length : tie.Need-same-length
 same-length c = search needs
@@ -32,13 +34,13 @@ returns c =
     let b = a .before .before .before in
     let d = b .before .before .before in
     let e = d .before .before .before in
-    (ap (λ (x : ℕ). e .args .j + x) (run-total (e .args .run) (d .holes-of .ensures)), one-read (e .args .places) (e .args .run) (b .if1 .taken) (a .read-single .ensures))
+    (ap (λ (x : ℕ). e .args .j + x) (holes-total (e .args .run) (d .holes-of .ensures) (e .pre .0 .short) .0), one-read (e .args .places) (e .args .run) (b .if1 .taken) (a .read-single .ensures))
 
 read-pairs-requires : tie.Need-read-pairs-requires
 read-pairs-requires c κs =
     let a = c .before .before in
     let b = a .before .before .before .before .before .before in
-    (run-in (b .pre .0) (omega (arith, b .pre .0 .room .some, a .if1 .left)), b .pre .1)
+    (open-pairs (b .pre .0) (a .if1 .left), b .pre .1)
 
 same-length-2 : tie.Need-same-length-2
 same-length-2 c = search needs
@@ -48,7 +50,7 @@ returns-2 c =
     let a = c .before .before in
     let b = a .before .before .before .before .before .before in
     let d = b .before .before .before in
-    (ap (λ (x : ℕ). d .args .j + x) (run-total (d .args .run) (b .holes-of .ensures)), a .read-pairs .ensures)
+    (ap (λ (x : ℕ). d .args .j + x) (holes-total (d .args .run) (b .holes-of .ensures) (d .pre .0 .short) .0), a .read-pairs .ensures)
 
 pub read-run-spec : {M : Type 1} → statement M
 read-run-spec =

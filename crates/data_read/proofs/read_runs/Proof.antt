@@ -2,8 +2,9 @@
 use native.Mathlib.Omega.{arith}
 use mathlib.Core.Path.{refl}
 use Rattle.walk.proofs.Cursors.{less, measure}
+use Rattle.areas.proofs.Runs.{extent, cursor-in}
 use Rattle.data_read.specs.Areas.{Going}
-use Rattle.data_read.proofs.Sections.{extent, area-begins, cursor-in, area-run, area-on, area-ends}
+use Rattle.data_read.proofs.Sections.{area-begins, area-run, area-on, area-ends}
 use Rattle.data_read.proofs.read_runs.Statement.{statement}
 use Rattle.data_read.proofs.read_runs.Tie as tie
 
@@ -17,16 +18,16 @@ slot-length-requires : tie.Need-slot-length-requires Inv-loop μ-loop
 slot-length-requires c κs = tt
 
 mul-symbols : tie.Need-mul-symbols Inv-loop μ-loop
-mul-symbols c = omega (arith, extent (c .before .before .before .pre) (c .slot-length .ensures) refl .0)
+mul-symbols c = omega (arith, extent (c .before .before .before .pre .runs) (c .slot-length .ensures) refl .0)
 
 wide-requires : tie.Need-wide-requires Inv-loop μ-loop
 wide-requires c κs = tt
 
 mul-carriers : tie.Need-mul-carriers Inv-loop μ-loop
-mul-carriers c = omega (arith, extent (c .before .before .before .before .pre) (c .before .slot-length .ensures) (c .wide .ensures) .1)
+mul-carriers c = omega (arith, extent (c .before .before .before .before .pre .runs) (c .before .slot-length .ensures) (c .wide .ensures) .1)
 
 mul-places : tie.Need-mul-places Inv-loop μ-loop
-mul-places c = omega (arith, extent (c .before .before .before .before .pre) (c .before .slot-length .ensures) (c .wide .ensures) .2)
+mul-places c = omega (arith, extent (c .before .before .before .before .pre .runs) (c .before .slot-length .ensures) (c .wide .ensures) .2)
 
 start-requires : tie.Need-start-requires Inv-loop μ-loop
 start-requires c κs = tt
@@ -40,7 +41,7 @@ run-at-requires c κs =
     let b = a .before .before in
     let d = b .before in
     let e = d .before .before .before in
-    cursor-in (e .pre) (d .slot-length .ensures) (b .wide .ensures) (a .loop .inv) (c .if1 .taken)
+    cursor-in (e .pre .runs) (d .slot-length .ensures) (b .wide .ensures) (a .loop .inv .cursor) (c .if1 .taken)
 
 read-run-requires : tie.Need-read-run-requires Inv-loop μ-loop
 read-run-requires c κs =
@@ -58,7 +59,7 @@ next-requires c κs =
     let b = a .before .before .before .before in
     let d = b .before in
     let e = d .before .before .before in
-    omega (arith, extent (e .pre) (d .slot-length .ensures) (b .wide .ensures) .0, a .if1 .taken)
+    omega (arith, extent (e .pre .runs) (d .slot-length .ensures) (b .wide .ensures) .0, a .if1 .taken)
 
 loop-less : tie.Need-loop-less Inv-loop μ-loop
 loop-less c =

@@ -19,7 +19,7 @@ mul-at : tie.Need-mul-at Inv-loop μ-loop
 mul-at c = omega arith
 
 loop-holds : tie.Need-loop-holds Inv-loop μ-loop
-loop-holds c = (omega arith, omega arith, read-none (c .before .before .pre .2))
+loop-holds c = (omega arith, omega arith, read-none (c .before .before .pre .1))
 
 three-at-requires : tie.Need-three-at-requires Inv-loop μ-loop
 three-at-requires c κs = omega arith
@@ -34,8 +34,8 @@ give-requires c κs =
     let d = b .before in
     let e = d .before in
     let f = e .before .before .before in
-    single-gives (f .args .start) (f .pre .2) (e .loop .inv .2) (e .loop .inv .0) (d .loop-test .taken)
-    (omega (arith, a .symbol-of .ensures, word-few (f .pre .2 .table) (b .three-at .result)))
+    single-gives (f .args .start) (f .pre .1) (e .loop .inv .2) (e .loop .inv .0) (d .loop-test .taken)
+    (omega (arith, a .symbol-of .ensures, word-few (f .pre .1 .table) (b .three-at .result)))
 
 add-at : tie.Need-add-at Inv-loop μ-loop
 add-at c = omega arith
@@ -54,7 +54,7 @@ loop-again c =
     let e = d .before in
     let f = e .before in
     let g = f .before .before .before in
-    let o = single-on (g .args .start) (g .pre .2) (f .loop .inv .2) (f .loop .inv .0) (e .loop-test .taken) (d .three-at .ensures) (b .symbol-of .ensures) (a .give .ensures) in
+    let o = single-on (g .args .start) (g .pre .1) (f .loop .inv .2) (f .loop .inv .0) (e .loop-test .taken) (d .three-at .ensures) (b .symbol-of .ensures) (a .give .ensures) in
     (omega (arith, f .loop .inv .0), omega arith, o)
 
 same-length : tie.Need-same-length Inv-loop μ-loop

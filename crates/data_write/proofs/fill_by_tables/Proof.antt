@@ -31,11 +31,4 @@ returns c =
 
 pub fill-by-tables-spec : {M : Type 1} → statement M
 fill-by-tables-spec =
-    tie.close
-    (tie.spec
-    set-tables-requires
-    begin-requires
-    fill-runs-requires
-    end-requires
-    same-length
-    returns)
+    tie.close (tie.spec set-tables-requires begin-requires fill-runs-requires end-requires same-length returns)

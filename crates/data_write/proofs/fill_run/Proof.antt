@@ -1,5 +1,5 @@
 -- `data_write::fill_run` meets its contract. Assumes nothing.
-use native.Mathlib.Omega.{arith}
+use Rattle.walk.proofs.Addresses.{open-one, open-pairs}
 use Rattle.data_write.proofs.Areas.{one-sending, pairs-sending, one-filled, pairs-filled}
 use borrow.Author.Needs.{needs}
 use Rattle.data_write.proofs.fill_run.Statement.{statement}
@@ -8,7 +8,7 @@ use Rattle.data_write.proofs.fill_run.Tie as tie
 fill-single-requires : tie.Need-fill-single-requires
 fill-single-requires c κs =
     let a = c .before .before in
-    (a .before .before .before .pre .0 .single (a .if1 .taken), one-sending (a .before .before .before .pre .1) (a .if1 .taken))
+    (open-one (a .before .before .before .pre .0) (a .if1 .taken), one-sending (a .before .before .before .pre .1) (a .if1 .taken))
 
 same-length : tie.Need-same-length
 same-length c = search needs
@@ -19,7 +19,7 @@ returns c = one-filled (c .before .before .before .before .before .if1 .taken) (
 fill-pairs-requires : tie.Need-fill-pairs-requires
 fill-pairs-requires c κs =
     let a = c .before .before .before .before .before in
-    (a .pre .0 .pairs (omega (arith, a .pre .0 .some, c .before .before .if1 .left)), pairs-sending (a .pre .1) (c .before .before .if1 .left))
+    (open-pairs (a .pre .0) (c .before .before .if1 .left), pairs-sending (a .pre .1) (c .before .before .if1 .left))
 
 same-length-2 : tie.Need-same-length-2
 same-length-2 c = search needs

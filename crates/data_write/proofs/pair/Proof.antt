@@ -1,8 +1,8 @@
 -- `data_write::pair` meets its contract. Assumes nothing.
 use native.Mathlib.Omega.{arith}
 use Rattle.data_write.proofs.Source.{from-table}
-use Rattle.data_write.proofs.Filled.{one-takes, one-fits, one-done}
-use Rattle.walk.proofs.Addresses.{offsets-small}
+use Rattle.data_write.proofs.Filled.{one-takes, one-done}
+use Rattle.walk.proofs.Addresses.{offsets-small, one-fits}
 use borrow.Author.Needs.{needs}
 use Rattle.data_write.proofs.pair.Statement.{statement}
 use Rattle.data_write.proofs.pair.Tie as tie
@@ -49,7 +49,7 @@ partners-requires c κs = (c .before .before .before .before .before .number .en
 put-pair-requires : tie.Need-put-pair-requires
 put-pair-requires c κs =
     let a = c .before .before .before .before .before .before .before .before .before in
-    one-fits (a .before .before .before .pre .0) (a .before .before .before .pre .1) (a .port-offsets .ensures)
+    one-fits (a .before .before .before .pre .0) (a .port-offsets .ensures)
 
 same-length : tie.Need-same-length
 same-length c = search needs
@@ -64,19 +64,5 @@ returns c =
 
 pub pair-spec : {M : Type 1} → statement M
 pair-spec =
-    tie.close
-    (tie.spec
-    port-offsets-requires
-    mul-take
-    take-requires
-    shr-number
-    number-requires
-    number-requires-2
-    add-put-pair
-    mul-put-pair
-    mul-put-pair-2
-    joint-requires
-    partners-requires
-    put-pair-requires
-    same-length
-    returns)
+    tie.close (tie.spec port-offsets-requires mul-take take-requires shr-number number-requires number-requires-2 add-put-pair mul-put-pair
+    mul-put-pair-2 joint-requires partners-requires put-pair-requires same-length returns)
