@@ -99,8 +99,10 @@ module _ (w : List ℕ) (p : Plan) (ok : checkOf w ≡ accepted p) where
     unfolding areaHas openTo blocksHave
     user-at s k in-s =
         rw (lt-ltb s (symbols (p .cell)) in-s)
-        (regrouped (leb (controlSymbols (p .cell) (p .frame)) s) (leb (6 * (2 * u .first)) k) (ltb k (6 * (2 * (u .first + u .count)))) (openPlace (p .cell) s (k % 6)) (not (takenHalf (p .cell) (p .frame) s (k / 6)))
-        ∙ ap (λ (t : Bool). (t && leb (controlSymbols (p .cell) (p .frame)) s && not (takenHalf (p .cell) (p .frame) s (k / 6))) && openPlace (p .cell) s (k % 6)) (ap₂ _&&_ low high ∙ sym (user-blocks (usersOf w p) i (slotOf (p .cell) s) (6 * (k / 6)) in-i d))
+        (regrouped (leb (controlSymbols (p .cell) (p .frame)) s) (leb (6 * (2 * u .first)) k) (ltb k (6 * (2 * (u .first + u .count)))) (openPlace (p .cell) s (k % 6))
+        (not (takenHalf (p .cell) (p .frame) s (k / 6)))
+        ∙ ap (λ (t : Bool). (t && leb (controlSymbols (p .cell) (p .frame)) s && not (takenHalf (p .cell) (p .frame) s (k / 6))) && openPlace (p .cell) s (k % 6))
+        (ap₂ _&&_ low high ∙ sym (user-blocks (usersOf w p) i (slotOf (p .cell) s) (6 * (k / 6)) in-i d))
         ∙ sym (user-places w p ok i s (k / 6) (k % 6) (omega arith))
         ∙ ap (owns w p (UserOf i) s) (split k))
       where

@@ -52,7 +52,8 @@ pub but-bits : (v : ℕ) → v < 6 → (a b : Bool) (r : ℕ) → r < 6 → bitO
 unfolding maskBut bitIf
 but-bits v h a b r l =
     one-same (bitOf (maskBut v a b) r) (butTest v a b r)
-    (eqb→eq _ _ (below-at (λ (r : ℕ). eqb (one (bitOf (63 - cond a (32 / 2 ^ (5 - v)) 0 - cond b (32 / 2 ^ (5 - (v + 3) % 6)) 0) r)) (one (butTest v a b r))) 6 (below-at (Right a b) 6 (right a b) v h) r l))
+    (eqb→eq _ _ (below-at (λ (r : ℕ). eqb (one (bitOf (63 - cond a (32 / 2 ^ (5 - v)) 0 - cond b (32 / 2 ^ (5 - (v + 3) % 6)) 0) r)) (one (butTest v a b r))) 6
+    (below-at (Right a b) 6 (right a b) v h) r l))
 
 -- ---- the form of a mask with the holes of two ports, of the first only, or of none
 hole-first : (v : ℕ) → v < 6 → SingleForm (maskBut v true false)
@@ -164,7 +165,9 @@ module _ (v x y : ℕ) (a b : Bool) (e : x ≡ bitIf a v) (d : y ≡ bitIf b ((v
   pub bits-room : v < 6 → x + y ≤ 63
   unfolding bitIf
   bits-room h =
-      let both : 32 / 2 ^ (5 - v) + 32 / 2 ^ (5 - (v + 3) % 6) ≤ 63 = leb-true (32 / 2 ^ (5 - v) + 32 / 2 ^ (5 - (v + 3) % 6)) 63 (told (leb (32 / 2 ^ (5 - v) + 32 / 2 ^ (5 - (v + 3) % 6)) 63) (below-at (λ (v : ℕ). leb (32 / 2 ^ (5 - v) + 32 / 2 ^ (5 - (v + 3) % 6)) 63) 6 tt v h)) in
+      let both : 32 / 2 ^ (5 - v) + 32 / 2 ^ (5 - (v + 3) % 6) ≤ 63 =
+      leb-true (32 / 2 ^ (5 - v) + 32 / 2 ^ (5 - (v + 3) % 6)) 63 (told (leb (32 / 2 ^ (5 - v) + 32 / 2 ^ (5 - (v + 3) % 6)) 63)
+      (below-at (λ (v : ℕ). leb (32 / 2 ^ (5 - v) + 32 / 2 ^ (5 - (v + 3) % 6)) 63) 6 tt v h)) in
       omega (arith, at-most a (32 / 2 ^ (5 - v)), at-most b (32 / 2 ^ (5 - (v + 3) % 6)))
     where
       at-most : (t : Bool) (n : ℕ) → cond t n 0 ≤ n

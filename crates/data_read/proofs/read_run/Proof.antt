@@ -13,10 +13,14 @@ holes-of-requires : tie.Need-holes-of-requires
 holes-of-requires c κs = c .before .before .pre .0 .single
 
 mul-next : tie.Need-mul-next
-mul-next c = omega (arith, holes-total (c .before .before .before .before .before .args .run) (c .before .before .holes-of .ensures) (c .before .before .before .before .before .pre .0 .short) .0, c .before .before .before .before .before .pre .0 .index)
+mul-next c =
+    let at-holes-of = c .before .before in let entry = at-holes-of .before .before .before in
+    omega (arith, holes-total (entry .args .run) (at-holes-of .holes-of .ensures) (entry .pre .0 .short) .0, entry .pre .0 .index)
 
 add-next : tie.Need-add-next
-add-next c = omega (arith, holes-total (c .before .before .before .before .before .args .run) (c .before .before .holes-of .ensures) (c .before .before .before .before .before .pre .0 .short) .0, c .before .before .before .before .before .pre .0 .index)
+add-next c =
+    let at-holes-of = c .before .before in let entry = at-holes-of .before .before .before in
+    omega (arith, holes-total (entry .args .run) (at-holes-of .holes-of .ensures) (entry .pre .0 .short) .0, entry .pre .0 .index)
 
 read-single-requires : tie.Need-read-single-requires
 read-single-requires c κs =
