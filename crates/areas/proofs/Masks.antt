@@ -202,7 +202,3 @@ left-out a s b out e =
     ap (λ (x : Bool). a .leaves && x) (taken-centre (a .cell) (a .frame) s b)
     ∙ sym (and-assoc (a .leaves) (takenRow (a .cell) (a .frame) s) (leb (a .cell .blocks) (b + 6) && ltb b (a .cell .blocks + 6)))
     ∙ ap (λ (x : Bool). x && (leb (a .cell .blocks) (b + 6) && ltb b (a .cell .blocks + 6))) (sym e)
-
-pub leaves-taken :
-    (a : Area) (s : ℕ) (t : Bool) → a .leaves ≡ true → t ≡ takenRow (a .cell) (a .frame) s → t ≡ leavesRow a s
-leaves-taken a s t l d = d ∙ rw l refl

@@ -7,7 +7,7 @@ ghost use mathlib.Core.Path.{_≡_};
 ghost use Prim.Native.Nat.{_*_, _≤_, _<_};
 ghost use lib.ListN.{length};
 ghost use Rattle.areas.specs.Areas.{pbchArea, userArea};
-ghost use Rattle.areas.specs.Masks.{bitIf, maskBut, Masks, leavesRow};
+ghost use Rattle.areas.specs.Masks.{bitIf, maskBut, Masks};
 ghost use Rattle.areas.specs.Tables.{RowMask, RowMasks, ListsOf, Smaller, Greater, rowSpans, RowsSet, TablesIn, AreaTables};
 
 // The places of such a channel by half blocks of six subcarriers: rows `first` to `last` - 1, half blocks `from` to `to` - 1, without
@@ -100,17 +100,6 @@ pub fn row_mask(cell: Cell, signals: u8, s: usize) -> u8
         return mask_but(layout::crs_first(cell, 2, s), 2 < signals, 3 < signals);
     }
     63
-}
-
-// Whether the area leaves out the centre of symbol s.
-pub fn leaves_row(a: Area, s: usize) -> bool
-    requires { ⌜ s < 14 ⌝ }
-    ensures { λ r. ⌜ r ≡ leavesRow a s ⌝ }
-{
-    if a.leaves {
-        return counts::taken(a.cell, a.frame, s);
-    }
-    false
 }
 
 // A symbol's mask, and 64 more where its centre is left out.

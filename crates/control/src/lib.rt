@@ -68,8 +68,8 @@ pub fn fill_pcfich(r: Registers, cell: Cell, cfi: u8, grid: &mut [u8]) -> Regist
     let mut n: usize = 0;
     while n < 8 {
         let w = cfi_word(cfi, 4 * n) ^ gold::word(s, 4);
-        let d = modulation::symbol(2, w / 4);
-        let e = modulation::symbol(2, w % 4);
+        let d = modulation::qpsk(w / 4);
+        let e = modulation::qpsk(w % 4);
         let g = layout::format_group(cell, n / 2);
         put_pair(cell, g, n % 2, (n % 2) as u8, d, e, grid);
         s = gold::advance(s, 4);

@@ -4,6 +4,5 @@ pub mod Places
 pub mod Symbols
 pub mod Constellation
 pub mod Marks
-pub mod Bytes
 pub mod Lookup
 pub mod Formulas

@@ -6,7 +6,6 @@ use mathlib.Core.List.{List, [], _∷_}
 use native.Mathlib.Nat.{pow-succ', mul-left-comm}
 use native.Mathlib.Omega.{arith}
 use lib.ListN.{length}
-use lib.Pow.{pow-mono}
 use lib.IntN.{ℤ}
 use Rattle.modulation.specs.Demapping.{levelBits, isLevel, woven, number, Word, answerOf, demapOf}
 use Rattle.modulation.specs.Marks.{markOf}
@@ -69,10 +68,3 @@ module _ (q : ℕ) (even : q % 2 ≡ 0) where
       told y z ∙ both-known (is y) (is z) (2 * part y + part z) ky kz
       ∙ ap Word (ap₂ (λ (m n : ℕ). 2 * m + n) (sym (ei ∙ known-mark y ky)) (sym (ej ∙ known-mark z kz))) in
       (e, demap-only q (record { re = y; im = z }) (2 * i + j) e .1)
-
-  -- of an order of at most 6 bits
-  pub bits-small : q ≤ 6 → (y z : ℤ) → is y ≡ true → is z ≡ true → (i j : ℕ) → i ≡ markOf (q / 2) y → j ≡ markOf (q / 2) z → 2 * i + j < 64
-  bits-small few y z ky kz i j ei ej = let l : 2 ^ q ≤ 64 = pow-mono {j = 6} few in omega (arith, bits-told y z ky kz i j ei ej .1)
-
-  pub mark-small : q ≤ 6 → (z : ℤ) → is z ≡ true → (i : ℕ) → i ≡ markOf (q / 2) z → i < 64
-  mark-small few z k i e = omega (arith, bits-small few z z k k i i e e)

@@ -1,8 +1,7 @@
 -- For inner contracts only: levels and symbols that some bits have, and what the code holds of a level for the way back.
-use Prim.Native.Nat.{ℕ, _*_, _/_}
+use Prim.Native.Nat.{ℕ, _/_}
 use mathlib.Core.Bool.{Bool, cond, _&&_}
-use lib.IntN.{ℤ, subℕ}
-use Rattle.base.specs.Tables.{table}
+use lib.IntN.{ℤ}
 use Rattle.base.specs.declared.Pair.{Pair}
 use Rattle.modulation.specs.Demapping.{levelBits, isLevel, number}
 
@@ -10,10 +9,6 @@ use Rattle.modulation.specs.Demapping.{levelBits, isLevel, number}
 -- 255 where no bits have the level
 unfoldable pub markOf : ℕ → ℤ → ℕ
 markOf n z = cond (isLevel n z) (number 4 (levelBits n z)) 255
-
--- the marks of 7, 5, .., -7 as the bytes of a number, most significant first
-unfoldable pub marksOf : ℕ → ℕ
-marksOf n = number 256 (table 8 (λ (i : ℕ). markOf n (subℕ 7 (2 * i))))
 
 -- the symbol is a constellation point of q bits
 unfoldable pub isSymbol : ℕ → Pair → Bool

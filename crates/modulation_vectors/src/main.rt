@@ -1,4 +1,4 @@
-// Prints every symbol of every order, and what each level pair near 0 stands for.
+// Prints every symbol of every order, and what each level pair near 0 stands for, by the tables that build and read go by.
 use base::Pair;
 ghost use Rattle.modulation.specs.Symbols.{Order};
 
@@ -10,68 +10,73 @@ fn start(name: &[u8], q: u32) {
     print::space();
 }
 
-fn map_line(q: u32, w: u32)
-    requires { ⌜ Order q ⌝ }
-{
+// The levels of an element that is a number.
+fn levels(v: u64) {
+    show::pair(Pair {
+        re: base::signed((v / 256 % 256) as u8),
+        im: base::signed((v / 65536 % 256) as u8),
+    });
+    print::space();
+}
+
+fn map_line(q: u32, t: &[u32; 256], w: u32) {
+    let v = constellation::number(t, w as u64);
     start(b"map", q);
     print::number(w as u64);
     print::space();
-    show::pair(modulation::symbol(q, w));
-    print::space();
-    print::number(modulation::unit(q) as u64);
+    levels(v);
+    print::number(v % 256);
     print::line();
 }
 
 fn map_lines(q: u32, words: u32)
     requires { ⌜ Order q ⌝ }
 {
+    let mut t: [u32; 256] = [0; 256];
+    constellation::set_elements(&mut t, q, modulation::unit(q));
     for w in 0..words {
-        map_line(q, w);
+        map_line(q, &t, w);
     }
 }
 
-// The bits of the levels with the bytes i and j, which are asked for only where both are levels of the order.
-fn word(q: u32, i: u8, j: u8)
-    requires { ⌜ Order q ⌝ }
-{
-    if modulation::known(q, i) && modulation::known(q, j) {
-        print::number(modulation::bits(q, i, j) as u64);
-        return;
-    }
-    print::text(b"none");
-}
-
-fn back_line(q: u32, i: u8, j: u8)
-    requires { ⌜ Order q ⌝ }
-{
+// The word of an element's levels, where that word's element is this one.
+fn back_line(q: u32, t: &[u32; 256], d: &[u8; 32], v: u64) {
     start(b"back", q);
-    show::pair(Pair {
-        re: base::signed(i),
-        im: base::signed(j),
-    });
-    print::space();
-    word(q, i, j);
+    levels(v);
+    let w = constellation::symbol_of(d, v);
+    if constellation::number(t, w) == v {
+        print::number(w);
+    } else {
+        print::text(b"none");
+    }
     print::line();
 }
 
 // The byte of the levels -8, .., 8 for n = 0, .., 16.
-fn level(n: u8) -> u8 {
-    if n < 8 { 248 + n } else { n - 8 }
+fn level(n: u64) -> u64 {
+    (n % 256 + 248) % 256
 }
 
-fn back_row(q: u32, i: u8)
-    requires { ⌜ Order q ⌝ }
-{
+fn back_row(q: u32, t: &[u32; 256], d: &[u8; 32], i: u64) {
     for n in 0..17 {
-        back_line(q, i, level(n));
+        back_line(
+            q,
+            t,
+            d,
+            (modulation::unit(q) as u64) + i % 256 * 256 + level(n) % 256 * 65536,
+        );
     }
 }
 
 fn back_lines(q: u32)
     requires { ⌜ Order q ⌝ }
 {
+    let mut t: [u32; 256] = [0; 256];
+    constellation::set_elements(&mut t, q, modulation::unit(q));
+    let mut d: [u8; 32] = [0; 32];
+    constellation::set_axis(&mut d, q);
     for n in 0..17 {
-        back_row(q, level(n));
+        back_row(q, &t, &d, level(n));
     }
 }
 

@@ -3,8 +3,7 @@
 ghost use mathlib.Core.Path.{_≡_};
 ghost use Prim.Native.Nat.{_+_, _*_, _≤_, _<_};
 ghost use lib.ListN.{length};
-ghost use Rattle.walk.specs.Runs.{runCount};
-ghost use Rattle.walk.specs.Forms.{PairForm, SingleForm, HolesOf, holesWith, Stretch};
+ghost use Rattle.walk.specs.Forms.{SingleForm, HolesOf, holesWith, Stretch};
 ghost use Rattle.walk.specs.Addresses.{OffsetsAt};
 ghost use Rattle.walk.specs.Tables.{cursorStart, cursorRun, cursorNext, rowEnd, CursorIn};
 ghost use Rattle.walk.specs.Spans.{SpanPut, RowPut};
@@ -101,18 +100,6 @@ pub fn put_row(rows: &mut [u8; 45], s: usize, mask: u8, first: usize, end: usize
     rows[3 * s] = mask;
     rows[3 * s + 1] = first as u8;
     rows[3 * s + 2] = end as u8;
-}
-
-// How many places a run has.
-pub fn count_of(run: Run) -> usize
-    requires { ⌜ PairForm (run .mask) × (run .halves ≤ 255) ⌝ }
-    ensures { λ r. ⌜ r ≡ runCount run ⌝ }
-{
-    if run.mask == 63 {
-        6 * run.halves
-    } else {
-        4 * run.halves
-    }
 }
 
 // Where the own ports of a pair and of the next one begin, in elements, and how far the other port is.

@@ -29,11 +29,11 @@ cfi-word-requires c κs = (c .before .before .before .pre .some, c .before .befo
 word-requires : tie.Need-word-requires Inv-loop μ-loop
 word-requires c κs = (omega arith, omega arith)
 
-symbol-requires : tie.Need-symbol-requires Inv-loop μ-loop
-symbol-requires c κs = (refl, omega arith, omega arith)
+qpsk-requires : tie.Need-qpsk-requires Inv-loop μ-loop
+qpsk-requires c κs = tt
 
-symbol-requires-2 : tie.Need-symbol-requires-2 Inv-loop μ-loop
-symbol-requires-2 c κs = (refl, omega arith, omega arith)
+qpsk-requires-2 : tie.Need-qpsk-requires-2 Inv-loop μ-loop
+qpsk-requires-2 c κs = tt
 
 format-group-requires : tie.Need-format-group-requires Inv-loop μ-loop
 format-group-requires c κs =
@@ -48,7 +48,7 @@ put-pair-requires c κs =
     let s = c .before .before .before .before .before .before .before .before .before in
     format-pair (s .args .cell) (s .args .cfi) (s .args .r) (s .args .grid .now) (s .pre) (c .before .before .before .before .before .before .before .loop .inv)
     (c .before .before .before .before .before .before .loop-test .taken) (bitXor (c .before .before .before .before .before .cfi-word .result)
-    (c .before .before .before .before .word .result)) (c .before .format-group .ensures) (c .before .before .before .symbol .ensures) (c .before .before .symbol2 .ensures)
+    (c .before .before .before .before .word .result)) (c .before .format-group .ensures) (c .before .before .before .qpsk .ensures) (c .before .before .qpsk2 .ensures)
 
 advance-requires : tie.Need-advance-requires Inv-loop μ-loop
 advance-requires c κs = (omega arith, omega arith)
@@ -68,8 +68,8 @@ loop-again c =
     let w = scrambled-word (s .args .cfi) (l .n) (s .args .r) (l .s) (u .result) (v .result) (l .inv .pair) (u .ensures) (v .ensures) in
     format-next (s .args .cell) (s .args .cfi) (s .args .r) (s .args .grid .now) (s .pre) (l .inv)
     (c .before .before .before .before .before .before .before .before .before .before .loop-test .taken) (bitXor (u .result) (v .result)) w
-    (c .before .before .before .before .before .format-group .ensures) (c .before .before .before .before .before .before .before .symbol .ensures)
-    (c .before .before .before .before .before .before .symbol2 .ensures) (c .before .before .before .put-pair .ensures) (c .advance .ensures)
+    (c .before .before .before .before .before .format-group .ensures) (c .before .before .before .before .before .before .before .qpsk .ensures)
+    (c .before .before .before .before .before .before .qpsk2 .ensures) (c .before .before .before .put-pair .ensures) (c .advance .ensures)
 
 same-length : tie.Need-same-length Inv-loop μ-loop
 same-length c = c .before .loop .inv .done .size
@@ -89,8 +89,8 @@ fill-pcfich-spec =
     mul-cfi-word
     cfi-word-requires
     word-requires
-    symbol-requires
-    symbol-requires-2
+    qpsk-requires
+    qpsk-requires-2
     format-group-requires
     cast-put-pair
     put-pair-requires

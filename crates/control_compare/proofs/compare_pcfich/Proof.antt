@@ -30,11 +30,11 @@ cfi-word-requires c κs = (omega (arith, c .before .before .before .pre .some), 
 word-requires : tie.Need-word-requires Inv-loop μ-loop
 word-requires c κs = (omega arith, omega arith)
 
-symbol-requires : tie.Need-symbol-requires Inv-loop μ-loop
-symbol-requires c κs = (refl, omega arith, omega arith)
+qpsk-requires : tie.Need-qpsk-requires Inv-loop μ-loop
+qpsk-requires c κs = tt
 
-symbol-requires-2 : tie.Need-symbol-requires-2 Inv-loop μ-loop
-symbol-requires-2 c κs = (refl, omega arith, omega arith)
+qpsk-requires-2 : tie.Need-qpsk-requires-2 Inv-loop μ-loop
+qpsk-requires-2 c κs = tt
 
 format-group-requires : tie.Need-format-group-requires Inv-loop μ-loop
 format-group-requires c κs =
@@ -50,7 +50,7 @@ compare-pair-requires c κs =
     let v = c .before .before .before .word in
     let at-loop-test = c .before .before .before .before .before in let at-loop = at-loop-test .before in
     format-in (at-loop .before .before .pre) {n = at-loop .loop .n} (at-loop-test .loop-test .taken) (bitXor (u .result) (v .result))
-    (c .format-group .ensures) (c .before .before .symbol .ensures) (c .before .symbol2 .ensures)
+    (c .format-group .ensures) (c .before .before .qpsk .ensures) (c .before .qpsk2 .ensures)
 
 both-requires : tie.Need-both-requires Inv-loop μ-loop
 both-requires c κs =
@@ -76,7 +76,7 @@ loop-again c =
     let w = scrambled-word (a .cfi) (l .n) (a .r) (l .s) (u .result) (v .result) (l .inv .pair) (u .ensures) (v .ensures) in
     format-next (a .cell) (a .cfi) (a .r) (a .grid .now) (c .before .before .before .before .before .before .before .before .before .before .before .pre) (l .inv)
     (c .before .before .before .before .before .before .before .before .loop-test .taken) (bitXor (u .result) (v .result)) w (c .before .before .before .format-group .ensures)
-    (c .before .before .before .before .before .symbol .ensures) (c .before .before .before .before .symbol2 .ensures) (c .before .before .compare-pair .ensures)
+    (c .before .before .before .before .before .qpsk .ensures) (c .before .before .before .before .qpsk2 .ensures) (c .before .before .compare-pair .ensures)
     (c .before .both .ensures) (c .advance .ensures)
 
 returns : tie.Need-returns Inv-loop μ-loop
@@ -94,8 +94,8 @@ compare-pcfich-spec =
     mul-cfi-word
     cfi-word-requires
     word-requires
-    symbol-requires
-    symbol-requires-2
+    qpsk-requires
+    qpsk-requires-2
     format-group-requires
     cast-compare-pair
     compare-pair-requires

@@ -1,14 +1,25 @@
 -- `modulation_vectors::back_lines` ends. Assumes nothing.
 use Prim.Native.Nat.{_-_, _≤_}
+use mathlib.Core.Path.{refl}
+use native.Mathlib.Omega.{arith}
 use borrow.Author.Needs.{needs}
 use Rattle.modulation_vectors.proofs.back_lines.Statement.{statement}
 use Rattle.modulation_vectors.proofs.back_lines.Tie as tie
 
 abbrev Inv-loop : tie.InvT-loop
-Inv-loop q n₀ n = n ≤ 17
+Inv-loop q t d n₀ n = n ≤ 17
 
 abbrev μ-loop : tie.MeasureT-loop
-μ-loop q n₀ n = 17 - n
+μ-loop q t d n₀ n = 17 - n
+
+unit-requires : tie.Need-unit-requires Inv-loop μ-loop
+unit-requires c κs = search needs
+
+set-elements-requires : tie.Need-set-elements-requires Inv-loop μ-loop
+set-elements-requires c κs = let entry = c .before .before in (refl, entry .pre .0, omega (arith, entry .pre .2))
+
+set-axis-requires : tie.Need-set-axis-requires Inv-loop μ-loop
+set-axis-requires c κs = let entry = c .before .before .before .before in (refl, omega (arith, entry .pre .2))
 
 loop-holds : tie.Need-loop-holds Inv-loop μ-loop
 loop-holds c = search needs
@@ -37,6 +48,9 @@ back-lines-spec =
     (tie.spec
     Inv-loop
     μ-loop
+    unit-requires
+    set-elements-requires
+    set-axis-requires
     loop-holds
     level-requires
     back-row-requires

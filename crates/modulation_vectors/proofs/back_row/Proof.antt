@@ -5,16 +5,34 @@ use Rattle.modulation_vectors.proofs.back_row.Statement.{statement}
 use Rattle.modulation_vectors.proofs.back_row.Tie as tie
 
 abbrev Inv-loop : tie.InvT-loop
-Inv-loop q i n₀ n = n ≤ 17
+Inv-loop q t d i n₀ n = n ≤ 17
 
 abbrev μ-loop : tie.MeasureT-loop
-μ-loop q i n₀ n = 17 - n
+μ-loop q t d i n₀ n = 17 - n
 
 loop-holds : tie.Need-loop-holds Inv-loop μ-loop
 loop-holds c = search needs
 
+unit-requires : tie.Need-unit-requires Inv-loop μ-loop
+unit-requires c κs = search needs
+
+cast-back-line : tie.Need-cast-back-line Inv-loop μ-loop
+cast-back-line c = search needs
+
+mul-back-line : tie.Need-mul-back-line Inv-loop μ-loop
+mul-back-line c = search needs
+
+add-back-line : tie.Need-add-back-line Inv-loop μ-loop
+add-back-line c = search needs
+
 level-requires : tie.Need-level-requires Inv-loop μ-loop
 level-requires c κs = search needs
+
+mul-back-line-2 : tie.Need-mul-back-line-2 Inv-loop μ-loop
+mul-back-line-2 c = search needs
+
+add-back-line-2 : tie.Need-add-back-line-2 Inv-loop μ-loop
+add-back-line-2 c = search needs
 
 back-line-requires : tie.Need-back-line-requires Inv-loop μ-loop
 back-line-requires c κs = search needs
@@ -38,7 +56,13 @@ back-row-spec =
     Inv-loop
     μ-loop
     loop-holds
+    unit-requires
+    cast-back-line
+    mul-back-line
+    add-back-line
     level-requires
+    mul-back-line-2
+    add-back-line-2
     back-line-requires
     add-n
     loop-less

@@ -1,14 +1,22 @@
 -- `modulation_vectors::map_lines` ends. Assumes nothing.
 use Prim.Native.Nat.{_-_}
+use mathlib.Core.Path.{refl}
+use native.Mathlib.Omega.{arith}
 use borrow.Author.Needs.{needs}
 use Rattle.modulation_vectors.proofs.map_lines.Statement.{statement}
 use Rattle.modulation_vectors.proofs.map_lines.Tie as tie
 
 abbrev Inv-loop : tie.InvT-loop
-Inv-loop q words w₀ w = Unit {0}
+Inv-loop q words t w₀ w = Unit {0}
 
 abbrev μ-loop : tie.MeasureT-loop
-μ-loop q words w₀ w = words - w
+μ-loop q words t w₀ w = words - w
+
+unit-requires : tie.Need-unit-requires Inv-loop μ-loop
+unit-requires c κs = search needs
+
+set-elements-requires : tie.Need-set-elements-requires Inv-loop μ-loop
+set-elements-requires c κs = let entry = c .before .before in (refl, entry .pre .0, omega (arith, entry .pre .2))
 
 loop-holds : tie.Need-loop-holds Inv-loop μ-loop
 loop-holds c = search needs
@@ -31,4 +39,14 @@ returns c = search needs
 pub map-lines-spec : {M : Type 1} → statement M
 map-lines-spec =
     tie.close
-    (tie.spec Inv-loop μ-loop loop-holds map-line-requires add-w loop-less loop-again returns)
+    (tie.spec
+    Inv-loop
+    μ-loop
+    unit-requires
+    set-elements-requires
+    loop-holds
+    map-line-requires
+    add-w
+    loop-less
+    loop-again
+    returns)
