@@ -2,7 +2,7 @@
 use Prim.Native.Nat.{ℕ}
 use mathlib.Core.Path.{_≡_, refl, sym, ap, _∙_}
 use mathlib.Core.Bool.{Bool, true, false}
-use mathlib.Core.Logic.{inl, inr}
+use mathlib.Core.Logic.{_↔_, _⊎_, inl, inr}
 use mathlib.Core.List.{List, [], _∷_}
 use native.Mathlib.Nat.{mul-le-mul}
 use native.Mathlib.Omega.{arith}
@@ -12,7 +12,7 @@ use types.Run.{OneOf}
 use denote.Enum.Declared.{tagOf}
 use Rattle.base.proofs.Tests.{}
 use Rattle.plan.specs.Lists.{oneOf}
-use Rattle.plan.specs.Answers.{given}
+use Rattle.plan.specs.Answers.{given, refusedBy}
 use Rattle.plan.specs.Check.{checkOf, refusedAs}
 use Rattle.plan.specs.declared.Plan.{Plan}
 use Rattle.plan.specs.declared.Refusal.{Refusal}
@@ -30,7 +30,7 @@ use Rattle.layout.specs.Chain.{refusalOf}
 use Rattle.layout.specs.Owners.{symbols, carriers}
 use Rattle.places.specs.Places.{placesOf}
 use Rattle.payload.specs.Payload.{gridLength, payloadLength, spareClear, AcceptedPayload, unlessLengths, unlessBuffers}
-use Rattle.payload.proofs.Refusals.{grid-refused, payload-refused, spare-refused, accepted-payload, buffers-right}
+use Rattle.payload.proofs.Refusals.{grid-refused, payload-refused, spare-refused, accepted-payload, buffers-right, own-answer, payload-accepted, else-refused}
 use Rattle.grid.specs.Writing.{Room}
 use Rattle.subframe.specs.Grid.{gridOf}
 use Rattle.subframe.proofs.Bytes.{length-by-port}
@@ -102,3 +102,18 @@ module _ (w payload grid : List ℕ) where
         way-built h n en g eg =
             answered (Elements n) (ap given en ∙ rw ok (sym (buffers-right w p payload refusedAs grid right _ (accepted-is h))))
             (eg ∙ rw ok (sym (buffers-right w p payload (λ (r : Refusal). grid) grid right _ (accepted-is h))))
+
+-- "A plan is accepted when none of the plan's refusals applies to it, a payload under it when neither 11 nor 12 does": both ways, of a
+-- call of build with a grid of the plan's length
+module _ (w : List ℕ) (p : Plan) (payload grid : List ℕ) (ok : checkOf w ≡ accepted p) (right : length grid ≡ gridLength p) where
+  pub accepted-exactly : AcceptedPayload w p payload ↔ (builtOf w payload grid ≡ given (pdschElements w p))
+  unfolding builtOf
+  accepted-exactly = rw ok (own-answer w p payload grid right (pdschElements w p))
+
+  pub accepted-neither : AcceptedPayload w p payload ↔ ((builtOf w payload grid ≡ refusedBy 11 → ⊥) × (builtOf w payload grid ≡ refusedBy 12 → ⊥))
+  unfolding builtOf
+  accepted-neither = rw ok (payload-accepted w p payload grid right (pdschElements w p))
+
+  pub accepted-else : (AcceptedPayload w p payload → ⊥) → (builtOf w payload grid ≡ refusedBy 11) ⊎ (builtOf w payload grid ≡ refusedBy 12)
+  unfolding builtOf
+  accepted-else = rw ok (else-refused w p payload grid right (pdschElements w p))
