@@ -3,13 +3,14 @@
 use Prim.Native.Nat.{ℕ}
 use mathlib.Core.Path.{_≡_, refl, sym, ap, _∙_}
 use mathlib.Core.List.{List, [], _∷_, _++_}
-use lib.ListN.{length}
+use lib.ListN.{length, getD}
 use borrow.Author.Tests.{eq-eqb}
 use Rattle.base.specs.Tables.{table}
 use Rattle.plan.specs.Lists.{oneOf, noneOf}
 use Rattle.plan.specs.Commands.{cellOf, frameOf, hiOf, userOf, entries, entryIn, sizeOf, commandOf, commandsAfter}
 use Rattle.plan.specs.Fields.{cellOk, frameOk, unitsOf, groupsOf, sequencesOf, hiOk, samePair, userOk, clash}
 use Rattle.plan.specs.Check.{begin, hiFault, userFault, fault, stateAfter, planOf, run, checkOf}
+use Rattle.plan.specs.declared.Plan.{Plan}
 use Rattle.plan.specs.declared.Checked.the-variants.{Plan as accepted}
 use Rattle.plan.specs.Rows.{row, usersOf}
 use Rattle.base.specs.Bits.{bitAt}
@@ -21,7 +22,6 @@ use Rattle.counts.specs.Counts.{kinds, kindCount}
 use Rattle.counts.specs.Users.{signals, taken, halves, rowElements, userElements, allElements, usersElements}
 use Rattle.counts.specs.Kinds.{crsElements, syncElements, pbchElements, holes, heldElements}
 use Rattle.counts.proofs.AllUsers.{users-kind}
-use Rattle.counts.proofs.KindCounts.{held-kind}
 use Rattle.counts.proofs.KindWays.{nine}
 use Rattle.payload.specs.Sections.{bytesOf, span, spareAt, sparesFrom}
 use Rattle.payload.specs.Payload.{pbchBits, heads, sections, payloadLength, gridLength, spareBits, AcceptedPayload}
@@ -29,7 +29,7 @@ use Rattle.payload.specs.Loops.{computedBits, computedSections}
 use Rattle.payload.proofs.Sections.{sections-computed}
 use Rattle.payload.proofs.Refusals.{payload-clear}
 use Rattle.counted.specs.Gridcount.{acceptedWith, countedOf, gridcountOf}
-use Rattle.known.specs.Example.{example, examplePlan, broadcast, broadcastPlan, zeros, exampleCounts, exampleLines, Example}
+use Rattle.known.specs.Example.{example, examplePlan, broadcast, broadcastPlan, zeros, exampleCounts, broadcastCounts, lines, Example}
 
 example-plan : checkOf example ≡ accepted examplePlan
 unfolding oneOf noneOf cellOf frameOf hiOf userOf entries entryIn sizeOf commandOf commandsAfter cellOk frameOk unitsOf groupsOf sequencesOf hiOk samePair userOk clash
@@ -55,9 +55,10 @@ broadcast-users : usersElements broadcast broadcastPlan ≡ 1830
 unfolding usersOf row userOf sizeOf entryIn entries allElements sumOf userElements rowElements signals taken halves sumTo slotLength inSlot crsSymbol marked controlSymbols
 broadcast-users = refl
 
-broadcast-holes : heldElements (broadcastPlan .cell) (broadcastPlan .frame) ≡ 56
-unfolding heldElements holes
-broadcast-holes = refl
+broadcast-counts : table kinds (kindCount broadcast broadcastPlan) ≡ broadcastCounts
+unfolding crsElements syncElements pbchElements holes heldElements unitsOf slotLength marked
+broadcast-counts =
+    sym (nine broadcast broadcastPlan broadcast-plan 120 62 240 1 1830 56 refl refl refl refl (sym (users-kind broadcast broadcastPlan broadcast-plan ∙ broadcast-users)) refl 2520 refl)
 
 -- ---- the payload: PBCH has no bit, the HI one, the user 2 × 2250
 example-sections : sections example examplePlan ≡ 0 ∷ 1 ∷ 4500 ∷ []
@@ -85,32 +86,33 @@ grid-bytes : gridLength examplePlan ≡ 7560
 unfolding gridLength slotLength
 grid-bytes = refl
 
--- the input's parts are the plan and the payload
+-- ---- what gridcount prints: the input's parts are the plan and the payload
 example-input : gridcountOf (0 ∷ 0x16 ∷ (example ++ zeros 564)) ≡ countedOf example (zeros 564)
 unfolding gridcountOf table
 example-input = refl
 
-example-lines : countedOf example (zeros 564) ≡ exampleLines
+broadcast-input : gridcountOf (0 ∷ 0x13 ∷ (broadcast ++ zeros 518)) ≡ countedOf broadcast (zeros 518)
+unfolding gridcountOf table
+broadcast-input = refl
+
+counted : (w : List ℕ) (p : Plan) (payload counts : List ℕ) → checkOf w ≡ accepted p → AcceptedPayload w p payload → table kinds (kindCount w p) ≡ counts
+    → countedOf w payload ≡ lines counts
 unfolding countedOf acceptedWith
-example-lines =
-    rw (
-      example-plan,
-      eq-eqb (length (zeros 564)) (payloadLength example examplePlan) (example-payload .size),
-      payload-clear example examplePlan (zeros 564) example-payload,
-      example-counts,
-    ) refl
+counted w p payload counts ok a e = rw (ok, eq-eqb (length payload) (payloadLength w p) (a .size), payload-clear w p payload a, e) refl
 
 pub the-example : Example
+unfolding table
 the-example =
     record {
       plan = example-plan;
       counts = example-counts;
       payload = example-payload;
       grid = grid-bytes;
-      lines = example-input ∙ example-lines;
+      example-lines = example-input ∙ counted example examplePlan (zeros 564) exampleCounts example-plan example-payload example-counts;
       broadcast-plan = broadcast-plan;
-      broadcast-pdsch = users-kind broadcast broadcastPlan broadcast-plan ∙ broadcast-users;
-      broadcast-held = held-kind broadcast broadcastPlan broadcast-plan ∙ broadcast-holes;
+      broadcast-lines = broadcast-input ∙ counted broadcast broadcastPlan (zeros 518) broadcastCounts broadcast-plan broadcast-payload broadcast-counts;
+      broadcast-pdsch = ap (λ (counts : List ℕ). getD counts 6 0) broadcast-counts;
+      broadcast-held = ap (λ (counts : List ℕ). getD counts 7 0) broadcast-counts;
       broadcast-payload = broadcast-payload;
       other-payload = other-payload;
     }
