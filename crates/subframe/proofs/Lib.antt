@@ -7,5 +7,6 @@ pub mod OwnerBits
 pub mod FixedBuilds
 pub mod DataBuilds
 pub mod Acknowledged
+pub mod EveryElement
 pub mod UnitBuilds
 pub mod TwoBuilds
