@@ -10,10 +10,11 @@ use lib.Dec.{eqb}
 use lib.ListN.{length}
 use types.Run.{OneOf}
 use denote.Enum.Declared.{tagOf}
-use Rattle.base.proofs.Tests.{}
+use borrow.Author.Tests.{eqb-true, eqb-false}
+use Rattle.base.proofs.Tests.{by-test, clash}
 use Rattle.plan.specs.Lists.{oneOf}
-use Rattle.plan.specs.Answers.{given, refusedBy}
-use Rattle.plan.specs.Check.{checkOf, refusedAs}
+use Rattle.plan.specs.Answers.{Answer, given, refusedBy}
+use Rattle.plan.specs.Check.{refusalNumber, checkOf, refusedAs}
 use Rattle.plan.specs.declared.Plan.{Plan}
 use Rattle.plan.specs.declared.Refusal.{Refusal}
 use Rattle.plan.specs.declared.Refusal.the-variants.{GridLength, PayloadLength, SpareBit}
@@ -117,3 +118,25 @@ module _ (w : List ℕ) (p : Plan) (payload grid : List ℕ) (ok : checkOf w ≡
   pub accepted-else : (AcceptedPayload w p payload → ⊥) → (builtOf w payload grid ≡ refusedBy 11) ⊎ (builtOf w payload grid ≡ refusedBy 12)
   unfolding builtOf
   accepted-else = rw ok (else-refused w p payload grid right (pdschElements w p))
+
+-- and what a call that is not refused had: an accepted plan, a grid of its length, a payload accepted under it
+module _ (w payload grid : List ℕ) (n : ℕ) (built : builtOf w payload grid ≡ given n) where
+  not-refused : (m : ℕ) → builtOf w payload grid ≡ refusedBy m → ⊥
+  not-refused m e = clash (ap (λ (a : Answer). a .refusal) e) (ap (λ (a : Answer). a .refusal) built)
+
+  abbrev Had : Plan → Type 0
+  Had p = (checkOf w ≡ accepted p) × (length grid ≡ gridLength p) × AcceptedPayload w p payload
+
+  under : (p : Plan) → checkOf w ≡ accepted p → Had p
+  under p ok =
+      by-test (eqb (length grid) (gridLength p))
+      (λ e. let right = eqb-true (length grid) (gridLength p) e in (ok, right, accepted-neither w p payload grid ok right .1 (not-refused 11, not-refused 12)))
+      (λ e. absurd (not-refused 10 (sym (way-grid w payload grid p ok (gridLength p) refl (eqb-false (length grid) (gridLength p) e) .0))))
+
+  pub built-under : (p : Plan) × Had p
+  unfolding builtOf
+  built-under = pick (checkOf w) refl
+    where
+      pick : (a : Checked) → checkOf w ≡ a → (p : Plan) × Had p
+      pick (accepted p) e = (p, under p e)
+      pick (refused r) e = absurd (not-refused (refusalNumber r) (rw e refl))
