@@ -1,6 +1,7 @@
--- Laws that the proofs cite: the answers by cases, and that an i64 holds their numbers.
+-- Laws that the proofs cite: the answers by cases, and that an i64 holds their numbers. BuiltElements: the sample call takes what build leaves.
 mod Distinct
 mod Numbers
 mod Counting
 mod Samples
 mod Bounds
+mod BuiltElements

@@ -1,6 +1,6 @@
 -- Every element of the grid is silence, a phase, or a pair of levels of at most 8 in one of the units. Assumes nothing beyond the plan check's answer.
 use Prim.Native.Nat.{ℕ, _+_, _*_, _/_, _%_, _≤_, _<_}
-use mathlib.Core.Path.{_≡_, refl, sym, ap, subst, _∙_}
+use mathlib.Core.Path.{_≡_, refl}
 use mathlib.Core.Logic.{inl, inr}
 use mathlib.Core.Bool.{Bool, true, false, cond}
 use mathlib.Core.List.{List, [], _∷_}
@@ -8,7 +8,7 @@ use native.Mathlib.Nat.{mod-lt}
 use native.Mathlib.Omega.{arith}
 use lib.Dec.{eqb, ltb}
 use lib.IntN.{ℤ, pos, negℤ, natAbs}
-use lib.ListN.{length, getD}
+use lib.ListN.{getD}
 use borrow.Author.Tests.{eqb-true, eqb-false, ltb-true}
 use Rattle.base.specs.declared.Pair.{Pair}
 use Rattle.base.specs.declared.Element.{Element}
@@ -19,36 +19,39 @@ use Rattle.base.proofs.Fits.{abs-neg, turn-abs}
 use Rattle.base.proofs.Tests.{by-test, on-if}
 use Rattle.gold.specs.Sequence.{c}
 use Rattle.modulation.specs.Symbols.{Order, unitIn, unitOf}
-use Rattle.codeword.specs.Codewords.{dataSymbol, cfiBit}
+use Rattle.codeword.specs.Codewords.{dataSymbol}
 use Rattle.codeword.proofs.Laws.{order-symbol}
 use Rattle.precoding.specs.Layers.{appended, layer}
 use Rattle.precoding.specs.Matrices.{MatrixRow, noTerm, itself, conjugate, minusConjugate, sent, matrixOf, unitOn, precodedBy, precoded}
 use Rattle.precoding.specs.Phich.{phichMatrix, phichPrecoded}
 use Rattle.crs.specs.Crs.{crsInit, inWidest, crsValue}
-use Rattle.sync.specs.Pss.{pssRoot, pssT, pssPhase}
+use Rattle.sync.specs.Pss.{pssPhase}
 use Rattle.sync.specs.Sss.{sssBit, sssLevel}
 use Rattle.plan.specs.Lists.{oneOf, Among}
 use Rattle.plan.proofs.OneOf.{among}
 use Rattle.plan.specs.Check.{checkOf}
 use Rattle.plan.specs.Rows.{nthUser}
+use Rattle.plan.specs.declared.Cell.{Cell}
+use Rattle.plan.specs.declared.Frame.{Frame}
 use Rattle.plan.specs.declared.Plan.{Plan}
 use Rattle.plan.specs.declared.Checked.the-variants.{Plan as accepted}
-use Rattle.layout.specs.Owners.{gridPlace, symbols, carriers, owns}
+use Rattle.layout.specs.Owners.{gridPlace, carriers, owns}
 use Rattle.layout.specs.declared.Mark.the-variants.{Primary, Secondary}
 use Rattle.layout.specs.declared.Owner.{Owner}
 use Rattle.layout.specs.declared.Owner.the-variants.{Crs, Sync, Pbch, Pcfich, Phich, User as UserOf, Held, Idle}
 use Rattle.layout.proofs.OneOwner.{one-owner}
 use Rattle.counts.specs.Counts.{countOf}
-use Rattle.places.specs.Places.{placeNumber, indexOf, symbolAt, carrierAt, placesOf}
+use Rattle.places.specs.Places.{symbolAt, carrierAt, placesOf}
 use Rattle.places.proofs.Numbers.{symbol-inside, carrier-inside, first-row}
 use Rattle.places.proofs.Listing.{some-carriers}
-use Rattle.subframe.specs.Elements.{crsElement, markNumber, pssElement, sssElement, pbchSymbol, pcfichSymbol, phichSum, userSymbol, elementFor, elementAt}
+use Rattle.subframe.specs.Elements.{crsElement, pssElement, sssElement, pbchSymbol, pcfichSymbol, userSymbol, elementFor, elementAt}
 use Rattle.subframe.specs.Grid.{elementNumbered}
 use Rattle.subframe.proofs.Acknowledged.{sums-small}
 use Rattle.subframe.proofs.Owned.{user-owner, owned-element}
 use Rattle.subframe.proofs.OwnerBits.{user-order}
 
--- "Units: 1, 2, 4, 10, 20, 42, 84. Unit 63 means phase −2πI/63, I 0..62, J = 0. 0 is silent, I = J = 0."
+-- "Units: 1, 2, 4, 10, 20, 42, 84. Unit 63 means phase −2πI/63, I 0..62, J = 0. 0 is silent, I = J = 0."; levels
+-- of at most 8 either way
 abbrev pub levelUnits : List ℕ
 levelUnits = 1 ∷ 2 ∷ 4 ∷ 10 ∷ 20 ∷ 42 ∷ 84 ∷ []
 
@@ -107,7 +110,7 @@ order-unit P q o =
 symbol-eight : (q : ℕ) → Order q → (b x : ℕ → ℕ) (j : ℕ) → Small 8 (dataSymbol q b x j)
 symbol-eight q o b x j = let h = order-symbol q o b x j in (omega arith, omega arith)
 
--- ---- levels of the signals
+-- ---- the signals
 crs-small : (prefix C N n l m : ℕ) → Small 8 (crsValue prefix C N n l m)
 unfolding crsValue
 crs-small prefix C N n l m = (sign (c (crsInit prefix C n l) (2 * inWidest N m)), sign (c (crsInit prefix C n l) (2 * inWidest N m + 1)))
@@ -116,25 +119,26 @@ sss-small : (C f i : ℕ) → natAbs (sssLevel C f i) ≤ 8
 unfolding sssLevel
 sss-small C f i = sign (sssBit C f i)
 
+module _ (cell : Cell) (frame : Frame) (port : ℕ) where
+  crs-valued : (q s k : ℕ) → Valued (crsElement cell frame q port s k)
+  unfolding crsElement
+  crs-valued q s k = on-if Valued (eqb port q) (λ e. levels 2 _ (inr (inl refl)) (crs-small _ _ _ _ _ _)) (λ e. silence)
+
+  pss-valued : (k : ℕ) → Valued (pssElement cell port k)
+  unfolding pssElement pssPhase
+  pss-valued k = on-if Valued (eqb port 0) (λ e. phase _ (mod-lt _ (omega arith))) (λ e. silence)
+
+  sss-valued : (k : ℕ) → Valued (sssElement cell frame port k)
+  unfolding sssElement
+  sss-valued k = on-if Valued (eqb port 0) (λ e. levels 1 _ (inl refl) (sss-small _ _ _, omega arith)) (λ e. silence)
+
 -- ---- owner by owner
 module _ (w : List ℕ) (p : Plan) (ok : checkOf w ≡ accepted p) (payload : List ℕ) where
-  crs-valued : (q port s k : ℕ) → Valued (crsElement (p .cell) (p .frame) q port s k)
-  unfolding crsElement
-  crs-valued q port s k = on-if Valued (eqb port q) (λ e. levels 2 _ (inr (inl refl)) (crs-small _ _ _ _ _ _)) (λ e. silence)
-
-  pss-valued : (port k : ℕ) → Valued (pssElement (p .cell) port k)
-  unfolding pssElement pssPhase
-  pss-valued port k = on-if Valued (eqb port 0) (λ e. phase _ (mod-lt _ (omega arith))) (λ e. silence)
-
-  sss-valued : (port k : ℕ) → Valued (sssElement (p .cell) (p .frame) port k)
-  unfolding sssElement
-  sss-valued port k = on-if Valued (eqb port 0) (λ e. levels 1 _ (inl refl) (sss-small _ _ _, omega arith)) (λ e. silence)
-
   owner-valued : (o : Owner) (port s k : ℕ) → owns w p o s k ≡ true → Valued (elementFor w p payload o port s k)
   unfolding elementFor precoded phichPrecoded pbchSymbol pcfichSymbol userSymbol
-  owner-valued (Crs q) port s k h = crs-valued q port s k
-  owner-valued (Sync Primary) port s k h = pss-valued port k
-  owner-valued (Sync Secondary) port s k h = sss-valued port k
+  owner-valued (Crs q) port s k h = crs-valued (p .cell) (p .frame) port q s k
+  owner-valued (Sync Primary) port s k h = pss-valued (p .cell) (p .frame) port k
+  owner-valued (Sync Secondary) port s k h = sss-valued (p .cell) (p .frame) port k
   owner-valued Pbch port s k h =
       by-valued (p .cell .ports) (countOf w p Pbch) 2 _ (two-unit (p .cell .ports)) (λ n l. symbol-eight 2 (omega arith) _ _ n) (matrixOf (p .cell .ports)) _ port
   owner-valued Pcfich port s k h =
