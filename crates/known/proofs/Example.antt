@@ -29,7 +29,7 @@ use Rattle.payload.specs.Loops.{computedBits, computedSections}
 use Rattle.payload.proofs.Sections.{sections-computed}
 use Rattle.payload.proofs.Refusals.{payload-clear}
 use Rattle.counted.specs.Gridcount.{acceptedWith, countedOf, gridcountOf}
-use Rattle.known.specs.Example.{example, examplePlan, broadcast, broadcastPlan, zeros, exampleCounts, broadcastCounts, lines, Example}
+use Rattle.known.specs.Example.{example, examplePlan, broadcast, broadcastPlan, zeros, exampleCounts, broadcastCounts, Example}
 
 example-plan : checkOf example ≡ accepted examplePlan
 unfolding oneOf noneOf cellOf frameOf hiOf userOf entries entryIn sizeOf commandOf commandsAfter cellOk frameOk unitsOf groupsOf sequencesOf hiOk samePair userOk clash
@@ -96,7 +96,7 @@ unfolding gridcountOf table
 broadcast-input = refl
 
 counted : (w : List ℕ) (p : Plan) (payload counts : List ℕ) → checkOf w ≡ accepted p → AcceptedPayload w p payload → table kinds (kindCount w p) ≡ counts
-    → countedOf w payload ≡ lines counts
+    → countedOf w payload ≡ record { refusal = 0; counts = counts }
 unfolding countedOf acceptedWith
 counted w p payload counts ok a e = rw (ok, eq-eqb (length payload) (payloadLength w p) (a .size), payload-clear w p payload a, e) refl
 
@@ -108,7 +108,7 @@ the-example =
       counts = example-counts;
       payload = example-payload;
       grid = grid-bytes;
-      example-lines = example-input ∙ counted example examplePlan (zeros 564) exampleCounts example-plan example-payload example-counts;
+      lines = example-input ∙ counted example examplePlan (zeros 564) exampleCounts example-plan example-payload example-counts;
       broadcast-plan = broadcast-plan;
       broadcast-lines = broadcast-input ∙ counted broadcast broadcastPlan (zeros 518) broadcastCounts broadcast-plan broadcast-payload broadcast-counts;
       broadcast-pdsch = ap (λ (counts : List ℕ). getD counts 6 0) broadcast-counts;

@@ -46,13 +46,15 @@ zeros n = table n (λ (i : ℕ). 0)
 abbrev pub exampleCounts : List ℕ
 exampleCounts = 120 ∷ 0 ∷ 0 ∷ 0 ∷ 16 ∷ 12 ∷ 2250 ∷ 0 ∷ 122 ∷ []
 
+abbrev pub exampleLines : Counted
+exampleLines = record { refusal = 0; counts = exampleCounts }
+
 -- and for the plan with f = 0
 abbrev pub broadcastCounts : List ℕ
 broadcastCounts = 120 ∷ 62 ∷ 62 ∷ 240 ∷ 16 ∷ 12 ∷ 1830 ∷ 56 ∷ 122 ∷ []
 
--- the lines with these counts
-abbrev pub lines : List ℕ → Counted
-lines counts = record { refusal = 0; counts = counts }
+abbrev pub broadcastLines : Counted
+broadcastLines = record { refusal = 0; counts = broadcastCounts }
 
 pub record Example : Type 0 where
   pub plan : checkOf example ≡ accepted examplePlan
@@ -60,10 +62,10 @@ pub record Example : Type 0 where
   pub payload : AcceptedPayload example examplePlan (zeros 564)
   pub grid : gridLength examplePlan ≡ 7560
   -- "Input 00 16, plan .., then 564 zero bytes prints"
-  pub example-lines : gridcountOf (0 ∷ 0x16 ∷ (example ++ zeros 564)) ≡ lines exampleCounts
+  pub lines : gridcountOf (0 ∷ 0x16 ∷ (example ++ zeros 564)) ≡ exampleLines
   -- "With f = 0, HI removed and PBCH added, PDSCH is 1830, held 56."
   pub broadcast-plan : checkOf broadcast ≡ accepted broadcastPlan
-  pub broadcast-lines : gridcountOf (0 ∷ 0x13 ∷ (broadcast ++ zeros 518)) ≡ lines broadcastCounts
+  pub broadcast-lines : gridcountOf (0 ∷ 0x13 ∷ (broadcast ++ zeros 518)) ≡ broadcastLines
   pub broadcast-pdsch : kindCount broadcast broadcastPlan 6 ≡ 1830
   pub broadcast-held : kindCount broadcast broadcastPlan 7 ≡ 56
   -- two payloads under it, which differ in PBCH's first bit
