@@ -21,7 +21,7 @@ const THEOREMS: [(&str, &str); 9] = [
 ];
 
 /// Laws that answer a sentence of document 01 of their own.
-const FURTHER: [(&str, &str); 9] = [
+const FURTHER: [(&str, &str); 11] = [
     ("crates/known/proofs/Known.antt", "known-elements"),
     ("crates/known/proofs/Example.antt", "the-example"),
     ("crates/plan/proofs/Valid.antt", "valid"),
@@ -31,6 +31,8 @@ const FURTHER: [(&str, &str); 9] = [
     ("crates/payload/proofs/EveryBit.antt", "bit-owner"),
     ("crates/payload/proofs/EveryBit.antt", "spare-or-owned"),
     ("crates/payload/proofs/EveryBit.antt", "spare-not-owned"),
+    ("crates/build/proofs/Answers.antt", "accepted-neither"),
+    ("crates/mapper/proofs/BuiltElements.antt", "built-elements"),
 ];
 
 /// Read's equation: the record `Reads`, which the calls promise beside it, leaves it no choice.
