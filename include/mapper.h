@@ -37,8 +37,8 @@
  *     00   END
  *
  * Buffers
- *   A buffer is a pointer and its length in bytes. Any length and any contents are taken: wrong ones are refused. Pointers are not
- *   NULL, also where the length is 0, and point to that many bytes. A buffer that is written (mapper_build's grid, mapper_read's
+ *   A buffer is a pointer and its length in bytes. Any length and any contents are taken: wrong ones are refused. A pointer
+ *   points to that many bytes; where the length is 0 it may be NULL. A buffer that is written (mapper_build's grid, mapper_read's
  *   payload) overlaps no other argument. On a refusal nothing is written. mapper_grid_len and mapper_payload_len give the
  *   lengths that a plan asks for; a plan's payload may be 0 bytes long. What is read comes first and what is written last:
  *   mapper_build takes payload, grid; mapper_read takes grid, payload.

@@ -20,7 +20,7 @@ use Rattle.counted.specs.declared.Counted.{Counted}
 abbrev pub refusedWith : ℕ → Counted
 refusedWith n = record { refusal = n; counts = table kinds (λ (j : ℕ). 0) }
 
--- the lines' counts, in their order
+-- the lines' counts, in their order; refusal 0 says that it is not refused, no refusal has this number
 abbrev pub linesOf : List ℕ → Plan → Counted
 linesOf w p = record { refusal = 0; counts = table kinds (kindCount w p) }
 

@@ -1,6 +1,6 @@
 -- What the promises cite: the places of each owner above the users, by its own sentence of document 01, Owners.
 -- A rule takes the cell c, where it speaks of the subframe the frame f, and a place (s, k). In the paper's letters: C identity,
--- N blocks, P ports, l a symbol's number in its slot; n is the slot, 0 the first one (2f) and 1 the second (2f + 1).
+-- N blocks, P ports, l a symbol's number in its slot. Of the slots n = 2f and 2f + 1 the rules need n mod 2 alone: `slotOf` is 0 or 1.
 use Prim.Native.Nat.{ℕ, zero, suc, _+_, _-_, _*_, _/_, _%_}
 use mathlib.Core.Bool.{Bool, not, _&&_, _||_}
 use lib.Dec.{leb, ltb, eqb}
@@ -10,8 +10,8 @@ use Rattle.plan.specs.Fields.{unitsOf}
 use Rattle.plan.specs.declared.Cell.{Cell}
 use Rattle.plan.specs.declared.Frame.{Frame}
 
--- Grid: "S = 14 symbols (extended 12), two slots of 7 (6) .. l counts in a slot, s in the subframe". The slot n and the number l of
--- symbol s
+-- Grid: "S = 14 symbols (extended 12), two slots of 7 (6) .. l counts in a slot, s in the subframe". The slot of symbol s,
+-- n mod 2, and its number l there
 unfoldable pub slotLength : Cell → ℕ
 slotLength c = if eqb (c .prefix) 1 then 6 else 7
 

@@ -72,9 +72,7 @@ pub fn table(book: &Book, reached: &Reached) -> String {
 /// The definitions that only the further laws reach, and these laws.
 pub fn further(book: &Book, reached: &Reached, further: &Reached) -> String {
     let mut definitions = further.definitions.clone();
-    definitions.retain(|place, _| {
-        !reached.definitions.contains_key(place) && !reached.determined.contains_key(place)
-    });
+    definitions.retain(|place, _| !reached.definitions.contains_key(place));
     let (lines, types) = counts(&definitions);
     let heading =
         format!("\nWhat the further laws cite besides: {lines} lines of definitions, {types} of types.\n\n");

@@ -38,11 +38,22 @@ impl Lent {
         self.length
     }
 
+    /// An empty buffer is lent as NULL at every other shift.
+    fn null(&self) -> bool {
+        self.length == 0 && self.first % 2 == 0
+    }
+
     pub fn pointer(&self) -> *const u8 {
+        if self.null() {
+            return std::ptr::null();
+        }
         self.bytes[self.first..].as_ptr()
     }
 
     pub fn pointer_to_fill(&mut self) -> *mut u8 {
+        if self.null() {
+            return std::ptr::null_mut();
+        }
         self.bytes[self.first..].as_mut_ptr()
     }
 
