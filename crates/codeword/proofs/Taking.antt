@@ -6,7 +6,7 @@ use Prim.Native.Nat.{ℕ, _+_, _-_, _*_, _/_, _%_, _^_, _<_, _≤_}
 use native.Mathlib.Nat.{mul-add, mul-one, mul-assoc, mul-sub, mul-le-mul-left, lt-of-mul-lt-mul-left}
 use native.Mathlib.Omega.{arith}
 use lib.ListN.{length, getD, set, length-set}
-use lib.Seq.{getD-set-same, getD-set-other}
+use lib.Seq.{getD-set-same, getD-set-other, set-getD}
 use lib.Pow.{high, low, mod-pow-add, mod-mod-pow}
 use Rattle.base.specs.Bits.{bitAt}
 use Rattle.gold.specs.declared.Registers.{Registers}
@@ -14,9 +14,10 @@ use Rattle.gold.specs.Sequence.{binary}
 use Rattle.gold.proofs.Binary.{binary-split, binary-lt}
 use Rattle.gold.proofs.Window.{Holds, cut}
 use Rattle.modulation.specs.Symbols.{symbolOf}
+use Rattle.codeword.specs.declared.Rest.{Rest}
 use Rattle.codeword.specs.Codewords.{dataSymbol}
 use Rattle.codeword.specs.Streams.{outputs, symbolsOf}
-use Rattle.codeword.specs.Bits48.{scrambledBits, Due, Next48, Ready, Standing, Groups, CanTake, Enough, Takes}
+use Rattle.codeword.specs.Bits48.{scrambledBits, Next48, Ready, Standing, Groups, CanTake, Takes, withRest, TakesRest}
 use Rattle.codeword.proofs.Streams.{symbol-low}
 use Rattle.codeword.proofs.Laws.{scrambled-lt}
 
@@ -114,112 +115,114 @@ module _ {bits : List ℕ} {r : Registers} {n word left : ℕ} {st : List ℕ} (
   pub ready-early : n ≤ 2 ^ 32 → left ≤ 48 → getD st 2 0 ≤ 2 ^ 32
   ready-early few most = omega (arith, y .taken, y .due .byte)
 
-  -- the word and the count put into the array
-  kept-due : (st′ : List ℕ) → length st′ ≡ 8 → ((i : ℕ) → (i ≡ 3 → ⊥) → (i ≡ 4 → ⊥) → getD st′ i 0 ≡ getD st i 0) → Due bits r (y .number) st′
-  kept-due st′ size other =
-      let d = y .due in
-      record {
-        size = size;
-        pair =
-            (λ t. record {
-              x1 = other 0 (λ e. omega arith) (λ e. omega arith) t;
-              x2 = other 1 (λ e. omega arith) (λ e. omega arith) t;
-            })
-            ∙ d .pair;
-        byte = other 2 (λ e. omega arith) (λ e. omega arith) ∙ d .byte;
-        last = other 5 (λ e. omega arith) (λ e. omega arith) ∙ d .last;
-      }
+-- ---- the word and the count outside the array: they are the state's as if they were in it
+module _ (st : List ℕ) (h : Rest) (size : length st ≡ 8) where
+  rest-word : getD (withRest st h) 3 0 ≡ h .word
+  rest-word = getD-set-other (set st 3 (h .word)) 4 3 (h .left) 0 (λ e. omega arith) ∙ getD-set-same st 3 (h .word) 0 (omega arith)
 
-  pub ready-stored : Ready bits r n (set (set st 3 word) 4 left) word left
-  ready-stored =
-      record {
-        number = y .number;
-        due =
-            kept-due (set (set st 3 word) 4 left) (simp length-set (y .due .size))
-            (λ i a b. getD-set-other (set st 3 word) 4 i left 0 b ∙ getD-set-other st 3 i word 0 a);
-        taken = y .taken;
-        held = y .held;
-      }
+  rest-left : getD (withRest st h) 4 0 ≡ h .left
+  rest-left = getD-set-same (set st 3 (h .word)) 4 (h .left) 0 (simp length-set (omega arith))
 
-  pub stored-word : getD (set (set st 3 word) 4 left) 3 0 ≡ word
-  stored-word =
-      getD-set-other (set st 3 word) 4 3 left 0 (λ e. omega arith) ∙ getD-set-same st 3 word 0 (omega (arith, y .due .size))
+  rest-other : (i : ℕ) → (i ≡ 3 → ⊥) → (i ≡ 4 → ⊥) → getD (withRest st h) i 0 ≡ getD st i 0
+  rest-other i a b = getD-set-other (set st 3 (h .word)) 4 i (h .left) 0 b ∙ getD-set-other st 3 i (h .word) 0 a
 
-  pub stored-left : getD (set (set st 3 word) 4 left) 4 0 ≡ left
-  stored-left = getD-set-same (set st 3 word) 4 left 0 (simp length-set (omega (arith, y .due .size)))
+ready-same :
+    {bits : List ℕ} {r : Registers} {n word left : ℕ} {st st′ : List ℕ} → length st′ ≡ 8
+    → ((i : ℕ) → (i ≡ 3 → ⊥) → (i ≡ 4 → ⊥) → getD st′ i 0 ≡ getD st i 0) → Ready bits r n st word left → Ready bits r n st′ word left
+ready-same size same y =
+    let d = y .due in
+    record {
+      number = y .number;
+      due =
+          record {
+            size = size;
+            pair = (λ t. record { x1 = same 0 (λ e. omega arith) (λ e. omega arith) t; x2 = same 1 (λ e. omega arith) (λ e. omega arith) t }) ∙ d .pair;
+            byte = same 2 (λ e. omega arith) (λ e. omega arith) ∙ d .byte;
+            last = same 5 (λ e. omega arith) (λ e. omega arith) ∙ d .last;
+          };
+      taken = y .taken;
+      held = y .held;
+    }
 
-  -- the count alone
-  pub counted : Ready bits r n (set st 4 left) word left
-  counted =
-      record {
-        number = y .number;
-        due = kept-due (set st 4 left) (length-set st 4 left ∙ y .due .size) (λ i a b. getD-set-other st 4 i left 0 b);
-        taken = y .taken;
-        held = y .held;
-      }
+module _ (st : List ℕ) (h : Rest) {bits : List ℕ} {r : Registers} {k : ℕ} where
+  rest-in : Ready bits r k st (h .word) (h .left) → Ready bits r k (withRest st h) (getD (withRest st h) 3 0) (getD (withRest st h) 4 0)
+  rest-in y =
+      let size = y .due .size in
+      rw (rest-word st h size, rest-left st h size) (ready-same (simp length-set size) (rest-other st h size) y)
+
+  rest-out : {u : ℕ} → Standing u bits r k (withRest st h) → Ready bits r k st (h .word) (h .left)
+  rest-out s =
+      let size : length st ≡ 8 = simp length-set at (s .ready .due .size) in
+      rw (rest-word st h size, rest-left st h size) at (ready-same {st′ = st} size (λ i a b. sym (rest-other st h size i a b)) (s .ready))
+
+-- n bits out of m
+takes-of :
+    {n m w : ℕ} {bits st′ : List ℕ} (st : List ℕ) (h : Rest) → n ≤ m → m ≤ n + 48
+    → ((u : ℕ) (r : Registers) (k : ℕ) → Groups u n → Standing u bits r k (withRest st h) → Ready bits r k st′ w m)
+    → TakesRest n bits st h st′ (record { word = w; left = m - n })
+takes-of {n} {m} {w} {st′ = st′} st h enough most f =
+    let x : Rest = record { word = w; left = m - n } in
+    record {
+      takes =
+          record {
+            goes = λ u r k g s.
+                let y = f u r k g s in (
+                  taken-bits y n enough,
+                  record {
+                    ready = rest-in st′ x (ready-less y n enough);
+                    most = omega (arith, rest-left st′ x (y .due .size));
+                    groups = s .groups + (g .before + 1);
+                    whole = ap₂ (λ (a b : ℕ). a + b) (s .whole) (g .size) ∙ sym (mul-add u (s .groups) (g .before + 1));
+                  },
+                );
+          };
+      most = omega arith;
+    }
 
 -- ---- what the code does
-module _ {n : ℕ} {bits st : List ℕ} (q : CanTake n bits st) where
+module _ (st : List ℕ) (h : Rest) {n : ℕ} {bits : List ℕ} (q : CanTake n bits (withRest st h)) where
+  begun : Ready bits (q .pair) (q .taken) st (h .word) (h .left)
+  begun = rest-out st h (q .standing)
+
+  few-held : h .left ≤ 48
+  few-held = omega (arith, q .standing .most, rest-left st h (begun .due .size))
+
   pub take-early : getD st 2 0 ≤ 2 ^ 32
-  take-early = ready-early (q .standing .ready) (q .early) (q .standing .most)
+  take-early = ready-early begun (q .early) few-held
 
   pub next-small : {v : ℕ} {mid : List ℕ} → Next48 bits st v mid → v < 2 ^ 48
   next-small next =
-      let y = q .standing .ready in
-      let g = next .goes (q .pair) (y .number) (y .due) in
-      rw (g .0) (binary-lt (scrambledBits bits (q .pair)) (scrambled-lt (bitAt bits) (outputs (q .pair))) (48 * (y .number + 1)) 48)
+      let g = next .goes (q .pair) (begun .number) (begun .due) in
+      rw (g .0) (binary-lt (scrambledBits bits (q .pair)) (scrambled-lt (bitAt bits) (outputs (q .pair))) (48 * (begun .number + 1)) 48)
 
   -- enough are left
-  pub enough-left : n ≤ getD st 4 0 → Enough n bits st st
-  enough-left l = record { goes = λ u r k g s. s .ready; enough = l; most = omega (arith, q .standing .most) }
+  pub takes-left : n ≤ h .left → TakesRest n bits st h st (record { word = h .word; left = h .left - n })
+  takes-left l = takes-of st h l (omega (arith, few-held)) (λ u r k g s. rest-out st h s)
 
   -- or 48 more are put below
-  pub enough-more :
-      {v word left : ℕ} {mid : List ℕ} → getD st 4 0 < n → Next48 bits st v mid → word ≡ getD mid 3 0 % 2 ^ 16 * 2 ^ 48 + v → left ≡ getD mid 4 0 + 48
-      → Enough n bits st (set (set mid 3 word) 4 left)
-  enough-more {v} {word} {left} {mid} less next ew el =
-      let z : getD mid 4 0 ≡ getD st 4 0 = next .kept 4 (omega arith) in
-      let d = q .standing .ready .due in
-      let g = next .goes (q .pair) (q .standing .ready .number) d in
-      let a : getD (set (set mid 3 word) 4 left) 4 0 ≡ left = getD-set-same (set mid 3 word) 4 left 0 (simp length-set (omega (arith, g .1 .size))) in
-      record {
-        goes = λ u r k s t. all u r k s t;
-        enough = omega (arith, q .step .most);
-        most = omega arith;
-      }
+  pub takes-more :
+      {v w : ℕ} {mid : List ℕ} → h .left < n → Next48 bits st v mid → w ≡ h .word % 2 ^ 16 * 2 ^ 48 + v
+      → TakesRest n bits st h mid (record { word = w; left = h .left + 48 - n })
+  takes-more {v} {w} {mid} less next ew = takes-of st h (omega (arith, q .step .most)) (omega arith) (λ u r k g s. all u r k g s)
     where
-      all : (u : ℕ) (r : Registers) (k : ℕ) → Groups u n → Standing u bits r k st
-          → Ready bits r k (set (set mid 3 word) 4 left) (getD (set (set mid 3 word) 4 left) 3 0) (getD (set (set mid 3 word) 4 left) 4 0)
-      all u r k s t =
-          let y = t .ready in
-          let e : u * t .groups + getD st 4 0 ≡ 48 * (y .number + 1) = omega (arith, t .whole, y .taken) in
-          let b : getD st 4 0 < u * (s .before + 1) = omega (arith, s .size) in
-          let f : getD st 4 0 ≤ 16 = omega (arith, few-left u (s .words) (t .groups) (y .number) (getD st 4 0) (s .before) (s .divides) e b, s .few) in
-          let m = ready-more y v mid f next in
-          let ow : getD st 3 0 % 2 ^ 16 * 2 ^ 48 + v ≡ word = ap (λ (x : ℕ). x % 2 ^ 16 * 2 ^ 48 + v) (sym (next .kept 3 (omega arith))) ∙ sym ew in
-          let ol : getD st 4 0 + 48 ≡ left = ap (λ (x : ℕ). x + 48) (sym (next .kept 4 (omega arith))) ∙ sym el in
-          let h : Ready bits r k mid word left = subst (λ (x : ℕ). Ready bits r k mid x left) ow (subst (λ (x : ℕ). Ready bits r k mid (getD st 3 0 % 2 ^ 16 * 2 ^ 48 + v) x) ol m) in
-          subst (λ (x : ℕ). Ready bits r k (set (set mid 3 word) 4 left) x (getD (set (set mid 3 word) 4 left) 4 0)) (sym (stored-word h))
-          (subst (λ (x : ℕ). Ready bits r k (set (set mid 3 word) 4 left) word x) (sym (stored-left h)) (ready-stored h))
+      all : (u : ℕ) (r : Registers) (k : ℕ) → Groups u n → Standing u bits r k (withRest st h) → Ready bits r k mid w (h .left + 48)
+      all u r k g s =
+          let y : Ready bits r k st (h .word) (h .left) = rest-out st h s in
+          let e : u * s .groups + h .left ≡ 48 * (y .number + 1) = omega (arith, s .whole, y .taken) in
+          let b : h .left < u * (g .before + 1) = omega (arith, g .size) in
+          let few : h .left ≤ 16 = omega (arith, few-left u (g .words) (s .groups) (y .number) (h .left) (g .before) (g .divides) e b, g .few) in
+          rw ew (ready-more y v mid few next)
 
--- and n of them are taken
-pub takes : {n left : ℕ} {bits st mid : List ℕ} → Enough n bits st mid → left ≡ getD mid 4 0 - n → Takes n bits st (getD (set mid 4 left) 3 0 / 2 ^ left) (set mid 4 left)
-takes {n} {left} {bits} {st} {mid} t el = record { goes = λ u r k s a. all u r k s a }
-  where
-    all : (u : ℕ) (r : Registers) (k : ℕ) → Groups u n → Standing u bits r k st
-        → (getD (set mid 4 left) 3 0 / 2 ^ left % 2 ^ n ≡ binary (scrambledBits bits r) k n) × Standing u bits r (k + n) (set mid 4 left)
-    all u r k s a =
-        let y = t .goes u r k s a in
-        let w : getD (set mid 4 left) 3 0 ≡ getD mid 3 0 = getD-set-other mid 4 3 left 0 (λ e. omega arith) in
-        let z : getD (set mid 4 left) 4 0 ≡ left = getD-set-same mid 4 left 0 (omega (arith, y .due .size)) in
-        let less : Ready bits r (k + n) mid (getD mid 3 0) left = subst (λ (x : ℕ). Ready bits r (k + n) mid (getD mid 3 0) x) (sym el) (ready-less y n (t .enough)) in (
-          rw (w, el) (taken-bits y n (t .enough)),
-          record {
-            ready =
-                subst (λ (x : ℕ). Ready bits r (k + n) (set mid 4 left) x (getD (set mid 4 left) 4 0)) (sym w)
-                (subst (λ (x : ℕ). Ready bits r (k + n) (set mid 4 left) (getD mid 3 0) x) (sym z) (counted less));
-            most = omega (arith, t .most);
-            groups = a .groups + (s .before + 1);
-            whole = ap₂ (λ (x y : ℕ). x + y) (a .whole) (s .size) ∙ sym (mul-add u (a .groups) (s .before + 1));
-          },
-        )
+-- `take` by these: out of the array, and into it again
+pub rest-same : (st : List ℕ) → withRest st (record { word = getD st 3 0; left = getD st 4 0 }) ≡ st
+rest-same st = ap (λ (s : List ℕ). set s 4 (getD st 4 0)) (set-getD st 3 0) ∙ set-getD st 4 0
+
+pub can-take-rest : {n : ℕ} {bits st : List ℕ} (h : Rest) → withRest st h ≡ st → CanTake n bits st → CanTake n bits (withRest st h)
+can-take-rest {n} {bits} h out q = subst (λ (s : List ℕ). CanTake n bits s) (sym out) q
+
+pub takes :
+    {n : ℕ} {bits st st′ mid : List ℕ} {h x : Rest} → withRest st h ≡ st → TakesRest n bits st h mid x → st′ ≡ withRest mid x
+    → Takes n bits st (x .word / 2 ^ x .left) st′
+takes {n} {bits} {st} {st′} {mid} {h} {x} out t into =
+    subst (λ (s : List ℕ). Takes n bits s (x .word / 2 ^ x .left) st′) out
+    (subst (λ (s : List ℕ). Takes n bits (withRest st h) (x .word / 2 ^ x .left) s) (sym into) (t .takes))

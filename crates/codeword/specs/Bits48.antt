@@ -2,13 +2,14 @@
 use Prim.Native.Nat.{ℕ, _+_, _-_, _*_, _/_, _%_, _^_, _≤_}
 use mathlib.Core.Path.{_≡_}
 use mathlib.Core.List.{List}
-use lib.ListN.{length, getD}
+use lib.ListN.{length, getD, set}
 use Rattle.base.specs.Bits.{bitAt}
 use Rattle.gold.specs.declared.Registers.{Registers}
 use Rattle.gold.specs.declared.Wide.{Wide}
 use Rattle.gold.specs.Sequence.{binary}
 use Rattle.gold.specs.Steps.{after}
 use Rattle.gold.specs.Wide.{wideOf}
+use Rattle.codeword.specs.declared.Rest.{Rest}
 use Rattle.codeword.specs.Codewords.{scrambled}
 use Rattle.codeword.specs.Streams.{outputs}
 
@@ -80,17 +81,20 @@ pub record CanTake (n : ℕ) (bits st : List ℕ) : Type 0 where
   pub early : taken ≤ 2 ^ 32
   pub standing : Standing group bits pair taken st
 
--- n bits are left
-pub record Enough (n : ℕ) (bits st st′ : List ℕ) : Type 0 where
-  pub goes : (u : ℕ) (r : Registers) (k : ℕ) → Groups u n → Standing u bits r k st → Ready bits r k st′ (getD st′ 3 0) (getD st′ 4 0)
-  pub enough : n ≤ getD st′ 4 0
-  pub most : getD st′ 4 0 ≤ n + 48
-
 -- what `take` gives: the next n bits, and the state after them
 pub record Takes (n : ℕ) (bits st : List ℕ) (v : ℕ) (st′ : List ℕ) : Type 0 where
   pub goes :
       (u : ℕ) (r : Registers) (k : ℕ) → Groups u n → Standing u bits r k st
       → (v % 2 ^ n ≡ binary (scrambledBits bits r) k n) × Standing u bits r (k + n) st′
+
+-- a state with another word and count
+abbrev pub withRest : List ℕ → Rest → List ℕ
+withRest st h = set (set st 3 (h .word)) 4 (h .left)
+
+-- what `take_rest` gives: the same where the word and the count are not in the array
+pub record TakesRest (n : ℕ) (bits st : List ℕ) (h : Rest) (st′ : List ℕ) (x : Rest) : Type 0 where
+  pub takes : Takes n bits (withRest st h) (x .word / 2 ^ x .left) (withRest st′ x)
+  pub most : x .left ≤ 48
 
 -- what `end` gives
 pub record Ends (r : Registers) (st : List ℕ) (x : Registers) : Type 0 where

@@ -6,7 +6,7 @@ ghost use Prim.Native.Nat.{_+_, _*_, _%_, _<_, _≤_, _^_};
 ghost use lib.ListN.{length, getD};
 ghost use Rattle.base.specs.Bits.{bitAt};
 ghost use Rattle.gold.specs.Sequence.{binary};
-ghost use Rattle.codeword.specs.Bits48.{lastAt, WordAt, Begins48, Next48, CanTake, Enough, Takes, Ends};
+ghost use Rattle.codeword.specs.Bits48.{lastAt, WordAt, Begins48, Next48, withRest, CanTake, Takes, TakesRest, Ends};
 
 // A byte of the bits, 0 past their end.
 fn byte_at(bits: &[u8], i: usize) -> u32
@@ -114,31 +114,60 @@ fn joined(word: u64, next: u64) -> u64
     word % 65536 * 281474976710656 + next
 }
 
-// The word has n bits that are not taken, or is given 48 more.
-fn top_up(st: &mut [u64; 8], n: u64, bits: &[u8])
-    requires { ⌜ CanTake n (now bits) (now st) ⌝ }
-    ensures { λ _. ⌜ Enough n (now (bits .entry)) (now (st .entry)) (now (st .exit)) ⌝ }
-{
-    if n <= st[4] {
-        return;
-    }
-    let next = next48(st, bits);
-    let word = joined(st[3], next);
-    let left = st[4] + 48;
-    st[3] = word;
-    st[4] = left;
+// The word in use, and how many of its lowest bits are not taken. A loop has them in locals, since the compiler cannot tell the array from a
+// grid that is written.
+pub struct Rest {
+    pub word: u64,
+    pub left: u64,
 }
 
-// The next n scrambled bits, the lowest n of the result. Callers pass an array that `begin` or `take` gave for the same bits, and take them in
-// groups, one or some at a time, that 48 bits are whole groups of.
+// What a state has of them.
+pub fn rest_of(st: &[u64; 8]) -> Rest
+    ensures { λ h. ⌜ withRest (now (st .entry)) h ≡ now (st .entry) ⌝ }
+{
+    let word = st[3];
+    let left = st[4];
+    Rest {
+        word: word,
+        left: left,
+    }
+}
+
+// They are put into a state.
+pub fn put_rest(st: &mut [u64; 8], h: Rest)
+    ensures { λ _. ⌜ now (st .exit) ≡ withRest (now (st .entry)) h ⌝ }
+{
+    st[3] = h.word;
+    st[4] = h.left;
+}
+
+// What is left after the next n scrambled bits: these are the lowest n of the word without the bits that are left. Callers pass an array that
+// `begin` or `take` gave for the same bits, and take them in groups, one or some at a time, that 48 bits are whole groups of.
+pub fn take_rest(st: &mut [u64; 8], h: Rest, n: u64, bits: &[u8]) -> Rest
+    requires { ⌜ CanTake n (now bits) (withRest (now st) h) ⌝ }
+    ensures { λ x. ⌜ TakesRest n (now (bits .entry)) (now (st .entry)) h (now (st .exit)) x ⌝ }
+{
+    if n <= h.left {
+        return Rest {
+            word: h.word,
+            left: h.left - n,
+        };
+    }
+    let next = next48(st, bits);
+    Rest {
+        word: joined(h.word, next),
+        left: h.left + 48 - n,
+    }
+}
+
+// The next n scrambled bits, the lowest n of the result.
 pub fn take(st: &mut [u64; 8], n: u64, bits: &[u8]) -> u64
     requires { ⌜ CanTake n (now bits) (now st) ⌝ }
     ensures { λ v. ⌜ Takes n (now (bits .entry)) (now (st .entry)) v (now (st .exit)) ⌝ }
 {
-    top_up(st, n, bits);
-    let left = st[4] - n;
-    st[4] = left;
-    st[3] >> left
+    let h = take_rest(st, rest_of(st), n, bits);
+    put_rest(st, h);
+    h.word >> h.left
 }
 
 // The pair after the bits that were taken, where r is the pair that the state was begun with: at the bit after the last that was taken.

@@ -1,13 +1,13 @@
 -- THE LAWS OF FILLING PAIRS: one pair more, and two in each round. Assumes what a run of pairs needs.
 use Prim.Native.Nat.{ℕ, _+_, _*_, _/_, _%_, _^_, _≤_, _<_}
-use mathlib.Core.Path.{_≡_, refl, ap, _∙_, subst}
+use mathlib.Core.Path.{_≡_, refl, sym, ap, _∙_, subst}
 use mathlib.Core.Bool.{Bool}
 use mathlib.Core.List.{List}
 use native.Mathlib.Omega.{arith}
 use Rattle.gold.specs.declared.Registers.{Registers}
 use Rattle.modulation.specs.Symbols.{Order}
 use Rattle.codeword.specs.Streams.{symbolsOf}
-use Rattle.codeword.specs.Bits48.{Standing, Takes}
+use Rattle.codeword.specs.Bits48.{Standing, CanTake, Takes}
 use Rattle.codeword.proofs.Orders.{quad-groups}
 use Rattle.precoding.specs.Places.{ownPort, otherPort}
 use Rattle.grid.specs.Writing.{Written}
@@ -49,13 +49,11 @@ module _ {P T gap j start step m : ℕ} {before : List ℕ} (h : PairsIn P T gap
 
 -- ---- a round of two pairs, from what the functions that it calls leave
 pub round-made :
-    {gap q at next across z own other own′ other′ : ℕ} {t bits st before st′ middle after : List ℕ} → Takes (4 * q) bits st z st′
-    → FromTable t (z / 2 ^ q / 2 ^ q / 2 ^ q) (z / 2 ^ q / 2 ^ q) own other → FromTable t (z / 2 ^ q) z own′ other′ → PairPut gap at across own other before middle
-    → PairPut gap next across own′ other′ middle after → RoundDone gap q t bits st at next across before st′ after
-round-made {z = z} {own} {other} {own′} {other′} {middle = middle} k x y a b =
+    {gap q at next across z own other own′ other′ : ℕ} {t before middle after : List ℕ} → FromTable t (z / 2 ^ q / 2 ^ q / 2 ^ q) (z / 2 ^ q / 2 ^ q) own other
+    → FromTable t (z / 2 ^ q) z own′ other′ → PairPut gap at across own other before middle → PairPut gap next across own′ other′ middle after
+    → RoundDone gap z q t at next across before after
+round-made {own = own} {other} {own′} {other′} {middle = middle} x y a b =
     record {
-      word = z;
-      takes = k;
       own = own;
       other = other;
       own-next = own′;
@@ -67,19 +65,24 @@ round-made {z = z} {own} {other} {own′} {other′} {middle = middle} k x y a b
       put-next = b;
     }
 
--- ---- and rounds after rounds
+-- ---- and rounds after rounds, from a state that is the first one on
 pub rounds-first :
-    {P T gap j start step : ℕ} (n : ℕ) {q : ℕ} {t bits st before : List ℕ} {x : FirstRound} → PairsIn P T gap j start step (2 * n) before × Sending (2 * q) q j t bits st
-    → FirstAt P T j start step x → Rounds P T gap j start step n q t bits st before x (x .at) (x .next) 0 st before
-rounds-first n h p = record { pairs = h .0; sending = h .1; first = p; round = rw (p .at, p .next) (rounds-start (h .0) (p .ports)); done = none-done (h .0) }
+    {P T gap j start step : ℕ} (n : ℕ) {q : ℕ} {t bits st st′ before : List ℕ} {x : FirstRound} → PairsIn P T gap j start step (2 * n) before × Sending (2 * q) q j t bits st
+    → FirstAt P T j start step x → st′ ≡ st → Rounds P T gap j start step n q t bits st before x (x .at) (x .next) 0 st′ before
+rounds-first {P} {T} {gap} {j} {start} {step} n {q} {t} {bits} {st} {before = before} {x} h p e =
+    subst (λ (s : List ℕ). Rounds P T gap j start step n q t bits st before x (x .at) (x .next) 0 s before) (sym e)
+    (record { pairs = h .0; sending = h .1; first = p; round = rw (p .at, p .next) (rounds-start (h .0) (p .ports)); done = none-done (h .0) })
 
 module _
     {P T gap j start step n q : ℕ} {t bits st before : List ℕ} {x : FirstRound} {at next i : ℕ} {st′ grid : List ℕ}
     (d : Rounds P T gap j start step n q t bits st before x at next i st′ grid) (l : i < n) where
-  pub round-in : RoundIn gap q bits st′ at next (x .across) grid
+  pub round-takes : CanTake (4 * q) bits st′
+  round-takes =
+      can-take {j = j + 2 * (2 * i)} (quad-groups q (d .sending .order)) (d .sending .order) (omega (arith, d .pairs .index)) (d .done .stands (d .sending .pair) (d .sending .standing))
+
+  pub round-in : RoundIn gap q at next (x .across) grid
   round-in =
       record {
-        takes = can-take {j = j + 2 * (2 * i)} (quad-groups q (d .sending .order)) (d .sending .order) (omega (arith, d .pairs .index)) (d .done .stands (d .sending .pair) (d .sending .standing));
         few = omega (arith, d .sending .order .2);
         first = omega (arith, d .done .size, d .first .across, fits-at (d .pairs) (d .first .ports) (d .round) l);
         second = omega (arith, d .done .size, d .first .across, fits-next (d .pairs) (d .first .ports) (d .round) l);
@@ -135,13 +138,15 @@ module _
           (far next ∙ next-other (d .pairs) (d .first .ports) (d .round) l) second y′ (b .own) (b .other))))
 
   pub round-on :
-      {st″ k : List ℕ} → RoundDone gap q t bits st′ at next (x .across) grid st″ k
+      {z : ℕ} {st″ k : List ℕ} → Takes (4 * q) bits st′ z st″ → RoundDone gap z q t at next (x .across) grid k
       → Rounds P T gap j start step n q t bits st before x (at + 6 * step) (next + 6 * step) (i + 1) st″ k
-  round-on y = filled-on (y .takes) (y .first) (y .second) (y .put) (y .put-next)
+  round-on tk y = filled-on tk (y .first) (y .second) (y .put) (y .put-next)
 
 pub filled-end :
-    {P T gap j start step n q at next i : ℕ} {x : FirstRound} {t bits st before st′ grid : List ℕ} → Rounds P T gap j start step n q t bits st before x at next i st′ grid
-    → n ≤ i → PairsDone P T gap j start step (2 * n) (2 * n) q t bits st before st′ grid
-filled-end {P} {T} {gap} {j} {start} {step} {n} {q} {i = i} {t = t} {bits} {st} {before} {st′} {grid} d l =
+    {P T gap j start step n q at next i : ℕ} {x : FirstRound} {t bits st before st′ st″ grid : List ℕ}
+    → Rounds P T gap j start step n q t bits st before x at next i st′ grid → n ≤ i → st″ ≡ st′
+    → PairsDone P T gap j start step (2 * n) (2 * n) q t bits st before st″ grid
+filled-end {P} {T} {gap} {j} {start} {step} {n} {q} {i = i} {t = t} {bits} {st} {before} {st′} {grid = grid} d l f =
     let e : 2 * i ≡ 2 * n = omega (arith, d .round .rounds) in
-    subst (λ (x : ℕ). PairsDone P T gap j start step (2 * n) x q t bits st before st′ grid) e (d .done)
+    subst (λ (s : List ℕ). PairsDone P T gap j start step (2 * n) (2 * n) q t bits st before s grid) (sym f)
+    (subst (λ (x : ℕ). PairsDone P T gap j start step (2 * n) x q t bits st before st′ grid) e (d .done))

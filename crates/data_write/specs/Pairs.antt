@@ -5,7 +5,7 @@ use mathlib.Core.Bool.{Bool}
 use mathlib.Core.List.{List}
 use lib.ListN.{length}
 use Rattle.gold.specs.declared.Registers.{Registers}
-use Rattle.codeword.specs.Bits48.{Standing, CanTake, Takes}
+use Rattle.codeword.specs.Bits48.{Standing}
 use Rattle.element_pairs.specs.Numbers.{PairPut}
 use Rattle.codeword.specs.Streams.{symbolsOf}
 use Rattle.grid.specs.Writing.{Written}
@@ -17,16 +17,13 @@ use Rattle.walk.specs.Addresses.{OffsetsAt, PairsIn, RoundAt}
 use Rattle.data_write.specs.declared.FirstRound.{FirstRound}
 use Rattle.data_write.specs.Sent.{sentElement, TableOf, Sending, FromTable}
 
--- what two pairs of places need, `gap` from a pair's first place to its second, and what is done with them
-pub record RoundIn (gap q : ℕ) (bits st : List ℕ) (at next across : ℕ) (grid : List ℕ) : Type 0 where
-  pub takes : CanTake (4 * q) bits st
+-- what two pairs of places need, `gap` from a pair's first place to its second, and what is done with them, with the four symbols of a word
+pub record RoundIn (gap q at next across : ℕ) (grid : List ℕ) : Type 0 where
   pub few : q ≤ 8
   pub first : at + across + (3 * gap + 2) < length grid
   pub second : next + across + (3 * gap + 2) < length grid
 
-pub record RoundDone (gap q : ℕ) (t bits st : List ℕ) (at next across : ℕ) (before st′ after : List ℕ) : Type 0 where
-  pub word : ℕ
-  pub takes : Takes (4 * q) bits st word st′
+pub record RoundDone (gap word q : ℕ) (t : List ℕ) (at next across : ℕ) (before after : List ℕ) : Type 0 where
   pub own : ℕ
   pub other : ℕ
   pub own-next : ℕ

@@ -2,6 +2,7 @@
 // with elements from an order's table.
 use areas::Area;
 use codeword::take;
+use codeword::take_rest;
 use constellation::joint;
 use constellation::number;
 use constellation::partners;
@@ -23,22 +24,12 @@ ghost use Rattle.data_write.specs.Pairs.{RoundIn, RoundDone, FirstAt, Pa
 ghost use Rattle.data_write.specs.OnePort.{PlacesDone};
 ghost use Rattle.data_write.specs.Areas.{RunsIn, RunsDone, FillIn, AreaFilled};
 
-// The next four symbols at two pairs of places, at bytes `at` and `next` of their own ports and `across` further on the others. The table is read
-// before the grid is written, since the compiler cannot tell the two apart.
-fn round(
-    st: &mut [u64; 8],
-    q: u64,
-    t: &[u32; 256],
-    bits: &[u8],
-    grid: &mut [u8],
-    at: usize,
-    next: usize,
-    across: usize,
-)
-    requires { ⌜ RoundIn 1 q (now bits) (now st) at next across (now grid) ⌝ }
-    ensures { λ _. ⌜ RoundDone 1 q (now (t .entry)) (now (bits .entry)) (now (st .entry)) at next across (now (grid .entry)) (now (st .exit)) (now (grid .exit)) ⌝ }
+// Four symbols, those of the lowest 4q bits of z, at two pairs of places, at bytes `at` and `next` of their own ports and `across` further on the
+// others. The table is read before the grid is written, since the compiler cannot tell the two apart.
+fn round(z: u64, q: u64, t: &[u32; 256], grid: &mut [u8], at: usize, next: usize, across: usize)
+    requires { ⌜ RoundIn 1 q at next across (now grid) ⌝ }
+    ensures { λ _. ⌜ RoundDone 1 z q (now (t .entry)) at next across (now (grid .entry)) (now (grid .exit)) ⌝ }
 {
-    let z = take(st, 4 * q, bits);
     let y = z >> q;
     let x = y >> q;
     let a = number(t, x >> q);
@@ -51,19 +42,17 @@ fn round(
 
 // The same where a hole is between the two places of a pair.
 fn round_apart(
-    st: &mut [u64; 8],
+    z: u64,
     q: u64,
     t: &[u32; 256],
-    bits: &[u8],
     grid: &mut [u8],
     at: usize,
     next: usize,
     across: usize,
 )
-    requires { ⌜ RoundIn 2 q (now bits) (now st) at next across (now grid) ⌝ }
-    ensures { λ _. ⌜ RoundDone 2 q (now (t .entry)) (now (bits .entry)) (now (st .entry)) at next across (now (grid .entry)) (now (st .exit)) (now (grid .exit)) ⌝ }
+    requires { ⌜ RoundIn 2 q at next across (now grid) ⌝ }
+    ensures { λ _. ⌜ RoundDone 2 z q (now (t .entry)) at next across (now (grid .entry)) (now (grid .exit)) ⌝ }
 {
-    let z = take(st, 4 * q, bits);
     let y = z >> q;
     let x = y >> q;
     let a = number(t, x >> q);
@@ -115,12 +104,15 @@ fn sixes(
     let mut at = f.at;
     let mut next = f.next;
     let mut i: usize = 0;
+    let mut h = codeword::rest_of(st);
     while i < n {
-        round(st, q, t, bits, grid, at, next, f.across);
+        h = take_rest(st, h, 4 * q, bits);
+        round(h.word >> h.left, q, t, grid, at, next, f.across);
         at += 12;
         next += 12;
         i += 1;
     }
+    codeword::put_rest(st, h);
 }
 
 // Twice n pairs with holes between them: pair i at `start` + 3i and beside it.
@@ -143,12 +135,15 @@ fn quads(
     let mut at = f.at;
     let mut next = f.next;
     let mut i: usize = 0;
+    let mut h = codeword::rest_of(st);
     while i < n {
-        round(st, q, t, bits, grid, at, next, f.across);
+        h = take_rest(st, h, 4 * q, bits);
+        round(h.word >> h.left, q, t, grid, at, next, f.across);
         at += 18;
         next += 18;
         i += 1;
     }
+    codeword::put_rest(st, h);
 }
 
 // The same where a hole is between the two places of a pair.
@@ -171,12 +166,15 @@ fn quads_apart(
     let mut at = f.at;
     let mut next = f.next;
     let mut i: usize = 0;
+    let mut h = codeword::rest_of(st);
     while i < n {
-        round_apart(st, q, t, bits, grid, at, next, f.across);
+        h = take_rest(st, h, 4 * q, bits);
+        round_apart(h.word >> h.left, q, t, grid, at, next, f.across);
         at += 18;
         next += 18;
         i += 1;
     }
+    codeword::put_rest(st, h);
 }
 
 // One pair, side by side.

@@ -221,31 +221,32 @@ module _ {W S : ℕ} {rows spans : List ℕ} (t : Spans W S rows spans) where
         nothing : (x : ℕ) → x < 0 * openCount (rowMask rows (c .s)) → ⊥
         nothing x h = omega (arith, zero-mul (openCount (rowMask rows (c .s))))
 
-    -- and the next cursor stands after them
+    -- and the next cursor stands after them: where the row has no more, at the next row's first span
+    new-row : {n : ℕ} → c .s < S → cnt (inTables W rows spans) (c .s * W + W) ≡ n → AtIndex W S rows spans (record { s = c .s + 1; i = getD rows (3 * c .s + 4) 0 }) n
+    new-row l e =
+        let d : 3 * c .s + 4 ≡ 3 * (c .s + 1) + 1 = omega arith in
+        let f : (c .s + 1) * W ≡ c .s * W + W = ap (λ (x : ℕ). x * W) (add-one (c .s)) ∙ suc-mul (c .s) W in
+        rw d
+        (record {
+          row = omega arith;
+          from = omega arith;
+          index = enter t (c .s + 1) (omega arith) ∙ ap (cnt (inTables W rows spans)) f ∙ e;
+        })
+
     pub goes-on : c .s < S → AtIndex W S rows spans (cursorNext rows c) (j + runCount (cursorRun W rows spans c))
     unfolding cursorAt runCount
     goes-on l =
         by-test (ltb (c .i) (rowEnd rows (c .s)))
         (λ e. let i = k .index in
-        rw e
-        (record {
-          row = omega arith;
-          from = omega (arith, k .from);
-          index =
-              span-next t (c .s) (c .i) l (k .from) (ltb-true (c .i) (rowEnd rows (c .s)) e)
-              ∙ ap (λ (x : ℕ). x + (spanTo spans (c .i) - spanFrom spans (c .i)) * openCount (rowMask rows (c .s))) (rw e at i);
-        }))
+        let size = spanTo spans (c .i) - spanFrom spans (c .i) in
+        let passed : cnt (inTables W rows spans) (cursorAt W rows spans (record { s = c .s; i = c .i + 1 })) ≡ j + size * openCount (rowMask rows (c .s)) =
+        span-next t (c .s) (c .i) l (k .from) (ltb-true (c .i) (rowEnd rows (c .s)) e) ∙ ap (λ (x : ℕ). x + size * openCount (rowMask rows (c .s))) (rw e at i) in
+        by-test (ltb (c .i + 1) (rowEnd rows (c .s)))
+        (λ f. rw (e, f) (record { row = omega arith; from = omega (arith, k .from); index = passed }))
+        (λ f. rw (e, f) (new-row l (rw f at passed))))
         (λ e. let i = k .index in
-        let d : 3 * c .s + 4 ≡ 3 * (c .s + 1) + 1 = omega arith in
-        rw (e, d)
-        (record {
-          row = omega arith;
-          from = omega arith;
-          index =
-              enter t (c .s + 1) (omega arith)
-              ∙ (let f : (c .s + 1) * W ≡ c .s * W + W = ap (λ (x : ℕ). x * W) (add-one (c .s)) ∙ suc-mul (c .s) W in
-              ap (cnt (inTables W rows spans)) f ∙ (rw e at i) ∙ (omega (arith, zero-mul (openCount (rowMask rows (c .s))))));
-        }))
+        let f : ltb (c .i + 1) (rowEnd rows (c .s)) ≡ false = le-ltb (c .i + 1) (rowEnd rows (c .s)) (omega (arith, ltb-false (c .i) (rowEnd rows (c .s)) e)) in
+        rw (e, f) (new-row l ((rw e at i) ∙ omega (arith, zero-mul (openCount (rowMask rows (c .s)))))))
 
     -- past the last row none is left
     pub through : S ≤ c .s → j ≡ cnt (inTables W rows spans) (S * W)
@@ -264,8 +265,8 @@ measure S c = (S - c .s) * 256 + (255 - c .i)
 pub less : (S : ℕ) (rows : List ℕ) (c : Cursor) {d : Cursor} → d ≡ cursorNext rows c → c .s < S → rowEnd rows (c .s) ≤ 255 → measure S d < measure S c
 less S rows c n h l =
     rw n
-    (by-test (ltb (c .i) (rowEnd rows (c .s)))
-    (λ e. let m = ltb-true (c .i) (rowEnd rows (c .s)) e in rw e (omega arith))
+    (by-test (ltb (c .i + 1) (rowEnd rows (c .s)))
+    (λ e. let m = ltb-true (c .i + 1) (rowEnd rows (c .s)) e in rw e (omega arith))
     (λ e. rw e (omega arith)))
 
 -- ---- the same in the code's own terms
@@ -283,8 +284,8 @@ module _ (rows : List ℕ) (c : Cursor) {last : ℕ} (is : last ≡ rowEnd rows 
       → _≡_ {A = Run} (record { first = c .s * W; halves = 0; mask = mask }) (cursorRun W rows spans c)
   no-run W spans l m = let e : c .s * W + 0 ≡ c .s * W = omega arith in rw (le-ltb (c .i) (rowEnd rows (c .s)) (omega arith), m, e) refl
 
-  pub span-steps : c .i < last → _≡_ {A = Cursor} (record { s = c .s; i = c .i + 1 }) (cursorNext rows c)
-  span-steps l = rw (lt-ltb (c .i) (rowEnd rows (c .s)) (omega arith)) refl
+  pub span-steps : c .i + 1 < last → _≡_ {A = Cursor} (record { s = c .s; i = c .i + 1 }) (cursorNext rows c)
+  span-steps l = rw (lt-ltb (c .i + 1) (rowEnd rows (c .s)) (omega arith)) refl
 
-  pub row-steps : {x : ℕ} → last ≤ c .i → x ≡ getD rows (3 * c .s + 4) 0 → _≡_ {A = Cursor} (record { s = c .s + 1; i = x }) (cursorNext rows c)
-  row-steps l e = rw (le-ltb (c .i) (rowEnd rows (c .s)) (omega arith), e) refl
+  pub row-steps : {x : ℕ} → last ≤ c .i + 1 → x ≡ getD rows (3 * c .s + 4) 0 → _≡_ {A = Cursor} (record { s = c .s + 1; i = x }) (cursorNext rows c)
+  row-steps l e = rw (le-ltb (c .i + 1) (rowEnd rows (c .s)) (omega arith), e) refl

@@ -60,7 +60,7 @@ cursorRun W rows spans c =
 
 abbrev pub cursorNext : List ℕ → Cursor → Cursor
 cursorNext rows c =
-    cond (ltb (c .i) (rowEnd rows (c .s))) (record { s = c .s; i = c .i + 1 }) (record { s = c .s + 1; i = getD rows (3 * c .s + 4) 0 })
+    cond (ltb (c .i + 1) (rowEnd rows (c .s))) (record { s = c .s; i = c .i + 1 }) (record { s = c .s + 1; i = getD rows (3 * c .s + 4) 0 })
 
 -- where its next run begins, or its row ends
 unfoldable pub cursorAt : ℕ → List ℕ → List ℕ → Cursor → ℕ

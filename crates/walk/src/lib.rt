@@ -37,7 +37,7 @@ pub fn start(rows: &[u8; 45]) -> Cursor
     }
 }
 
-// The run at a cursor; one of no half blocks at a row's end.
+// The run at a cursor; one of no half blocks in a row that has no spans.
 pub fn run_at(c: Cursor, carriers: usize, rows: &[u8; 45], spans: &[u8; 512]) -> Run
     requires { ⌜ CursorIn carriers (now rows) (now spans) c ⌝ }
     ensures { λ r. ⌜ (r ≡ cursorRun carriers (now (rows .entry)) (now (spans .entry)) c) × (r .halves ≤ 255) ⌝ }
@@ -63,6 +63,7 @@ pub fn run_at(c: Cursor, carriers: usize, rows: &[u8; 45], spans: &[u8; 512]) ->
     }
 }
 
+// The cursor after its run: at the row's next span, or at the next row's first where that was the last.
 pub fn next(c: Cursor, rows: &[u8; 45]) -> Cursor
     requires { ⌜ c .s < 14 ⌝ }
     ensures { λ r. ⌜ (r ≡ cursorNext (now (rows .entry)) c) × (rowEnd (now (rows .entry)) (c .s) ≤ 255) ⌝ }
@@ -71,7 +72,10 @@ pub fn next(c: Cursor, rows: &[u8; 45]) -> Cursor
     let i = c.i;
     let last = byte(rows[3 * s + 2]);
     if i < last {
-        return Cursor { s: s, i: i + 1 };
+        let after = i + 1;
+        if after < last {
+            return Cursor { s: s, i: after };
+        }
     }
     Cursor {
         s: s + 1,

@@ -5,12 +5,6 @@ use borrow.Author.Needs.{needs}
 use Rattle.data_write.proofs.round.Statement.{statement}
 use Rattle.data_write.proofs.round.Tie as tie
 
-mul-take : tie.Need-mul-take
-mul-take c = search needs
-
-take-requires : tie.Need-take-requires
-take-requires c κs = search needs
-
 shr-y : tie.Need-shr-y
 shr-y c = search needs
 
@@ -57,11 +51,11 @@ returns : tie.Need-returns
 returns c =
     let a = c .before .before .before .before .before .before .before .before in
     let b = a .before .before .before .before .before in
-    round-made (b .before .before .before .take .ensures) (from-table (b .before .before .number .ensures .0) (b .before .number2 .ensures .0) (a .before .before .joint .ensures)
+    round-made (from-table (b .before .before .number .ensures .0) (b .before .number2 .ensures .0) (a .before .before .joint .ensures)
     (a .before .partners .ensures)) (from-table (b .number3 .ensures .0) (a .before .before .before .before .number4 .ensures .0)
     (c .before .before .before .before .joint2 .ensures) (c .before .before .before .partners2 .ensures)) (a .put-pair .ensures) (c .before .before .put-pair2 .ensures)
 
 pub round-spec : {M : Type 1} → statement M
 round-spec =
-    tie.close (tie.spec mul-take take-requires shr-y shr-x shr-number number-requires number-requires-2 number-requires-3 number-requires-4
+    tie.close (tie.spec shr-y shr-x shr-number number-requires number-requires-2 number-requires-3 number-requires-4
     joint-requires partners-requires put-pair-requires joint-requires-2 partners-requires-2 put-pair-requires-2 same-length returns)

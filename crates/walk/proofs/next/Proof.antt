@@ -1,4 +1,6 @@
--- The next span, or the next row.
+-- The next span, or the next row. Assumes nothing.
+use Prim.Native.Nat.{_+_, _≤_}
+use mathlib.Core.Logic.{⊎-elim}
 use native.Mathlib.Omega.{arith}
 use Rattle.walk.proofs.Cursors.{span-steps, row-steps}
 use borrow.Author.Needs.{needs}
@@ -17,16 +19,17 @@ element-copy-out-byte c = search needs
 byte-requires : tie.Need-byte-requires
 byte-requires c κs = search needs
 
-add-t12 : tie.Need-add-t12
-add-t12 c = search needs
+add-after : tie.Need-add-after
+add-after c = search needs
 
 returns : tie.Need-returns
 returns c =
-    let c3 = c .before .before .before in
-    (span-steps (c3 .args .rows .now) (c3 .args .c) (c .before .byte .ensures .0) (c .if1 .taken), omega arith)
+    let a = c .before .before in
+    let s = a .before .before .args in
+    (span-steps (s .rows .now) (s .c) (a .byte .ensures .0) (c .if2 .taken), omega arith)
 
-add-t6 : tie.Need-add-t6
-add-t6 c = search needs
+add-t7 : tie.Need-add-t7
+add-t7 c = search needs
 
 mul-byte-2 : tie.Need-mul-byte-2
 mul-byte-2 c = search needs
@@ -42,10 +45,10 @@ byte-requires-2 c κs = search needs
 
 returns-2 : tie.Need-returns-2
 returns-2 c =
-    let c2 = c .before .before in
-    let c3 = c .before .before .before in
-    let c5 = c .before .before .before .before .before in
-    (row-steps (c5 .args .rows .now) (c5 .args .c) (c3 .byte .ensures .0) (c2 .if1 .left) (c .byte2 .ensures .0), omega arith)
+    let a = c .before .before in
+    let s = a .before .before .before .args in
+    let last : a .before .byte .result ≤ s .c .i + 1 = ⊎-elim (λ w. omega arith) (λ w. omega arith) (a .if1 .came) in
+    (row-steps (s .rows .now) (s .c) (a .before .byte .ensures .0) last (c .byte2 .ensures .0), omega arith)
 
 pub next-spec : {M : Type 1} → statement M
 next-spec =
@@ -55,9 +58,9 @@ next-spec =
     add-byte
     element-copy-out-byte
     byte-requires
-    add-t12
+    add-after
     returns
-    add-t6
+    add-t7
     mul-byte-2
     add-byte-2
     element-copy-out-byte-2
