@@ -19,5 +19,8 @@ pub record AlsoCompared (g : List ℕ) (D : ℕ → Bool) (W : ℕ → Element) 
   pub compared : Compared D W g part
   pub both : next ≡ bothOf seen part
 
+pub also : {g : List ℕ} {D : ℕ → Bool} {W : ℕ → Element} {seen part next : Seen} → Compared D W g part → next ≡ bothOf seen part → AlsoCompared g D W seen next
+also {part = part} c b = record { part = part; compared = c; both = b }
+
 pub comparing : (g : List ℕ) → Accumulates (ComparedIn g) (AlsoCompared g) (Weight 0)
 comparing g = record { nothing = λ W. none W g; same = λ d v c. same d v c; more = λ a c k v d. rw (k .both) (over a c (k .compared) v d) }

@@ -178,6 +178,9 @@ pub few : {P T : ℕ} {D : ℕ → Bool} {W : ℕ → Element} {g : List ℕ} {r
 few {P = P} {T = T} {D = D} {W = W} {g = g} {r = r} room =
     few-length {D = D} {W = W} {g = g} {r = r} (omega (arith, room .size, mul-le-mul {n₁ = P} {m₁ = T} {n₂ = 4} {m₂ = 16800} (room .most) (room .fits)))
 
+pub both-few : {P T : ℕ} {D D′ : ℕ → Bool} {W W′ : ℕ → Element} {g : List ℕ} {r s : Seen} → Room P T g → Compared D W g r → Compared D′ W′ g s → Few r × Few s
+both-few room a b = (few room a, few room b)
+
 -- ---- one element
 -- the three bytes agree
 and-left : (a b : Bool) → a && b ≡ true → a ≡ true
