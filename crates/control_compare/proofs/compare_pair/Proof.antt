@@ -1,5 +1,5 @@
 -- `control_compare::compare_pair` meets its contract: one place, and the other. Assumes nothing.
-use Rattle.compare.proofs.Comparing.{both-few}
+use Rattle.compare.proofs.Comparing.{widest, both-few}
 use Rattle.compare.proofs.Accumulating.{also, comparing}
 use Rattle.control.proofs.Pairs.{first-ok, second-ok, pair-done}
 use borrow.Author.Needs.{needs}
@@ -37,7 +37,7 @@ look-place-requires-2 c κs =
 both-requires : tie.Need-both-requires
 both-requires c κs =
     let at-look-place = c .before .before .before in let entry = at-look-place .before .before .before .before .before in
-    both-few (entry .pre .1) (at-look-place .look-place .ensures) (c .look-place2 .ensures)
+    both-few (widest (entry .pre .1)) (at-look-place .look-place .ensures) (c .look-place2 .ensures)
 
 returns : tie.Need-returns
 returns c =

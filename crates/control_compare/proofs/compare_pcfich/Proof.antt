@@ -1,7 +1,7 @@
 -- `control_compare::compare_pcfich` meets its contract: after n pairs of places those of the indices below 2n are compared. Assumes nothing.
 use Prim.Native.Nat.{_-_}
 use native.Mathlib.Omega.{arith}
-use Rattle.compare.proofs.Comparing.{both-few}
+use Rattle.compare.proofs.Comparing.{widest, both-few}
 use Rattle.compare.proofs.Accumulating.{ComparedIn, also, comparing}
 use Rattle.control.proofs.PairByPair.{PcfichDone, pcfich-start, pcfich-next, pcfich-finish}
 use Rattle.control_compare.proofs.compare_pcfich.Statement.{statement}
@@ -29,7 +29,7 @@ compare-pair-requires c κs =
 both-requires : tie.Need-both-requires Inv-loop μ-loop
 both-requires c κs =
     let at-loop = c .before .before .before in let entry = at-loop .before .before in
-    both-few (entry .pre .room) (at-loop .loop .inv .done) (c .compare-pair .ensures)
+    both-few (widest (entry .pre .room)) (at-loop .loop .inv .done) (c .compare-pair .ensures)
 
 advance-requires : tie.Need-advance-requires Inv-loop μ-loop
 advance-requires c κs = (omega arith, omega arith)

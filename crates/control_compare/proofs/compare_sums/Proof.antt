@@ -1,7 +1,7 @@
 -- `control_compare::compare_sums` meets its contract: after n quads those of the indices below 4n are compared. Assumes nothing.
 use Prim.Native.Nat.{_-_, _*_}
 use native.Mathlib.Omega.{arith}
-use Rattle.compare.proofs.Comparing.{both-few}
+use Rattle.compare.proofs.Comparing.{widest, both-few}
 use Rattle.compare.proofs.Accumulating.{ComparedIn, also, comparing}
 use Rattle.control.proofs.PairByPair.{UnitDone, group-asked, pair-asked, unit-start, unit-next, quad-next, unit-finish}
 use Rattle.control_compare.proofs.compare_sums.Statement.{statement}
@@ -37,7 +37,7 @@ compare-pair-requires c κs =
 both-requires : tie.Need-both-requires Inv-loop μ-loop
 both-requires c κs =
     let at-loop = c .before .before .before .before in let entry = at-loop .before .before in
-    both-few (entry .pre .1) (at-loop .loop .inv .done) (c .compare-pair .ensures)
+    both-few (widest (entry .pre .1)) (at-loop .loop .inv .done) (c .compare-pair .ensures)
 
 mul-unit-pair-2 : tie.Need-mul-unit-pair-2 Inv-loop μ-loop
 mul-unit-pair-2 c =
@@ -63,7 +63,7 @@ both-requires-2 : tie.Need-both-requires-2 Inv-loop μ-loop
 both-requires-2 c κs =
     let at-both = c .before .before in let at-compare-pair = at-both .before in let at-unit-pair = at-compare-pair .before in
     let at-loop-test = at-unit-pair .before .before in let at-loop = at-loop-test .before in let entry = at-loop .before .before in
-    both-few (entry .pre .1) (unit-next (comparing (entry .args .grid .now)) (entry .pre .0) (at-loop .loop .inv) (omega (arith, at-loop-test .loop-test .taken)) (at-unit-pair .unit-pair .ensures) (also (at-compare-pair .compare-pair .ensures) (at-both .both .ensures)) .done) (c .compare-pair2 .ensures)
+    both-few (widest (entry .pre .1)) (unit-next (comparing (entry .args .grid .now)) (entry .pre .0) (at-loop .loop .inv) (omega (arith, at-loop-test .loop-test .taken)) (at-unit-pair .unit-pair .ensures) (also (at-compare-pair .compare-pair .ensures) (at-both .both .ensures)) .done) (c .compare-pair2 .ensures)
 
 add-n : tie.Need-add-n Inv-loop μ-loop
 add-n c =
