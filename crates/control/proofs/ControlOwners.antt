@@ -69,8 +69,8 @@ module _ (w : List ℕ) (p : Plan) (ok : checkOf w ≡ accepted p) where
       }
 
   -- what the loops over the HIs require
-  pub his-ready : {l : ℕ} → l ≡ spreadLength (p .cell) → HisIn l w (p .his .at) (p .his .count)
-  his-ready e = his-in cell-his e
+  pub his-known : {l : ℕ} → l ≡ spreadLength (p .cell) → HisIn l w (p .his .at) (p .his .count)
+  his-known e = his-in cell-his e
 
   -- ---- places
   pub pcfich-index : (t : ℕ) → pcfichIndex (p .cell) t ≡ indexOf w p Pcfich t

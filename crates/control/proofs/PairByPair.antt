@@ -18,7 +18,6 @@ use Rattle.modulation.specs.Symbols.{symbolOf as symbolFor}
 use Rattle.modulation.proofs.Symbols.{order-small}
 use Rattle.codeword.specs.Codewords.{dataSymbol, cfiBit}
 use Rattle.codeword.specs.Streams.{outputs}
-use Rattle.plan.specs.Fields.{unitsOf}
 use Rattle.plan.specs.Valid.{CellIn}
 use Rattle.plan.specs.declared.Cell.{Cell}
 use Rattle.layout.specs.Rules.{unitGroup, formatGroup, pcfich, phich}
@@ -63,10 +62,10 @@ pcfich-made {c = c} {cfi = cfi} {n = n} {s = s} ok in-n {u = u} {v = v} eu ev eg
 abbrev byTwo : ℕ → ℕ
 byTwo j = j / 2 % 2
 
-abbrev pub pcfichUpTo : Cell → ℕ → ℕ → Bool
+abbrev pcfichUpTo : Cell → ℕ → ℕ → Bool
 pcfichUpTo c n = upTo (c .ports) (placesOf c) (λ (t : ℕ). pcfich c (symbolAt c t) (carrierAt c t)) (pcfichIndex c) byTwo (2 * n)
 
-abbrev pub pcfichValue : Cell → ℕ → Registers → ℕ → Element
+abbrev pcfichValue : Cell → ℕ → Registers → ℕ → Element
 pcfichValue c cfi r = valueBy (c .ports) (placesOf c) (pcfichIndex c) byTwo (dataSymbol 2 (cfiBit cfi) (outputs r))
 
 -- n pairs are done in the state x, and the pair of registers s has given their bits
@@ -152,10 +151,10 @@ module _ {c : Cell} {m : ℕ} {sums : List Pair} (ok : UnitIn c m sums) {n : ℕ
 abbrev byQuad : ℕ → ℕ → ℕ
 byQuad m j = (j / 4 + m) % 2
 
-abbrev pub unitUpTo : Cell → ℕ → ℕ → ℕ → Bool
+abbrev unitUpTo : Cell → ℕ → ℕ → ℕ → Bool
 unitUpTo c m n = upTo (c .ports) (placesOf c) (λ (t : ℕ). phich c m (symbolAt c t) (carrierAt c t)) (phichIndex c m) (byQuad m) (2 * n)
 
-abbrev pub unitValue : Cell → ℕ → List Pair → ℕ → Element
+abbrev unitValue : Cell → ℕ → List Pair → ℕ → Element
 unitValue c m sums = valueBy (c .ports) (placesOf c) (phichIndex c m) (byQuad m) (λ (i : ℕ). getD sums i nil)
 
 pub record UnitDone {X : Type 0} (Done : Deed X) (c : Cell) (m : ℕ) (sums : List Pair) (n : ℕ) (x : X) : Type 0 where

@@ -58,7 +58,7 @@ module _ {c : Cell} {m : ℕ} {part grid : List ℕ} (ok : PhichIn c m part grid
         }
 
     -- the sums by the word's bits are those by the pair's
-    pub by-pair : (r : Registers) → w ≡ wordOf r 12 → sums ≡ scrambledSums (spreadLength c) (outputs r) part
+    by-pair : (r : Registers) → w ≡ wordOf r 12 → sums ≡ scrambledSums (spreadLength c) (outputs r) part
     by-pair r h = e ∙ ap (λ (x : ℕ). scrambledSums x (wordBit w) part) is ∙ scrambled-chips (spreadLength c) (length-ok c) (wordBit w) (outputs r) (word-bits r w h) part
 
     -- what is written or compared by the one is by the other

@@ -25,5 +25,5 @@ pub again :
     → QuadSums (spreadLength c) (ackFrom c r (hisFrom (drop (his .at) plan) (his .count)) grid) (hisFrom (drop (his .at) plan) (his .count)) s
 unfolding bitsFrom
 again {c = c} {his = his} {plan = plan} ok f r w l ew el q =
-    quads-same (λ n k. quad-ack f r w (spreadLength c) ew refl (hisFrom (drop (his .at) plan) (his .count)) n (ok .cell-his .units n (omega (arith, row-length hiOf (drop (his .at) plan) (his .count)))) refl)
-    (rw el at q)
+    let hs = hisFrom (drop (his .at) plan) (his .count) in
+    quads-same (λ n k. quad-ack f r w (spreadLength c) ew refl hs n (ok .cell-his .units n (omega (arith, row-length hiOf (drop (his .at) plan) (his .count)))) refl) (rw el at q)

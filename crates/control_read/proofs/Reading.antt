@@ -1,8 +1,8 @@
 -- The units' first quads read from a grid place by place, and the loop over a plan's HIs that writes their bits. Assumes nothing.
-use Prim.Native.Nat.{ℕ, zero, suc, _+_, _-_, _*_, _/_, _%_, _^_, _≤_, _<_}
+use Prim.Native.Nat.{ℕ, _+_, _*_, _/_, _%_, _^_, _≤_, _<_}
 use mathlib.Core.Path.{_≡_, sym, ap, ap₂, _∙_}
 use mathlib.Core.Bool.{cond}
-use mathlib.Core.List.{List, [], _∷_}
+use mathlib.Core.List.{List}
 use native.Mathlib.Nat.{not-suc-le-zero}
 use native.Mathlib.Decide.{ℕ-discrete}
 use native.Mathlib.Omega.{arith}
@@ -23,9 +23,9 @@ use Rattle.grid.specs.Elements.{elementIn}
 use Rattle.grid.proofs.Sending.{own-fits}
 use Rattle.phich.specs.His.{hiNumber}
 use Rattle.phich.specs.Spreading.{wordBit, spreadLength}
-use Rattle.phich.specs.Units.{mappingUnit, Within}
+use Rattle.phich.specs.Units.{mappingUnit}
 use Rattle.phich.specs.Recovery.{along, bitIn}
-use Rattle.phich.specs.Loops.{HiIn, HisIn, levelsAt, quadOf}
+use Rattle.phich.specs.Loops.{HiIn, levelsAt, quadOf}
 use Rattle.phich.proofs.Adding.{set-even, set-odd, set-others}
 use Rattle.phich.proofs.Along.{along-same}
 use Rattle.phich.proofs.Chips.{bit-chips}
@@ -38,7 +38,6 @@ use Rattle.plan.specs.declared.Hi.{Hi}
 use Rattle.plan.specs.declared.Row.{Row}
 use Rattle.plan.specs.Fields.{unitsOf}
 use Rattle.plan.proofs.Counts.{units-most}
-use Rattle.plan.proofs.RowLaws.{row-length}
 use Rattle.places.specs.Places.{placesOf}
 use Rattle.places.specs.Quads.{quadPlace}
 use Rattle.payload.specs.Sections.{sectionBytes}

@@ -28,7 +28,10 @@ qpsk-requires-2 : tie.Need-qpsk-requires-2
 qpsk-requires-2 c κs = search needs
 
 returns : tie.Need-returns
-returns c = pcfich-made (c .before .before .before .before .before .pre .0) (c .before .before .before .before .before .pre .3) (c .before .before .before .before .cfi-word .ensures) (c .before .before .before .word .ensures) (c .before .before .format-group .ensures) (c .before .qpsk .ensures) (c .qpsk2 .ensures)
+returns c =
+    pcfich-made (c .before .before .before .before .before .pre .0) (c .before .before .before .before .before .pre .3)
+    (c .before .before .before .before .cfi-word .ensures) (c .before .before .before .word .ensures) (c .before .before .format-group .ensures)
+    (c .before .qpsk .ensures) (c .qpsk2 .ensures)
 
 pub pcfich-pair-spec : {M : Type 1} → statement M
 pcfich-pair-spec =

@@ -43,7 +43,8 @@ returns : tie.Need-returns
 returns c =
     let at-quad-place2 = c .before .before in let at-look-place = at-quad-place2 .before .before in let at-quad-place = at-look-place .before in
     let at-places = at-quad-place .before .before in let entry = at-places .before .before in
-    pair-done (entry .pre .0) (comparing (entry .args .grid .now)) (at-places .places .ensures) (at-quad-place .quad-place .ensures) (at-quad-place2 .quad-place2 .ensures) (at-look-place .look-place .ensures) (also (c .before .look-place2 .ensures) (c .both .ensures))
+    pair-done (entry .pre .0) (comparing (entry .args .grid .now)) (at-places .places .ensures) (at-quad-place .quad-place .ensures)
+    (at-quad-place2 .quad-place2 .ensures) (at-look-place .look-place .ensures) (also (c .before .look-place2 .ensures) (c .both .ensures))
 
 pub compare-pair-spec : {M : Type 1} → statement M
 compare-pair-spec =

@@ -22,7 +22,7 @@ unit-group-requires c κs =
     group-asked (entry .pre .0) (c .loop-test .taken)
 
 mul-unit-pair : tie.Need-mul-unit-pair Inv-loop μ-loop
-mul-unit-pair c = omega (arith, c .before .loop-test .taken)
+mul-unit-pair c = omega arith
 
 unit-pair-requires : tie.Need-unit-pair-requires Inv-loop μ-loop
 unit-pair-requires c κs =
@@ -40,14 +40,10 @@ both-requires c κs =
     both-few (widest (entry .pre .1)) (at-loop .loop .inv .done) (c .compare-pair .ensures)
 
 mul-unit-pair-2 : tie.Need-mul-unit-pair-2 Inv-loop μ-loop
-mul-unit-pair-2 c =
-    let at-loop-test = c .before .before .before .before in
-    omega (arith, at-loop-test .loop-test .taken)
+mul-unit-pair-2 c = omega arith
 
 add-unit-pair : tie.Need-add-unit-pair Inv-loop μ-loop
-add-unit-pair c =
-    let at-loop-test = c .before .before .before .before in
-    omega (arith, at-loop-test .loop-test .taken)
+add-unit-pair c = omega arith
 
 unit-pair-requires-2 : tie.Need-unit-pair-requires-2 Inv-loop μ-loop
 unit-pair-requires-2 c κs =
@@ -63,24 +59,24 @@ both-requires-2 : tie.Need-both-requires-2 Inv-loop μ-loop
 both-requires-2 c κs =
     let at-both = c .before .before in let at-compare-pair = at-both .before in let at-unit-pair = at-compare-pair .before in
     let at-loop-test = at-unit-pair .before .before in let at-loop = at-loop-test .before in let entry = at-loop .before .before in
-    both-few (widest (entry .pre .1)) (unit-next (comparing (entry .args .grid .now)) (entry .pre .0) (at-loop .loop .inv) (omega (arith, at-loop-test .loop-test .taken)) (at-unit-pair .unit-pair .ensures) (also (at-compare-pair .compare-pair .ensures) (at-both .both .ensures)) .done) (c .compare-pair2 .ensures)
+    both-few (widest (entry .pre .1)) (unit-next (comparing (entry .args .grid .now)) (entry .pre .0) (at-loop .loop .inv)
+    (omega (arith, at-loop-test .loop-test .taken)) (at-unit-pair .unit-pair .ensures) (also (at-compare-pair .compare-pair .ensures) (at-both .both .ensures))
+    .done) (c .compare-pair2 .ensures)
 
 add-n : tie.Need-add-n Inv-loop μ-loop
-add-n c =
-    let at-loop-test = c .before .before .before .before .before .before .before in
-    omega (arith, at-loop-test .loop-test .taken)
+add-n c = omega arith
 
 loop-less : tie.Need-loop-less Inv-loop μ-loop
-loop-less c =
-    let at-loop-test = c .before .before .before .before .before .before .before in
-    omega (arith, at-loop-test .loop-test .taken)
+loop-less c = omega arith
 
 loop-again : tie.Need-loop-again Inv-loop μ-loop
 loop-again c =
     let at-unit-pair2 = c .before .before in let at-both = at-unit-pair2 .before in let at-compare-pair = at-both .before in
     let at-unit-pair = at-compare-pair .before in let at-loop-test = at-unit-pair .before .before in let at-loop = at-loop-test .before in
     let entry = at-loop .before .before in
-    quad-next (comparing (entry .args .grid .now)) (entry .pre .0) (at-loop .loop .inv) (at-loop-test .loop-test .taken) (at-unit-pair .unit-pair .ensures) (also (at-compare-pair .compare-pair .ensures) (at-both .both .ensures)) (at-unit-pair2 .unit-pair2 .ensures) (also (c .before .compare-pair2 .ensures) (c .both2 .ensures))
+    quad-next (comparing (entry .args .grid .now)) (entry .pre .0) (at-loop .loop .inv) (at-loop-test .loop-test .taken) (at-unit-pair .unit-pair .ensures)
+    (also (at-compare-pair .compare-pair .ensures) (at-both .both .ensures)) (at-unit-pair2 .unit-pair2 .ensures)
+    (also (c .before .compare-pair2 .ensures) (c .both2 .ensures))
 
 returns : tie.Need-returns Inv-loop μ-loop
 returns c =

@@ -17,33 +17,32 @@ units-requires : tie.Need-units-requires Inv-loop μ-loop
 units-requires c κs = tt
 
 loop-holds : tie.Need-loop-holds Inv-loop μ-loop
-loop-holds c = first-start (c .before .before .pre .size)
+loop-holds c =
+    let entry = c .before .before in
+    first-start (entry .pre .size)
 
 read-quad-requires : tie.Need-read-quad-requires Inv-loop μ-loop
-read-quad-requires c κs = (
-  unit-read (c .before .before .before .before .before .pre) (c .before .loop-test .taken) (c .before .before .before .units .ensures),
-  c .before
-      .before .loop .inv,
-)
+read-quad-requires c κs =
+    let at-loop = c .before .before in let at-units = at-loop .before in let entry = at-units .before .before in
+    (unit-read (entry .pre) (c .before .loop-test .taken) (at-units .units .ensures), at-loop .loop .inv)
 
 add-m : tie.Need-add-m Inv-loop μ-loop
 add-m c =
-    omega (
-      arith,
-      c .before .before .loop-test .taken,
-      c .before .before .before .before .units .ensures,
-      units-most (c .before .before .before
-          .before .before .before .args .cell) (c .before .before .before .before .before .before .pre .cell),
-    )
+    let at-loop-test = c .before .before in let at-units = at-loop-test .before .before in let entry = at-units .before .before in
+    omega (arith, at-loop-test .loop-test .taken, at-units .units .ensures, units-most (entry .args .cell) (entry .pre .cell))
 
 loop-less : tie.Need-loop-less Inv-loop μ-loop
-loop-less c = omega (arith, c .before .before .loop-test .taken)
+loop-less c =
+    let at-loop-test = c .before .before in
+    omega (arith, at-loop-test .loop-test .taken)
 
 loop-again : tie.Need-loop-again Inv-loop μ-loop
 loop-again c = first-to _ (omega arith) (c .read-quad .ensures)
 
 returns : tie.Need-returns Inv-loop μ-loop
-returns c = first-to _ (omega (arith, c .loop-test .left, c .before .before .units .ensures)) (c .before .loop .inv)
+returns c =
+    let at-units = c .before .before in
+    first-to _ (omega (arith, c .loop-test .left, at-units .units .ensures)) (c .before .loop .inv)
 
 pub first-sums-spec : {M : Type 1} → statement M
 first-sums-spec =

@@ -24,7 +24,9 @@ returns : tie.Need-returns
 returns c = first-bit (c .before .args .part .now) (c .before .args .n) (c .before .args .bit) (c .if1 .taken)
 
 slice-read-part : tie.Need-slice-read-part
-slice-read-part c = c .before .before .pre .inside
+slice-read-part c =
+    let entry = c .before .before in
+    entry .pre .inside
 
 mul-part-2 : tie.Need-mul-part-2
 mul-part-2 c =
@@ -37,7 +39,9 @@ add-part c =
     omega (arith, s .pre .fits, held-some (s .args .part .now) (s .args .n) (c .before .if1 .left))
 
 slice-write-part-2 : tie.Need-slice-write-part-2
-slice-write-part-2 c = c .before .before .pre .inside
+slice-write-part-2 c =
+    let entry = c .before .before in
+    entry .pre .inside
 
 same-length-2 : tie.Need-same-length-2
 same-length-2 c = search needs

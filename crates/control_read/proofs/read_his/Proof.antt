@@ -20,84 +20,78 @@ spread-length-requires : tie.Need-spread-length-requires Inv-loop μ-loop
 spread-length-requires c κs = tt
 
 first-sums-requires : tie.Need-first-sums-requires Inv-loop μ-loop
-first-sums-requires c κs = quads-in (c .before .before .before .before .before .before .pre .each) refl
+first-sums-requires c κs =
+    let entry = c .before .before .before .before .before .before in
+    quads-in (entry .pre .each) refl
 
 loop-holds : tie.Need-loop-holds Inv-loop μ-loop
 loop-holds c =
-    read-start (c .before .before .before .before .before .before .before .pre) (c .before .before .before .before .before .before .before .args .r)
+    let entry = c .before .before .before .before .before .before .before in
+    read-start (entry .pre) (entry .args .r)
 
 hi-at-requires : tie.Need-hi-at-requires Inv-loop μ-loop
 hi-at-requires c κs = tt
 
 bit-of-requires : tie.Need-bit-of-requires Inv-loop μ-loop
 bit-of-requires c κs =
-    hi-read (c .before .before .before .before .before .before .before .before .before .before .before .before .pre) (c .before .before .before
-    .before .before .before .before .before .before .before .before .before .args .r) (c .before .before .before .before .loop .inv) (c .before
-    .before .if1 .taken) (c .before .before .before .before .before .before .before .spread-length .ensures) (c .before .hi-at .ensures)
+    let at-if1 = c .before .before in let at-loop = at-if1 .before .before in let at-spread-length = at-loop .before .before .before in
+    let entry = at-spread-length .before .before .before .before .before in
+    hi-read (entry .pre) (entry .args .r) (at-loop .loop .inv) (at-if1 .if1 .taken) (at-spread-length .spread-length .ensures) (c .before .hi-at .ensures)
 
 push-requires : tie.Need-push-requires Inv-loop μ-loop
 push-requires c κs =
-    push-in (c .before .before .before .before .before .before .before .before .before .before .before .before .before .before .pre) (c .before
-    .before .before .before .before .before .before .before .before .before .before .before .before .before .args .r) (c .before .before .before
-    .before .before .before .loop .inv) (c .before .before .before .before .if1 .taken) (c .before .before .before .before .before .before .before
-    .first-sums .ensures) (c .before .before .before .before .before .before .before .before .before .before .word .ensures) (c .before .before
-    .before .before .before .before .before .before .before .spread-length .ensures) (c .before .before .before .hi-at .ensures) (c .before .bit-of
-    .ensures)
+    let at-hi-at = c .before .before .before in let at-if1 = at-hi-at .before in let at-loop = at-if1 .before .before in
+    let at-first-sums = at-loop .before in let at-spread-length = at-first-sums .before .before in let at-word = at-spread-length .before in
+    let entry = at-word .before .before .before .before in
+    push-in (entry .pre) (entry .args .r) (at-loop .loop .inv) (at-if1 .if1 .taken) (at-first-sums .first-sums .ensures) (at-word .word .ensures)
+    (at-spread-length .spread-length .ensures) (at-hi-at .hi-at .ensures) (c .before .bit-of .ensures)
 
 next-at-requires : tie.Need-next-at-requires Inv-loop μ-loop
 next-at-requires c κs = tt
 
 add-n : tie.Need-add-n Inv-loop μ-loop
 add-n c =
-    omega (
-      arith,
-      c .before .before .before .before .before .before .before .before .if1 .taken,
-      c .before .before .before .before .before .before
-          .before .before .before .struct-known .given,
-    )
+    let at-if1 = c .before .before .before .before .before .before .before .before in let at-struct-known = at-if1 .before in
+    omega (arith, at-if1 .if1 .taken, at-struct-known .struct-known .given)
 
 loop-less : tie.Need-loop-less Inv-loop μ-loop
-loop-less c = omega (arith, c .before .before .before .before .before .before .before .before .if1 .taken)
+loop-less c =
+    let at-if1 = c .before .before .before .before .before .before .before .before in
+    omega (arith, at-if1 .if1 .taken)
 
 loop-again : tie.Need-loop-again Inv-loop μ-loop
 loop-again c =
-    read-next (c .before .before .before .before .before .before .before .before .before .before .before .before .before .before .before .before
-    .before .before .pre) (c .before .before .before .before .before .before .before .before .before .before .before .before .before .before .before
-    .before .before .before .args .r) (c .before .before .before .before .before .before .before .before .before .before .loop .inv) (c .before
-    .before .before .before .before .before .before .before .if1 .taken) (c .before .before .before .before .before .before .before .before .before
-    .before .before .first-sums .ensures) (c .before .before .before .before .before .before .before .before .before .before .before .before .before
-    .before .word .ensures) (c .before .before .before .before .before .before .before .before .before .before .before .before .before .spread-length
-    .ensures) (c .before .before .before .before .before .before .before .hi-at .ensures) (c .before .before .before .before .before .bit-of .ensures)
-    (c .before .before .before .push .ensures) (c .next-at .ensures)
+    let at-push = c .before .before .before in let at-bit-of = at-push .before .before in let at-hi-at = at-bit-of .before .before in
+    let at-if1 = at-hi-at .before in let at-loop = at-if1 .before .before in let at-first-sums = at-loop .before in
+    let at-spread-length = at-first-sums .before .before in let at-word = at-spread-length .before in
+    let entry = at-word .before .before .before .before in
+    read-next (entry .pre) (entry .args .r) (at-loop .loop .inv) (at-if1 .if1 .taken) (at-first-sums .first-sums .ensures) (at-word .word .ensures)
+    (at-spread-length .spread-length .ensures) (at-hi-at .hi-at .ensures) (at-bit-of .bit-of .ensures) (at-push .push .ensures) (c .next-at .ensures)
 
 spread-length-requires-2 : tie.Need-spread-length-requires-2 Inv-loop μ-loop
 spread-length-requires-2 c κs = tt
 
 mul-skip : tie.Need-mul-skip Inv-loop μ-loop
 mul-skip c =
-    omega (
-      arith,
-      length-most (c .before .before .before .before .before .before .before .before .before .before .before .args .cell) (c
-          .spread-length2 .ensures),
-    )
+    let entry = c .before .before .before .before .before .before .before .before .before .before .before in
+    omega (arith, length-most (entry .args .cell) (c .spread-length2 .ensures))
 
 skip-requires : tie.Need-skip-requires Inv-loop μ-loop
 skip-requires c κs = tt
 
 same-length : tie.Need-same-length Inv-loop μ-loop
 same-length c =
-    c .before .before .before .before .loop .inv .size ∙ sym (c .before .before .before .before .before .before .before .before .before .before
-    .before .before .pre .size)
+    let at-loop = c .before .before .before .before in let entry = at-loop .before .before .before .before .before .before .before .before in
+    at-loop .loop .inv .size ∙ sym (entry .pre .size)
 
 returns : tie.Need-returns Inv-loop μ-loop
-returns c = (
-  read-finish (c .before .before .before .before .before .before .before .before .before .before .before .before .pre) (c .before .before .before
-      .before .before .before .before .before .before .before .before .before .args .r) (c .before .before .before .before .loop .inv) (c .before
-      .before .if1 .left),
-  after-three (c .before .before .before .before .before .before .before .before .before .before .before .before .args .cell)
-      (c .before .before .before .before .before .before .before .before .before .before .before .before .args .r) (c .before .spread-length2 .ensures)
-      (c .skip .ensures),
-)
+returns c =
+    let at-if1 = c .before .before in let at-loop = at-if1 .before .before in
+    let entry = at-loop .before .before .before .before .before .before .before .before in (
+      read-finish (entry .pre) (entry .args .r) (at-loop .loop .inv) (at-if1 .if1 .left),
+      after-three (entry .args .cell) (entry .args .r)
+          (c .before .spread-length2 .ensures) (c .skip .ensures),
+    )
 
 pub read-his-spec : {M : Type 1} → statement M
 read-his-spec =

@@ -43,14 +43,14 @@ mul-own c =
     omega (arith, f .0)
 
 loop-holds : tie.Need-loop-holds Inv-loop μ-loop
-loop-holds c = first-to _ (omega arith) (c .before .before .before .before .before .pre .1)
+loop-holds c =
+    let entry = c .before .before .before .before .before in
+    first-to _ (omega arith) (entry .pre .1)
 
 quad-place-requires : tie.Need-quad-place-requires Inv-loop μ-loop
-quad-place-requires c κs = (
-  group-in (c .before .before .before .before .before .before .before .pre .0) {i = c .before .loop .i} (c .loop-test .taken) (c .before .before
-      .before .before .before .unit-group .ensures),
-  c .loop-test .taken,
-)
+quad-place-requires c κs =
+    let at-unit-group = c .before .before .before .before .before in let entry = at-unit-group .before .before in
+    (group-in (entry .pre .0) {i = c .before .loop .i} (c .loop-test .taken) (at-unit-group .unit-group .ensures), c .loop-test .taken)
 
 add-get : tie.Need-add-get Inv-loop μ-loop
 add-get c =
@@ -61,94 +61,57 @@ add-get c =
 
 get-requires : tie.Need-get-requires Inv-loop μ-loop
 get-requires c κs =
-    element-fits (c .before .before .before .before .before .before .before .before .pre .0) {i = c .before .before .loop .i} (c .before .loop-test
-    .taken) (c .before .before .before .before .before .before .unit-group .ensures) (c .quad-place .ensures) (c .before .before .before .before
-    .before .own-port .ensures) (c .before .before .before .before .wide .ensures) (c .before .before .before .places .ensures) .2
+    let at-loop = c .before .before in let at-places = at-loop .before in let at-wide = at-places .before in let at-own-port = at-wide .before in
+    let at-unit-group = at-own-port .before in let entry = at-unit-group .before .before in
+    element-fits (entry .pre .0) {i = at-loop .loop .i} (c .before .loop-test .taken) (at-unit-group .unit-group .ensures) (c .quad-place .ensures)
+    (at-own-port .own-port .ensures) (at-wide .wide .ensures) (at-places .places .ensures) .2
 
 mul-at : tie.Need-mul-at Inv-loop μ-loop
 mul-at c =
-    omega (
-      arith,
-      c .before .before .loop-test .taken,
-      c .before .before .before .loop .inv .size,
-      unit-few (c .before .before .before .before .before
-          .before .before .before .before .args .cell) (c .before .before .before .before .before .before .before .before .before .pre .0 .cell) (c .before
-          .before .before .before .before .before .before .before .before .args .m) (c .before .before .before .before .before .before .before .before
-          .before .pre .0 .unit),
-    )
+    let at-loop-test = c .before .before in let at-loop = at-loop-test .before in let entry = at-loop .before .before .before .before .before .before in
+    omega (arith, at-loop-test .loop-test .taken, at-loop .loop .inv .size, unit-few (entry .args .cell) (entry .pre .0 .cell) (entry .args .m) (entry .pre .0 .unit))
 
 add-at : tie.Need-add-at Inv-loop μ-loop
 add-at c =
-    omega (
-      arith,
-      c .before .before .loop-test .taken,
-      c .before .before .before .loop .inv .size,
-      unit-few (c .before .before .before .before .before
-          .before .before .before .before .args .cell) (c .before .before .before .before .before .before .before .before .before .pre .0 .cell) (c .before
-          .before .before .before .before .before .before .before .before .args .m) (c .before .before .before .before .before .before .before .before
-          .before .pre .0 .unit),
-    )
+    let at-loop-test = c .before .before in let at-loop = at-loop-test .before in let entry = at-loop .before .before .before .before .before .before in
+    omega (arith, at-loop-test .loop-test .taken, at-loop .loop .inv .size, unit-few (entry .args .cell) (entry .pre .0 .cell) (entry .args .m) (entry .pre .0 .unit))
 
 mul-at-2 : tie.Need-mul-at-2 Inv-loop μ-loop
 mul-at-2 c =
-    omega (
-      arith,
-      c .before .before .loop-test .taken,
-      c .before .before .before .loop .inv .size,
-      unit-few (c .before .before .before .before .before
-          .before .before .before .before .args .cell) (c .before .before .before .before .before .before .before .before .before .pre .0 .cell) (c .before
-          .before .before .before .before .before .before .before .before .args .m) (c .before .before .before .before .before .before .before .before
-          .before .pre .0 .unit),
-    )
+    let at-loop-test = c .before .before in let at-loop = at-loop-test .before in let entry = at-loop .before .before .before .before .before .before in
+    omega (arith, at-loop-test .loop-test .taken, at-loop .loop .inv .size, unit-few (entry .args .cell) (entry .pre .0 .cell) (entry .args .m) (entry .pre .0 .unit))
 
 element-write-first : tie.Need-element-write-first Inv-loop μ-loop
 element-write-first c =
-    omega (
-      arith,
-      c .before .before .loop-test .taken,
-      c .before .before .before .loop .inv .size,
-      c .before .before .before .before .before .before
-          .before .before .before .pre .0 .unit,
-      units-most (c .before .before .before .before .before .before .before .before .before .args .cell) (c
-          .before .before .before .before .before .before .before .before .before .pre .0 .cell),
-    )
+    let at-loop-test = c .before .before in let at-loop = at-loop-test .before in let entry = at-loop .before .before .before .before .before .before in
+    omega (arith, at-loop-test .loop-test .taken, at-loop .loop .inv .size, entry .pre .0 .unit, units-most (entry .args .cell) (entry .pre .0 .cell))
 
 add-first : tie.Need-add-first Inv-loop μ-loop
 add-first c =
-    omega (
-      arith,
-      c .before .before .loop-test .taken,
-      c .before .before .before .loop .inv .size,
-      unit-few (c .before .before .before .before .before
-          .before .before .before .before .args .cell) (c .before .before .before .before .before .before .before .before .before .pre .0 .cell) (c .before
-          .before .before .before .before .before .before .before .before .args .m) (c .before .before .before .before .before .before .before .before
-          .before .pre .0 .unit),
-    )
+    let at-loop-test = c .before .before in let at-loop = at-loop-test .before in let entry = at-loop .before .before .before .before .before .before in
+    omega (arith, at-loop-test .loop-test .taken, at-loop .loop .inv .size, unit-few (entry .args .cell) (entry .pre .0 .cell) (entry .args .m) (entry .pre .0 .unit))
 
 element-write-first-2 : tie.Need-element-write-first-2 Inv-loop μ-loop
 element-write-first-2 c =
-    omega (
-      arith,
-      c .before .before .loop-test .taken,
-      c .before .before .before .loop .inv .size,
-      c .before .before .before .before .before .before
-          .before .before .before .pre .0 .unit,
-      units-most (c .before .before .before .before .before .before .before .before .before .args .cell) (c
-          .before .before .before .before .before .before .before .before .before .pre .0 .cell),
-    )
+    let at-loop-test = c .before .before in let at-loop = at-loop-test .before in let entry = at-loop .before .before .before .before .before .before in
+    omega (arith, at-loop-test .loop-test .taken, at-loop .loop .inv .size, entry .pre .0 .unit, units-most (entry .args .cell) (entry .pre .0 .cell))
 
 add-i : tie.Need-add-i Inv-loop μ-loop
-add-i c = omega (arith, c .before .before .loop-test .taken)
+add-i c =
+    let at-loop-test = c .before .before in
+    omega (arith, at-loop-test .loop-test .taken)
 
 loop-less : tie.Need-loop-less Inv-loop μ-loop
-loop-less c = omega (arith, c .before .before .loop-test .taken)
+loop-less c =
+    let at-loop-test = c .before .before in
+    omega (arith, at-loop-test .loop-test .taken)
 
 loop-again : tie.Need-loop-again Inv-loop μ-loop
 loop-again c =
-    first-next (c .before .before .before .before .before .before .before .before .before .pre .0) {i = c .before .before .before .loop .i} (c .before
-    .before .loop-test .taken) (c .before .before .before .before .before .before .before .unit-group .ensures) (c .before .quad-place .ensures) (c
-    .before .before .before .before .before .before .own-port .ensures) (c .before .before .before .before .before .wide .ensures) (c .before .before
-    .before .before .places .ensures) (c .before .before .before .loop .inv) (c .get .ensures)
+    let at-loop-test = c .before .before in let at-loop = at-loop-test .before in let at-places = at-loop .before in let at-wide = at-places .before in
+    let at-own-port = at-wide .before in let at-unit-group = at-own-port .before in let entry = at-unit-group .before .before in
+    first-next (entry .pre .0) {i = at-loop .loop .i} (at-loop-test .loop-test .taken) (at-unit-group .unit-group .ensures) (c .before .quad-place .ensures)
+    (at-own-port .own-port .ensures) (at-wide .wide .ensures) (at-places .places .ensures) (at-loop .loop .inv) (c .get .ensures)
 
 returns : tie.Need-returns Inv-loop μ-loop
 returns c = first-to _ (omega (arith, c .loop-test .left, c .before .loop .inv .size)) (c .before .loop .inv)

@@ -30,20 +30,17 @@ advance-requires : tie.Need-advance-requires Inv-loop μ-loop
 advance-requires c κs = (omega arith, omega arith)
 
 add-n : tie.Need-add-n Inv-loop μ-loop
-add-n c =
-    let at-loop-test = c .before .before .before .before .before .before in
-    omega (arith, at-loop-test .loop-test .taken)
+add-n c = omega arith
 
 loop-less : tie.Need-loop-less Inv-loop μ-loop
-loop-less c =
-    let at-loop-test = c .before .before .before .before .before .before in
-    omega (arith, at-loop-test .loop-test .taken)
+loop-less c = omega arith
 
 loop-again : tie.Need-loop-again Inv-loop μ-loop
 loop-again c =
     let at-put-pair = c .before .before .before in let at-pcfich-pair = at-put-pair .before .before in let at-loop-test = at-pcfich-pair .before in
     let at-loop = at-loop-test .before in let entry = at-loop .before .before in
-    pcfich-next (writing (entry .args .grid .now)) (entry .pre .cell) (entry .args .cfi) (entry .args .r) (at-loop .loop .inv) (at-loop-test .loop-test .taken) (at-pcfich-pair .pcfich-pair .ensures) (at-put-pair .put-pair .ensures) (c .advance .ensures)
+    pcfich-next (writing (entry .args .grid .now)) (entry .pre .cell) (entry .args .cfi) (entry .args .r) (at-loop .loop .inv) (at-loop-test .loop-test .taken)
+    (at-pcfich-pair .pcfich-pair .ensures) (at-put-pair .put-pair .ensures) (c .advance .ensures)
 
 same-length : tie.Need-same-length Inv-loop μ-loop
 same-length c = c .before .loop .inv .done .size

@@ -36,7 +36,8 @@ returns c =
     let at-put-unit = c .before .before .before in let at-sums = at-put-unit .before .before in let at-length = at-sums .before in
     let at-word = at-length .before in let entry = at-word .before .before .before in
     let is = at-length .spread-length .ensures in (
-      unit-done (entry .pre) is (at-word .word .result) (at-sums .unit-sums .ensures) (entry .args .r) (at-word .word .ensures) (writing (entry .args .grid .now)) (at-put-unit .put-unit .ensures),
+      unit-done (entry .pre) is (at-word .word .result) (at-sums .unit-sums .ensures) (entry .args .r) (at-word .word .ensures)
+          (writing (entry .args .grid .now)) (at-put-unit .put-unit .ensures),
       after-three (entry .args .cell) (entry .args .r) is (c .skip .ensures),
     )
 

@@ -1,5 +1,4 @@
 -- `control_write::put_pair` meets its contract: one place, then the other. Assumes nothing.
-use mathlib.Core.Path.{_∙_}
 use Rattle.grid.proofs.Writing.{room-kept}
 use Rattle.grid.proofs.Accumulating.{writing}
 use Rattle.control.proofs.Pairs.{first-ok, second-ok, pair-done}
@@ -44,7 +43,8 @@ returns c =
     let at-put-place2 = c .before .before in let at-quad-place2 = at-put-place2 .before .before in
     let at-put-place = at-quad-place2 .before .before .before .before in let at-quad-place = at-put-place .before .before in
     let at-places = at-quad-place .before .before in let entry = at-places .before .before in
-    pair-done (entry .pre .0) (writing (entry .args .grid .now)) (at-places .places .ensures) (at-quad-place .quad-place .ensures) (at-quad-place2 .quad-place2 .ensures) (at-put-place .put-place .ensures) (at-put-place2 .put-place2 .ensures)
+    pair-done (entry .pre .0) (writing (entry .args .grid .now)) (at-places .places .ensures) (at-quad-place .quad-place .ensures)
+    (at-quad-place2 .quad-place2 .ensures) (at-put-place .put-place .ensures) (at-put-place2 .put-place2 .ensures)
 
 pub put-pair-spec : {M : Type 1} → statement M
 put-pair-spec =

@@ -22,7 +22,7 @@ unit-group-requires c κs =
     group-asked (entry .pre .0) (c .loop-test .taken)
 
 mul-unit-pair : tie.Need-mul-unit-pair Inv-loop μ-loop
-mul-unit-pair c = omega (arith, c .before .loop-test .taken)
+mul-unit-pair c = omega arith
 
 unit-pair-requires : tie.Need-unit-pair-requires Inv-loop μ-loop
 unit-pair-requires c κs =
@@ -35,14 +35,10 @@ put-pair-requires c κs =
     (c .before .unit-pair .ensures .1, room-kept (entry .pre .1) (at-loop .loop .inv .done))
 
 mul-unit-pair-2 : tie.Need-mul-unit-pair-2 Inv-loop μ-loop
-mul-unit-pair-2 c =
-    let at-loop-test = c .before .before .before .before .before .before in
-    omega (arith, at-loop-test .loop-test .taken)
+mul-unit-pair-2 c = omega arith
 
 add-unit-pair : tie.Need-add-unit-pair Inv-loop μ-loop
-add-unit-pair c =
-    let at-loop-test = c .before .before .before .before .before .before in
-    omega (arith, at-loop-test .loop-test .taken)
+add-unit-pair c = omega arith
 
 unit-pair-requires-2 : tie.Need-unit-pair-requires-2 Inv-loop μ-loop
 unit-pair-requires-2 c κs =
@@ -57,21 +53,18 @@ put-pair-requires-2 c κs =
     (c .before .unit-pair2 .ensures .1, room-kept (room-kept (entry .pre .1) (at-loop .loop .inv .done)) (at-put-pair .put-pair .ensures))
 
 add-n : tie.Need-add-n Inv-loop μ-loop
-add-n c =
-    let at-loop-test = c .before .before .before .before .before .before .before .before .before .before .before in
-    omega (arith, at-loop-test .loop-test .taken)
+add-n c = omega arith
 
 loop-less : tie.Need-loop-less Inv-loop μ-loop
-loop-less c =
-    let at-loop-test = c .before .before .before .before .before .before .before .before .before .before .before in
-    omega (arith, at-loop-test .loop-test .taken)
+loop-less c = omega arith
 
 loop-again : tie.Need-loop-again Inv-loop μ-loop
 loop-again c =
     let at-put-pair2 = c .before .before in let at-unit-pair2 = at-put-pair2 .before .before in let at-put-pair = at-unit-pair2 .before .before .before in
     let at-unit-pair = at-put-pair .before .before in let at-loop-test = at-unit-pair .before .before in let at-loop = at-loop-test .before in
     let entry = at-loop .before .before in
-    quad-next (writing (entry .args .grid .now)) (entry .pre .0) (at-loop .loop .inv) (at-loop-test .loop-test .taken) (at-unit-pair .unit-pair .ensures) (at-put-pair .put-pair .ensures) (at-unit-pair2 .unit-pair2 .ensures) (at-put-pair2 .put-pair2 .ensures)
+    quad-next (writing (entry .args .grid .now)) (entry .pre .0) (at-loop .loop .inv) (at-loop-test .loop-test .taken) (at-unit-pair .unit-pair .ensures)
+    (at-put-pair .put-pair .ensures) (at-unit-pair2 .unit-pair2 .ensures) (at-put-pair2 .put-pair2 .ensures)
 
 same-length : tie.Need-same-length Inv-loop μ-loop
 same-length c = c .before .loop .inv .done .size

@@ -15,7 +15,13 @@ crs-first-requires c κs = omega (arith, few-ports (c .before .args .cell .ports
 add-result : tie.Need-add-result
 add-result c =
     let entry = c .before .before in
-    omega (arith, row-at-most (entry .args .cell) (entry .args .s) (entry .args .port) (omega arith) (omega arith) (omega (arith, symbols-most (entry .args .cell), entry .pre .1)), c .before .row-at .ensures, c .crs-first .ensures)
+    omega (
+      arith,
+      row-at-most (entry .args .cell) (entry .args .s) (entry .args .port) (omega arith) (omega arith)
+          (omega (arith, symbols-most (entry .args .cell), entry .pre .1)),
+      c .before .row-at .ensures,
+      c .crs-first .ensures,
+    )
 
 returns : tie.Need-returns
 returns c =

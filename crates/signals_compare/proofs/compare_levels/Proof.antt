@@ -30,7 +30,8 @@ look-requires c κs = omega arith
 both-requires : tie.Need-both-requires Inv-loop μ-loop
 both-requires c κs =
     let at-loop = c .before .before .before in let entry = at-loop .before .before in
-    both-few (entry .pre .1) (at-loop .loop .inv .done) (looked (entry .args .grid .now) (entry .args .first + at-loop .loop .i) (c .before .level-element .result) (omega arith) (c .look .ensures))
+    both-few (entry .pre .1) (at-loop .loop .inv .done) (looked (entry .args .grid .now) (entry .args .first + at-loop .loop .i)
+    (c .before .level-element .result) (omega arith) (c .look .ensures))
 
 add-i : tie.Need-add-i Inv-loop μ-loop
 add-i c = omega arith
@@ -42,7 +43,10 @@ loop-again : tie.Need-loop-again Inv-loop μ-loop
 loop-again c =
     let at-level-element = c .before .before in let at-loop-test = at-level-element .before in let at-loop = at-loop-test .before in
     let entry = at-loop .before .before in
-    row-turn (comparing (entry .args .grid .now)) (at-loop .loop .inv) (at-loop-test .loop-test .taken) (level-value (entry .args .d) (entry .args .first) (at-loop .loop .i) (at-level-element .level-element .ensures)) (also (looked (entry .args .grid .now) (entry .args .first + at-loop .loop .i) (at-level-element .level-element .result) (omega arith) (c .before .look .ensures)) (c .both .ensures))
+    row-turn (comparing (entry .args .grid .now)) (at-loop .loop .inv) (at-loop-test .loop-test .taken)
+    (level-value (entry .args .d) (entry .args .first) (at-loop .loop .i) (at-level-element .level-element .ensures)) (also
+    (looked (entry .args .grid .now) (entry .args .first + at-loop .loop .i) (at-level-element .level-element .result) (omega arith) (c .before .look .ensures))
+    (c .both .ensures))
 
 returns : tie.Need-returns Inv-loop μ-loop
 returns c =

@@ -21,7 +21,8 @@ compare-levels-requires c κs =
 returns : tie.Need-returns
 returns c =
     let at-sss-for = c .before .before in let entry = at-sss-for .before .before in
-    sss-done (entry .args .cell) (entry .pre .cell) 2 _ (omega arith, omega arith) (c .before .mark-at .ensures) (comparing (entry .args .grid .now)) (entry .args .frame) _ (at-sss-for .sss-for .ensures) (c .compare-levels .ensures)
+    sss-done (entry .args .cell) (entry .pre .cell) 2 _ (omega arith, omega arith) (c .before .mark-at .ensures) (comparing (entry .args .grid .now))
+    (entry .args .frame) _ (at-sss-for .sss-for .ensures) (c .compare-levels .ensures)
 
 pub compare-sss-spec : {M : Type 1} → statement M
 compare-sss-spec =

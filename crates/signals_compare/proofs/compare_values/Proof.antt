@@ -59,7 +59,8 @@ loop-again : tie.Need-loop-again Inv-loop μ-loop
 loop-again c =
     let at-word = c .before .before in let at-at-once = at-word .before in let at-loop = at-at-once .before .before in
     let entry = at-loop .before .before in
-    values-turn (differing (entry .args .grid .now)) (at-at-once .at-once .result) (at-word .word .result) (at-loop .loop .inv) (omega (arith, at-at-once .at-once .ensures)) (at-word .word .ensures) (also-differing (c .before .compare-word .ensures)) (c .advance .ensures)
+    values-turn (differing (entry .args .grid .now)) (at-at-once .at-once .result) (at-word .word .result) (at-loop .loop .inv)
+    (omega (arith, at-at-once .at-once .ensures)) (at-word .word .ensures) (also-differing (c .before .compare-word .ensures)) (c .advance .ensures)
 
 mul-weight : tie.Need-mul-weight Inv-loop μ-loop
 mul-weight c = omega arith

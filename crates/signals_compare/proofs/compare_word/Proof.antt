@@ -55,7 +55,8 @@ loop-less c = omega arith
 loop-again : tie.Need-loop-again Inv-loop μ-loop
 loop-again c =
     let at-loop-test = c .before .before in let at-loop = at-loop-test .before in let entry = at-loop .before .before in
-    word-turn (differing (entry .args .grid .now)) (at-loop .loop .inv) (at-loop-test .loop-test .taken) refl (c .number-of .ensures .0) (also-differing (numbered (entry .args .first + 6 * at-loop .loop .i) (c .before .three-at .ensures) (c .number-of .ensures .1)))
+    word-turn (differing (entry .args .grid .now)) (at-loop .loop .inv) (at-loop-test .loop-test .taken) refl (c .number-of .ensures .0) (also-differing
+    (numbered (entry .args .first + 6 * at-loop .loop .i) (c .before .three-at .ensures) (c .number-of .ensures .1)))
 
 returns : tie.Need-returns Inv-loop μ-loop
 returns c =

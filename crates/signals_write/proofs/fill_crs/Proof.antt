@@ -1,5 +1,4 @@
 -- `signals_write::fill_crs` meets its contract: every sixth element from the first one on is the port's reference signal. Assumes nothing.
-use native.Mathlib.Omega.{arith}
 use Rattle.grid.proofs.Accumulating.{writing}
 use Rattle.signals.proofs.Numbers.{crs-given, crs-inside, crs-done}
 use borrow.Author.Needs.{needs}
@@ -26,8 +25,11 @@ same-length c = search needs
 returns : tie.Need-returns
 returns c =
     let at-fill-values = c .before .before in let at-wide = at-fill-values .before .before in let at-crs-at = at-wide .before in
-    let entry = at-crs-at .before .before in
-    (crs-done (entry .pre) (at-crs-at .crs-at .ensures) (at-wide .wide .ensures) (writing (entry .args .grid .now)) (entry .args .r) (at-fill-values .fill-values .ensures .0), crs-given (at-wide .wide .ensures) (entry .args .r) (at-fill-values .fill-values .ensures .1))
+    let entry = at-crs-at .before .before in (
+      crs-done (entry .pre) (at-crs-at .crs-at .ensures) (at-wide .wide .ensures) (writing (entry .args .grid .now)) (entry .args .r)
+          (at-fill-values .fill-values .ensures .0),
+      crs-given (at-wide .wide .ensures) (entry .args .r) (at-fill-values .fill-values .ensures .1),
+    )
 
 pub fill-crs-spec : {M : Type 1} → statement M
 fill-crs-spec =

@@ -40,7 +40,8 @@ loop-again : tie.Need-loop-again Inv-loop μ-loop
 loop-again c =
     let at-put = c .before .before in let at-level-element = at-put .before in let at-loop-test = at-level-element .before .before in
     let at-loop = at-loop-test .before in let entry = at-loop .before .before in
-    row-turn (writing (entry .args .grid .now)) (at-loop .loop .inv) (at-loop-test .loop-test .taken) (level-value (entry .args .d) (entry .args .first) (at-loop .loop .i) (at-level-element .level-element .ensures)) (at-put .put .ensures)
+    row-turn (writing (entry .args .grid .now)) (at-loop .loop .inv) (at-loop-test .loop-test .taken)
+    (level-value (entry .args .d) (entry .args .first) (at-loop .loop .i) (at-level-element .level-element .ensures)) (at-put .put .ensures)
 
 same-length : tie.Need-same-length Inv-loop μ-loop
 same-length c = c .before .loop .inv .done .size

@@ -40,7 +40,8 @@ loop-again : tie.Need-loop-again Inv-loop μ-loop
 loop-again c =
     let at-put = c .before .before in let at-phase-element = at-put .before in let at-loop-test = at-phase-element .before .before in
     let at-loop = at-loop-test .before in let entry = at-loop .before .before in
-    row-turn (writing (entry .args .grid .now)) (at-loop .loop .inv) (at-loop-test .loop-test .taken) (phase-value (entry .args .identity) (entry .args .first) (at-loop .loop .i) (at-phase-element .phase-element .ensures)) (at-put .put .ensures)
+    row-turn (writing (entry .args .grid .now)) (at-loop .loop .inv) (at-loop-test .loop-test .taken)
+    (phase-value (entry .args .identity) (entry .args .first) (at-loop .loop .i) (at-phase-element .phase-element .ensures)) (at-put .put .ensures)
 
 same-length : tie.Need-same-length Inv-loop μ-loop
 same-length c = c .before .loop .inv .done .size

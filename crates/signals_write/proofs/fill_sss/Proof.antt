@@ -24,7 +24,8 @@ returns : tie.Need-returns
 returns c =
     let at-fill-levels = c .before .before in let at-mark-at = at-fill-levels .before .before in let at-sss-for = at-mark-at .before in
     let entry = at-sss-for .before .before in
-    sss-done (entry .args .cell) (entry .pre .cell) 2 _ (omega arith, omega arith) (at-mark-at .mark-at .ensures) (writing (entry .args .grid .now)) (entry .args .frame) _ (at-sss-for .sss-for .ensures) (at-fill-levels .fill-levels .ensures)
+    sss-done (entry .args .cell) (entry .pre .cell) 2 _ (omega arith, omega arith) (at-mark-at .mark-at .ensures) (writing (entry .args .grid .now))
+    (entry .args .frame) _ (at-sss-for .sss-for .ensures) (at-fill-levels .fill-levels .ensures)
 
 pub fill-sss-spec : {M : Type 1} → statement M
 fill-sss-spec =

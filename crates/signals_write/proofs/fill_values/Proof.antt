@@ -64,7 +64,8 @@ loop-again : tie.Need-loop-again Inv-loop μ-loop
 loop-again c =
     let at-fill-word = c .before .before .before in let at-word = at-fill-word .before .before in let at-at-once = at-word .before in
     let at-loop = at-at-once .before .before in let entry = at-loop .before .before in
-    values-turn (writing (entry .args .grid .now)) (at-at-once .at-once .result) (at-word .word .result) (at-loop .loop .inv) (omega (arith, at-at-once .at-once .ensures)) (at-word .word .ensures) (at-fill-word .fill-word .ensures) (c .advance .ensures)
+    values-turn (writing (entry .args .grid .now)) (at-at-once .at-once .result) (at-word .word .result) (at-loop .loop .inv)
+    (omega (arith, at-at-once .at-once .ensures)) (at-word .word .ensures) (at-fill-word .fill-word .ensures) (c .advance .ensures)
 
 same-length : tie.Need-same-length Inv-loop μ-loop
 same-length c = c .before .loop .inv .done .size
