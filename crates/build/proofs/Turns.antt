@@ -43,9 +43,7 @@ use Rattle.subframe.proofs.Bytes.{length-by-port}
 use Rattle.areas.specs.Tables.{RowMasks}
 use Rattle.data_write.specs.Sent.{TableOf}
 use Rattle.signals.specs.Signals.{markSends, pssSent, sssSent}
-use Rattle.control.proofs.ControlOwners.{part-levels}
-use Rattle.control.proofs.Reading.{his-in}
-use Rattle.control.proofs.ReadingOwners.{his-read}
+use Rattle.control.proofs.ControlOwners.{part-levels, his-known}
 use Rattle.channels.specs.declared.Channel.{Channel}
 use Rattle.channels.specs.declared.Channel.the-variants.{Crs, Pbch as PbchChannel, Pcfich as PcfichChannel, Phich as PhichChannel, User as UserChannel}
 use Rattle.channels.specs.Channels.{initOf, firstBit, sendsOf, sentOf, Among, Planned, Tables, ChannelIn}
@@ -196,7 +194,7 @@ module _ {w : List ℕ} {p : Plan} {payload g₀ : List ℕ} (start : Ready w p 
 
   -- what the sums of all units are made from
   pub his-ready : {l : ℕ} → l ≡ spreadLength (p .cell) → HisIn l w (p .his .at) (p .his .count)
-  his-ready e = his-in (his-read w p ok (start .room)) e
+  his-ready e = his-known w p ok e
 
   module _ {l : ℕ} (el : l ≡ spreadLength (p .cell)) (from end : ℕ) (ef : from ≡ sectionBytes (pbchBits (p .cell) (p .frame))) (ee : end ≡ usersStart p) {s : List ℕ}
       (q : QuadSums l (bitAt (take (end - from) (drop from payload))) (hisFrom (drop (p .his .at) w) (p .his .count)) s) (m : ℕ) (in-m : m < unitsOf (p .cell)) where

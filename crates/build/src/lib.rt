@@ -66,8 +66,8 @@ fn fill_marks(plan: &[u8], p: Plan, payload: &[u8], grid: &mut [u8])
     ensures { λ _. ⌜ Written (marksSend p) (elementNumbered (now (plan .entry)) p (now (payload .entry))) (now (grid .entry)) (now (grid .exit)) ⌝ }
 {
     if layout::is_marked(p.frame) {
-        signals::fill_pss(p.cell, grid);
-        signals::fill_sss(p.cell, p.frame, grid);
+        signals_write::fill_pss(p.cell, grid);
+        signals_write::fill_sss(p.cell, p.frame, grid);
     }
 }
 

@@ -125,13 +125,13 @@ fn filled(
     let cell = p.cell;
     let frame = p.frame;
     match ch {
-        Channel::Crs(s, port) => signals::fill_crs(r, cell, base::wide(s), port, grid),
+        Channel::Crs(s, port) => signals_write::fill_crs(r, cell, base::wide(s), port, grid),
         Channel::Pbch => {
             let area = areas::pbch_area(cell, frame);
             data_write::fill_by_tables(r, area, 2, t, masks, bits, grid)
         }
-        Channel::Pcfich => control::fill_pcfich(r, cell, frame.cfi, grid),
-        Channel::Phich(m) => control::fill_phich(r, cell, base::wide(m), bits, grid),
+        Channel::Pcfich => control_write::fill_pcfich(r, cell, frame.cfi, grid),
+        Channel::Phich(m) => control_write::fill_phich(r, cell, base::wide(m), bits, grid),
         Channel::User(u) => {
             let area = areas::user_area(cell, frame, u);
             data_write::fill_by_tables(r, area, u.order as u32, t, masks, bits, grid)

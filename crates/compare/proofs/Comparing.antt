@@ -174,9 +174,14 @@ pub few-length : {D : ℕ → Bool} {W : ℕ → Element} {g : List ℕ} {r : Se
 few-length {D = D} {g = g} {r = Weight n} l c = omega (arith, c .found .1, weight-most g D (length g / 3))
 few-length {r = Differs} l c = tt
 
+pub widest : {P T : ℕ} {g : List ℕ} → Room P T g → length g ≤ 201600
+widest {P} {T} r = omega (arith, r .size, mul-le-mul {n₁ = P} {m₁ = T} {n₂ = 4} {m₂ = 16800} (r .most) (r .fits))
+
 pub few : {P T : ℕ} {D : ℕ → Bool} {W : ℕ → Element} {g : List ℕ} {r : Seen} → Room P T g → Compared D W g r → Few r
-few {P = P} {T = T} {D = D} {W = W} {g = g} {r = r} room =
-    few-length {D = D} {W = W} {g = g} {r = r} (omega (arith, room .size, mul-le-mul {n₁ = P} {m₁ = T} {n₂ = 4} {m₂ = 16800} (room .most) (room .fits)))
+few room c = few-length (widest room) c
+
+pub both-few : {D D′ : ℕ → Bool} {W W′ : ℕ → Element} {g : List ℕ} {r s : Seen} → length g ≤ 201600 → Compared D W g r → Compared D′ W′ g s → Few r × Few s
+both-few l a b = (few-length l a, few-length l b)
 
 -- ---- one element
 -- the three bytes agree
@@ -207,6 +212,9 @@ look-compared g e el l = pick (sameElement (elementIn g e) el) refl
         holds-of (record { elements = λ x k. ap (λ (y : ℕ). elementIn g y) (sym (eqb-true e x k)) ∙ same-element (elementIn g e) el h })
         (sym (weight-one g e (length g / 3) (omega arith)))
     pick false h = differs (λ k. clash (element-same (elementIn g e) el (k .elements e (eq-eqb e e refl))) h)
+
+pub looked : (g : List ℕ) (e : ℕ) (el : Element) {seen : Seen} → 3 * e + 2 < length g → seen ≡ seenOf (elementIn g e) el → Compared (eqb e) (λ (x : ℕ). el) g seen
+looked g e el l q = rw q (look-compared g e el l)
 
 -- ---- all bytes of a grid
 -- of the first n bytes

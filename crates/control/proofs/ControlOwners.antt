@@ -17,19 +17,20 @@ use Rattle.precoding.specs.Matrices.{precoded}
 use Rattle.precoding.specs.Phich.{phichPrecoded}
 use Rattle.precoding.specs.Places.{placed}
 use Rattle.precoding.proofs.Diversity.{by-place, phich-by-place}
+use Rattle.phich.specs.His.{hiNumber}
 use Rattle.phich.specs.Units.{SameHiBits}
-use Rattle.phich.specs.Loops.{QuadSums, Levels, scrambledSums}
+use Rattle.phich.specs.Loops.{HisIn, QuadSums, Levels, scrambledSums}
 use Rattle.phich.proofs.Scrambled.{unit-levels, unit-scrambled}
-use Rattle.phich.proofs.Units.{same-sums, length-ok}
+use Rattle.phich.proofs.Units.{same-sums, length-ok, hi-unit}
 use Rattle.phich.specs.Spreading.{spreadLength}
 use Rattle.plan.specs.Check.{checkOf}
 use Rattle.plan.specs.Fields.{unitsOf}
 use Rattle.plan.specs.Rows.{hisOf}
-use Rattle.plan.specs.Valid.{CellIn}
+use Rattle.plan.specs.Valid.{CellIn, HiIn}
 use Rattle.plan.specs.declared.Plan.{Plan}
 use Rattle.plan.specs.declared.Checked.the-variants.{Plan as accepted}
 use Rattle.plan.proofs.Counts.{units-most}
-use Rattle.plan.proofs.Listed.{and-left}
+use Rattle.plan.proofs.Listed.{and-left, every-at}
 use Rattle.plan.proofs.Valid.{valid}
 use Rattle.layout.specs.Rules.{pcfich, phich}
 use Rattle.layout.specs.Owners.{fixedRule, owns}
@@ -41,7 +42,8 @@ use Rattle.subframe.specs.Elements.{controlInit, pcfichSymbol, hiBit, phichSum,
 use Rattle.subframe.proofs.Acknowledged.{within, distinct}
 use Rattle.subframe.proofs.Occurs.{even-occurs}
 use Rattle.control.specs.Control.{pcfichIndex, pcfichSends, pcfichSent, phichIndex, phichSends, unitSent, phichSent}
-use Rattle.control.specs.Filling.{PcfichIn, PhichIn}
+use Rattle.control.specs.Filling.{PcfichIn, PhichIn, CellHis}
+use Rattle.control.proofs.His.{his-in}
 use Rattle.control.proofs.Listings.{some-places, pcfich-listed, phich-listed}
 
 module _ (w : List ℕ) (p : Plan) (ok : checkOf w ≡ accepted p) where
@@ -54,6 +56,21 @@ module _ (w : List ℕ) (p : Plan) (ok : checkOf w ≡ accepted p) where
 
   pub phich-in : (m : ℕ) → m < unitsOf (p .cell) → {part grid : List ℕ} → Room (p .cell .ports) (placesOf (p .cell)) grid → Levels 8 part → PhichIn (p .cell) m part grid
   phich-in m h r l = record { cell = cell-ok; unit = h; room = r; levels = l }
+
+  pub cell-his : CellHis (p .cell) (p .his) w
+  unfolding hisOf
+  cell-his =
+      record {
+        cell = cell-ok;
+        known = within w p ok;
+        units = λ n l.
+            hi-unit (p .cell) (hiNumber (hisOf w p) n)
+            (every-at (HiIn (p .cell)) (record { group = 0; sequence = 0 }) (hisOf w p) n (valid w p ok .his) (omega (arith, valid w p ok .his-count)));
+      }
+
+  -- what the loops over the HIs require
+  pub his-known : {l : ℕ} → l ≡ spreadLength (p .cell) → HisIn l w (p .his .at) (p .his .count)
+  his-known e = his-in cell-his e
 
   -- ---- places
   pub pcfich-index : (t : ℕ) → pcfichIndex (p .cell) t ≡ indexOf w p Pcfich t

@@ -6,7 +6,7 @@ use native.Mathlib.Omega.{arith}
 use Rattle.plan.specs.Fields.{unitsOf}
 use Rattle.plan.specs.Valid.{CellIn}
 use Rattle.plan.specs.declared.Cell.{Cell}
-use Rattle.plan.proofs.Counts.{blocks-least, blocks-most, sixths-most, units-most}
+use Rattle.plan.proofs.Counts.{blocks-least, sixths-most, units-most}
 use Rattle.layout.specs.Rules.{unitGroup, formatGroup, isFormat, pcfich, unitHas, phich}
 use Rattle.layout.specs.Owners.{carriers}
 use Rattle.layout.proofs.Units.{units-fit}

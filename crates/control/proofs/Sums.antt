@@ -1,4 +1,4 @@
--- What `fill_phich` hands to `unit_sums` and `put_unit`, and that the sums by the word's bits are those by the pair's. Assumes nothing.
+-- What `unit_sums` and the functions over a unit's sums are handed, and that the sums by the word's bits are those by the pair's. Assumes nothing.
 use Prim.Native.Nat.{ℕ, _*_, _%_, _≤_}
 use mathlib.Core.Path.{_≡_, refl, sym, ap, _∙_, subst}
 use mathlib.Core.List.{List}
@@ -17,7 +17,7 @@ use Rattle.phich.specs.Loops.{chipOf, levelsAt, Levels, scrambledSums}
 use Rattle.phich.proofs.Units.{length-ok}
 use Rattle.phich.proofs.Scrambled.{scrambled-chips}
 use Rattle.plan.specs.declared.Cell.{Cell}
-use Rattle.grid.specs.Writing.{Written}
+use Rattle.grid.proofs.Accumulating.{Deed, Step, Accumulates}
 use Rattle.control.specs.Control.{phichSends, unitSent, phichSent}
 use Rattle.control.specs.Filling.{PhichIn, UnitIn}
 use Rattle.control.proofs.Words.{word-bits}
@@ -46,22 +46,24 @@ module _ {c : Cell} {m : ℕ} {part grid : List ℕ} (ok : PhichIn c m part grid
       (length-ok c, record { size = ok .levels .size; small = λ i r. let s = ok .levels .small i r in (omega (arith, s .0), omega (arith, s .1)) })
 
   module _ (w : ℕ) {sums : List Pair} (e : sums ≡ scrambledSums l (wordBit w) part) where
-    pub unit-ready : UnitIn c m sums grid
+    pub unit-ready : UnitIn c m sums
     unfolding scrambledSums
     unit-ready =
         record {
           cell = ok .cell;
           unit = ok .unit;
-          room = ok .room;
           small = λ i r.
               subst (λ (p : Pair). Small 8 p) (sym (ap (λ (s : List Pair). getD s i nil) e ∙ table-at 12 (λ (j : ℕ). turned (wordBit w (chipOf l j)) (levelsAt part (j % 4))) nil i r))
               (turned-small (wordBit w (chipOf l i)) 8 (levelsAt part (i % 4)) (ok .levels .small (i % 4) (omega arith)));
         }
 
     -- the sums by the word's bits are those by the pair's
-    pub by-pair : (r : Registers) → w ≡ wordOf r 12 → sums ≡ scrambledSums (spreadLength c) (outputs r) part
+    by-pair : (r : Registers) → w ≡ wordOf r 12 → sums ≡ scrambledSums (spreadLength c) (outputs r) part
     by-pair r h = e ∙ ap (λ (x : ℕ). scrambledSums x (wordBit w) part) is ∙ scrambled-chips (spreadLength c) (length-ok c) (wordBit w) (outputs r) (word-bits r w h) part
 
-    pub unit-done : (r : Registers) → w ≡ wordOf r 12 → {g : List ℕ} → Written (phichSends c m) (unitSent c m sums) grid g → Written (phichSends c m) (phichSent c m r part) grid g
+    -- what is written or compared by the one is by the other
+    pub unit-done :
+        (r : Registers) → w ≡ wordOf r 12 → {X : Type 0} {Done : Deed X} {Also : Step X} {none x : X} → Accumulates Done Also none
+        → Done (phichSends c m) (unitSent c m sums) x → Done (phichSends c m) (phichSent c m r part) x
     unfolding phichSent
-    unit-done r h v = rw (by-pair r h) at v
+    unit-done r h A v = rw (by-pair r h) at v

@@ -1,3 +1,3 @@
 pub mod Control
 pub mod Filling
-pub mod Reading
+pub mod Pairs

@@ -1,4 +1,2 @@
 -- Laws that the proofs cite.
-mod Pairs
-mod Turns
 mod AgainSums

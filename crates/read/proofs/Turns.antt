@@ -33,8 +33,8 @@ use Rattle.areas.specs.Tables.{RowMasks}
 use Rattle.constellation.specs.Axis.{Axis}
 use Rattle.data_read.specs.Reading.{areaBit, AreaReads}
 use Rattle.data_read.proofs.AreaBits.{pbch-section, user-section}
-use Rattle.control.specs.Reading.{ackFrom, ReadIn}
-use Rattle.control.proofs.ReadingOwners.{acks-are, read-in}
+use Rattle.control_read.specs.Reading.{ackFrom, ReadIn}
+use Rattle.control_read.proofs.ReadingOwners.{acks-are, read-in}
 use Rattle.channels.specs.declared.Channel.the-variants.{Pbch as PbchChannel, Phich as PhichChannel, User as UserChannel}
 use Rattle.channels.specs.Channels.{initOf, firstBit, Among}
 use Rattle.build.proofs.Slices.{From, from-first, from-user, from-next, start-room, user-valid, start-next, section-end, heads-room}

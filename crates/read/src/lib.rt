@@ -53,7 +53,7 @@ fn read_acks(plan: &[u8], p: Plan, grid: &[u8], payload: &mut [u8])
     let start = payload::section_bytes(payload::pbch_bits(p.cell, p.frame));
     let end = payload::users_start(p);
     let r = started(p, Channel::Phich(0));
-    control::read_his(r, p.cell, p.his, plan, grid, &mut payload[start..end]);
+    control_read::read_his(r, p.cell, p.his, plan, grid, &mut payload[start..end]);
 }
 
 // The table of an order's levels, where `have` is the order whose table it is, or 0.

@@ -1,7 +1,7 @@
--- Laws that the proofs cite. For the crates above: SignalOwners, where and what each signal writes, by its owner's rule; Stretches,
--- Values and Numbers, its elements and their values by their numbers.
+-- Laws that the proofs cite. For the crates above: ValueByValue, the loops over a signal's elements; Numbers, its elements by their numbers;
+-- SignalOwners, where and what each signal sends, by its owner's rule; Stretches and Values, what these stand on.
 pub mod Stretches
 pub mod Values
-mod Turns
+pub mod ValueByValue
 pub mod Numbers
 pub mod SignalOwners

@@ -1,6 +1,6 @@
 -- The signals' elements by their numbers. T is the number of places on a port, W that of a symbol's subcarriers. Assumes an accepted cell.
 use Prim.Native.Nat.{ℕ, suc, _+_, _-_, _*_, _/_, _%_, _≤_, _<_}
-use mathlib.Core.Path.{_≡_, refl, sym, ap, _∙_, subst}
+use mathlib.Core.Path.{_≡_, refl, sym, ap, _∙_}
 use mathlib.Core.Bool.{true, _&&_}
 use mathlib.Core.List.{List}
 use native.Mathlib.Nat.{add-mul, mul-assoc, mul-le-mul, div-add-mod', mod-lt}
@@ -28,11 +28,10 @@ use Rattle.layout.specs.Owners.{symbols, carriers}
 use Rattle.layout.proofs.Pilot.{slot-length}
 use Rattle.counts.proofs.Ranges.{big}
 use Rattle.places.specs.Places.{symbolAt, carrierAt, placesOf}
-use Rattle.grid.specs.Writing.{Written}
-use Rattle.grid.proofs.Writing.{same}
+use Rattle.grid.proofs.Accumulating.{Deed, Step, Accumulates}
 use Rattle.subframe.specs.Elements.{markNumber, pssElement, sssElement}
 use Rattle.signals.specs.Signals.{crsSends, crsFrom, crsSent, markSends, pssSent, sssSent}
-use Rattle.signals.specs.Rows.{MarkIn, SignalIn, everySixth, pairSent, inRow, phaseSent, levelSent}
+use Rattle.signals.specs.Rows.{MarkIn, SignalIn, crsPlace, everySixth, pairSent, inRow, phaseElement, phaseSent, levelElement, levelSent}
 use Rattle.signals.proofs.Stretches.{sixth-is, sixth-of, row-is as in-row, row-of}
 
 -- ---- the first element of a symbol
@@ -134,10 +133,10 @@ module _ (c : Cell) (s q a first : ℕ) (ok : CellIn c) (in-s : s < symbols c)
       back : (N k a first e : ℕ) → k % 6 ≡ a → e ≡ first + (k - a) → k < 12 * N → everySixth first (2 * N) e ≡ true
       back N k a first e m y l = sixth-is first (2 * N) e (omega arith) (omega arith) (omega arith)
 
-  pub crs-elements : (e : ℕ) → everySixth first (2 * c .blocks) e ≡ crsSends c s q e
+  crs-elements : (e : ℕ) → everySixth first (2 * c .blocks) e ≡ crsSends c s q e
   crs-elements e = same-test (everySixth first (2 * c .blocks) e) (crsSends c s q e) (sends e) (sent e)
 
-  pub crs-values : (r : Registers) (e : ℕ) → everySixth first (2 * c .blocks) e ≡ true → pairSent r first e ≡ crsSent c r e
+  crs-values : (r : Registers) (e : ℕ) → everySixth first (2 * c .blocks) e ≡ true → pairSent r first e ≡ crsSent c r e
   unfolding pairSent crsSent
   crs-values r e h =
       let d = there e h in
@@ -146,27 +145,32 @@ module _ (c : Cell) (s q a first : ℕ) (ok : CellIn c) (in-s : s < symbols c)
       number : (k x : ℕ) → k ≡ a + x → x % 6 ≡ 0 → x / 6 ≡ k / 6
       number k x e h = omega (arith, small)
 
--- as the code comes to them: the symbol's first element, the first subcarrier, and the blocks
-module _ (c : Cell) (s q : ℕ) {row a N : ℕ} (er : row ≡ q * placesOf c + s * carriers c)
-    (ea : a ≡ (crsShift c q s + c .identity) % 6) (eN : N ≡ c .blocks) {g : List ℕ} (ready : SignalIn c s q g) where
+-- as the code comes to them: the first element, and the blocks
+-- the sum of the symbol's first element and the first subcarrier
+pub crs-first : (c : Cell) (s q : ℕ) {row a : ℕ} → row ≡ q * placesOf c + s * carriers c → a ≡ (crsShift c q s + c .identity) % 6 → row + a ≡ crsPlace c s q
+unfolding crsPlace
+crs-first c s q er ea = rw (er, ea) refl
+
+-- two bits for each value
+pub crs-given : {N B : ℕ} → N ≡ B → (r : Registers) {result : Registers} → result ≡ after r (2 * (2 * N)) → result ≡ after r (4 * B)
+crs-given {N = N} {B = B} e r h = let bits : 2 * (2 * N) ≡ 4 * B = omega arith in h ∙ ap (after r) bits
+
+module _ {c : Cell} {s q : ℕ} {g : List ℕ} (ready : SignalIn c s q g) {first N : ℕ} (ef : first ≡ crsPlace c s q) (eN : N ≡ c .blocks) where
   -- the last one lies in the grid
-  pub crs-inside : 3 * (row + a + 6 * (2 * N)) + 2 < length g + 18
+  pub crs-inside : 3 * (first + 6 * (2 * N)) + 2 < length g + 18
+  unfolding crsPlace
   crs-inside =
       let in-row : s * carriers c + carriers c ≤ placesOf c = row-inside s (symbols c) (carriers c) (carriers c) (ready .symbol) (omega arith) in
       let in-port : q * placesOf c + placesOf c ≤ c .ports * placesOf c = row-inside q (c .ports) (placesOf c) (placesOf c) (ready .port) (omega arith) in
-      let l : a < 6 = omega arith in
       omega (arith, ready .room .size)
 
-  pub crs-done : (r : Registers) {h : List ℕ} {result : Registers}
-      → Written (everySixth (row + a) (2 * N)) (pairSent r (row + a)) g h × (result ≡ after r (2 * (2 * N)))
-      → Written (crsSends c s q) (crsSent c r) g h × (result ≡ after r (4 * c .blocks))
-  crs-done r {h} d =
-      let bits : 2 * (2 * N) ≡ 4 * c .blocks = omega arith in
-      let first : row + a ≡ q * placesOf c + s * carriers c + a = ap (λ (x : ℕ). x + a) er in
-      let w : Written (everySixth (row + a) (2 * c .blocks)) (pairSent r (row + a)) g h = subst (λ (n : ℕ). Written (everySixth (row + a) (2 * n)) (pairSent r (row + a)) g h) eN (d .0) in (
-        same (crs-elements c s q a (row + a) (ready .cell) (ready .symbol) ea first) (crs-values c s q a (row + a) (ready .cell) (ready .symbol) ea first r) w,
-        d .1 ∙ ap (after r) bits,
-      )
+  pub crs-done :
+      {X : Type 0} {Done : Deed X} {Also : Step X} {none x : X} → Accumulates Done Also none → (r : Registers)
+      → Done (everySixth first (2 * N)) (pairSent r first) x → Done (crsSends c s q) (crsSent c r) x
+  unfolding crsPlace
+  crs-done A r d =
+      let a = (crsShift c q s + c .identity) % 6 in
+      A .same (crs-elements c s q a first (ready .cell) (ready .symbol) refl ef) (crs-values c s q a first (ready .cell) (ready .symbol) refl ef r) (rw eN at d)
 
 -- ---- synchronisation signals
 module _ (c : Cell) (ok : CellIn c) (y first : ℕ) (in-y : (1 ≤ y) × (y ≤ 2)) (ef : first ≡ (slotLength c - y) * carriers c + (6 * c .blocks - 31)) where
@@ -219,29 +223,33 @@ module _ (c : Cell) (ok : CellIn c) (y first : ℕ) (in-y : (1 ≤ y) × (y ≤ 
       let at : e ≡ 0 * T + ((slotLength c - y) * carriers c + k) = number-of (carriers c) T e ∙ (λ i. eqb-true (e / T) 0 (and-left u v uv) i * T + (s′ i * carriers c + k)) in
       in-row first 62 e (omega arith) (omega (arith, mark-wide))
 
-  pub mark-elements : (e : ℕ) → inRow first 62 e ≡ markSends c y e
+  mark-elements : (e : ℕ) → inRow first 62 e ≡ markSends c y e
   mark-elements e = same-test (inRow first 62 e) (markSends c y e) (mark-sends e) (mark-sent e)
 
   mark-index : (e : ℕ) → inRow first 62 e ≡ true → e - first ≡ markNumber c (carrierAt c (e % placesOf c))
   unfolding markNumber
   mark-index e h = let d = mark-there e h in omega (arith, mark-wide, d .2)
 
-  pub phases : (e : ℕ) → inRow first 62 e ≡ true → phaseSent (c .identity) first e ≡ pssSent c e
-  unfolding phaseSent pssSent pssElement
+  phases : (e : ℕ) → inRow first 62 e ≡ true → phaseSent (c .identity) first e ≡ pssSent c e
+  unfolding phaseSent phaseElement pssSent pssElement
   phases e t = ap (λ (n : ℕ). record { unit = 63; i = pssPhase (c .identity) n; j = 0 }) (mark-index e t)
 
-  pub pss-done : {g h : List ℕ} → Written (inRow first 62) (phaseSent (c .identity) first) g h → Written (markSends c y) (pssSent c) g h
-  pss-done w = same mark-elements phases w
+  pub pss-done :
+      {X : Type 0} {Done : Deed X} {Also : Step X} {none x : X} → Accumulates Done Also none
+      → Done (inRow first 62) (phaseSent (c .identity) first) x → Done (markSends c y) (pssSent c) x
+  pss-done A w = A .same mark-elements phases w
 
-  pub levels : (f : Frame) (d : Sss) → d ≡ sssOf (c .identity) (f .subframe) → (e : ℕ) → inRow first 62 e ≡ true → levelSent d first e ≡ sssSent c f e
-  unfolding levelSent sssSent sssElement
+  levels : (f : Frame) (d : Sss) → d ≡ sssOf (c .identity) (f .subframe) → (e : ℕ) → inRow first 62 e ≡ true → levelSent d first e ≡ sssSent c f e
+  unfolding levelSent levelElement sssSent sssElement
   levels f d ed e t =
       let r = row-of first 62 e t in
       ap (λ (z : ℤ). elementOf 1 (record { re = z; im = pos 0 }))
       (ap (λ (x : Sss). levelIn x (e - first)) ed ∙ level-is (c .identity) (f .subframe) (e - first) (omega arith) ∙ ap (sssLevel (c .identity) (f .subframe)) (mark-index e t))
 
-  pub sss-done : (f : Frame) (d : Sss) {g h : List ℕ} → d ≡ sssOf (c .identity) (f .subframe) → Written (inRow first 62) (levelSent d first) g h → Written (markSends c y) (sssSent c f) g h
-  sss-done f d ed w = same mark-elements (levels f d ed) w
+  pub sss-done :
+      {X : Type 0} {Done : Deed X} {Also : Step X} {none x : X} → Accumulates Done Also none → (f : Frame) (d : Sss) → d ≡ sssOf (c .identity) (f .subframe)
+      → Done (inRow first 62) (levelSent d first) x → Done (markSends c y) (sssSent c f) x
+  sss-done A f d ed w = A .same mark-elements (levels f d ed) w
 
   -- they lie in the grid
   pub mark-inside : {g : List ℕ} → MarkIn c g → 3 * (first + 62) ≤ length g

@@ -68,6 +68,13 @@ sixth-only first e =
 pub sixth-one : (first m e : ℕ) → everySixth first (m + 1) e ≡ eqb (first + 6 * m) e || everySixth first m e
 sixth-one first m e = rw (← sixth-only (first + 6 * m) e) (sixth-more first m 1 e)
 
+-- those before are others
+pub sixth-apart : (first m n e : ℕ) → everySixth first m e ≡ true → everySixth (first + 6 * m) n e ≡ true → ⊥
+sixth-apart first m n e h k = let a = sixth-of first m e h in let b = sixth-of (first + 6 * m) n e k in omega arith
+
+pub sixth-past : (first m e : ℕ) → everySixth first m e ≡ true → eqb (first + 6 * m) e ≡ true → ⊥
+sixth-past first m e h k = let a = sixth-of first m e h in let b = eqb-true (first + 6 * m) e k in omega arith
+
 -- ---- all
 pub row-is : (first n e : ℕ) → first ≤ e → e < first + n → inRow first n e ≡ true
 unfolding inRow
@@ -96,3 +103,6 @@ row-one first i e =
     up : (eqb (first + i) e ≡ true) ⊎ (inRow first i e ≡ true) → inRow first (i + 1) e ≡ true
     up (inl l) = let d = eqb-true (first + i) e l in row-is first (i + 1) e (omega arith) (omega arith)
     up (inr l) = let d = row-of first i e l in row-is first (i + 1) e (d .0) (omega arith)
+
+pub row-past : (first i e : ℕ) → inRow first i e ≡ true → eqb (first + i) e ≡ true → ⊥
+row-past first i e h k = let a = row-of first i e h in let b = eqb-true (first + i) e k in omega arith

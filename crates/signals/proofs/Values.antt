@@ -26,7 +26,7 @@ use Rattle.sync.specs.declared.Sss.{Sss}
 use Rattle.sync.specs.Pss.{pssPhase}
 use Rattle.sync.specs.Inner.{bitIn, levelIn}
 use Rattle.signals.specs.Signals.{crsFrom}
-use Rattle.signals.specs.Rows.{everySixth, valueIn, wordSent, pairSent, phaseSent, levelSent}
+use Rattle.signals.specs.Rows.{everySixth, valueIn, wordSent, pairSent, phaseElement, phaseSent, levelElement, levelSent}
 use Rattle.signals.proofs.Stretches.{sixth-of}
 
 -- ---- value i of a word
@@ -90,14 +90,20 @@ pair-next r m count ep en =
 past-first : (first i : ℕ) → i ≡ first + i - first
 past-first first i = omega arith
 
-pub phase-value : (C first i : ℕ) {phase : ℕ} → phase ≡ pssPhase C i → _≡_ {A = Element} (record { unit = 63; i = phase; j = 0 }) (phaseSent C first (first + i))
+pub phase-made : (C i : ℕ) {phase : ℕ} → phase ≡ pssPhase C i → _≡_ {A = Element} (record { unit = 63; i = phase; j = 0 }) (phaseElement C i)
+unfolding phaseElement
+phase-made C i e = ap (λ (x : ℕ). record { unit = 63; i = x; j = 0 }) e
+
+pub phase-value : (C first i : ℕ) {el : Element} → el ≡ phaseElement C i → el ≡ phaseSent C first (first + i)
 unfolding phaseSent
-phase-value C first i e = ap (λ (x : ℕ). record { unit = 63; i = x; j = 0 }) (e ∙ ap (pssPhase C) (past-first first i))
+phase-value C first i e = e ∙ ap (phaseElement C) (past-first first i)
 
 -- a level goes through an i8
-pub level-value :
-    (d : Sss) (first i : ℕ) {level : ℤ} {el : Element} → level ≡ levelIn d i → el ≡ elementOf 1 (record { re = toZ w8 (ofZ w8 level); im = pos 0 })
-    → el ≡ levelSent d first (first + i)
-unfolding levelSent levelIn
-level-value d first i e ee =
-    ee ∙ ap (λ (x : ℤ). elementOf 1 (record { re = x; im = pos 0 })) (held (bitIn d i) e ∙ ap (levelIn d) (past-first first i))
+pub level-made :
+    (d : Sss) (i : ℕ) {level : ℤ} {el : Element} → level ≡ levelIn d i → el ≡ elementOf 1 (record { re = toZ w8 (ofZ w8 level); im = pos 0 }) → el ≡ levelElement d i
+unfolding levelElement levelIn
+level-made d i e ee = ee ∙ ap (λ (x : ℤ). elementOf 1 (record { re = x; im = pos 0 })) (held (bitIn d i) e)
+
+pub level-value : (d : Sss) (first i : ℕ) {el : Element} → el ≡ levelElement d i → el ≡ levelSent d first (first + i)
+unfolding levelSent
+level-value d first i e = e ∙ ap (levelElement d) (past-first first i)

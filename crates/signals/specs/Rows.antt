@@ -1,4 +1,4 @@
--- For the inner contracts and loops only: what filling a signal needs, and its elements by their numbers, from the first one on.
+-- For the inner contracts and loops only: what the functions over a signal need, and its elements by their numbers, from the first one on.
 use Prim.Native.Nat.{ℕ, _+_, _-_, _*_, _/_, _%_, _^_, _<_}
 use mathlib.Core.Bool.{Bool, _&&_}
 use mathlib.Core.List.{List}
@@ -13,7 +13,8 @@ use Rattle.sync.specs.Pss.{pssPhase}
 use Rattle.sync.specs.Inner.{levelIn}
 use Rattle.plan.specs.Valid.{CellIn}
 use Rattle.plan.specs.declared.Cell.{Cell}
-use Rattle.layout.specs.Owners.{symbols}
+use Rattle.layout.specs.Rules.{crsShift}
+use Rattle.layout.specs.Owners.{symbols, carriers}
 use Rattle.places.specs.Places.{placesOf}
 use Rattle.grid.specs.Writing.{Room}
 use Rattle.signals.specs.Signals.{crsFrom}
@@ -29,6 +30,10 @@ pub record SignalIn (c : Cell) (s q : ℕ) (grid : List ℕ) : Type 0 where
   pub symbol : s < symbols c
   pub port : q < c .ports
   pub room : Room (c .ports) (placesOf c) grid
+
+-- the first element of a port's reference signal in symbol s
+unfoldable pub crsPlace : Cell → ℕ → ℕ → ℕ
+crsPlace c s q = q * placesOf c + s * carriers c + (crsShift c q s + c .identity) % 6
 
 -- ---- reference signals: n elements, every sixth from `first` on
 unfoldable pub everySixth : ℕ → ℕ → ℕ → Bool
@@ -49,8 +54,14 @@ pairSent r first e = elementOf 2 (crsFrom r ((e - first) / 6))
 unfoldable pub inRow : ℕ → ℕ → ℕ → Bool
 inRow first n e = leb first e && ltb e (first + n)
 
+unfoldable pub phaseElement : ℕ → ℕ → Element
+phaseElement C i = record { unit = 63; i = pssPhase C i; j = 0 }
+
 unfoldable pub phaseSent : ℕ → ℕ → ℕ → Element
-phaseSent C first e = record { unit = 63; i = pssPhase C (e - first); j = 0 }
+phaseSent C first e = phaseElement C (e - first)
+
+unfoldable pub levelElement : Sss → ℕ → Element
+levelElement d i = elementOf 1 (record { re = levelIn d i; im = pos 0 })
 
 unfoldable pub levelSent : Sss → ℕ → ℕ → Element
-levelSent d first e = elementOf 1 (record { re = levelIn d (e - first); im = pos 0 })
+levelSent d first e = levelElement d (e - first)

@@ -1,24 +1,19 @@
-// The reference and synchronisation signals of a subframe, written into its grid (TS 36.211 6.10.1.2, 6.11.1.2, 6.11.2.2).
+// What writing and comparing the reference and synchronisation signals of a subframe share (TS 36.211 6.10.1.2, 6.11.1.2, 6.11.2.2): the
+// numbers of their first elements, and the elements of the synchronisation signals.
 use base::Element;
 use base::Pair;
-use gold::Registers;
 use plan::Cell;
-use plan::Frame;
 use sync::Sss;
 ghost use mathlib.Core.Path.{_≡_};
 ghost use Prim.Native.Nat.{_+_, _-_, _*_, _≤_, _<_};
-ghost use lib.ListN.{length};
-ghost use Rattle.gold.specs.Steps.{after};
 ghost use Rattle.plan.specs.Valid.{CellIn};
 ghost use Rattle.layout.specs.Rules.{slotLength};
-ghost use Rattle.layout.specs.Owners.{carriers};
+ghost use Rattle.layout.specs.Owners.{symbols, carriers};
 ghost use Rattle.places.specs.Places.{placesOf};
-ghost use Rattle.grid.specs.Writing.{Written};
-ghost use Rattle.signals.specs.Signals.{crsSends, crsSent, markSends, pssSent, sssSent};
-ghost use Rattle.signals.specs.Rows.{MarkIn, SignalIn, everySixth, wordSent, pairSent, inRow, phaseSent, levelSent};
+ghost use Rattle.signals.specs.Rows.{crsPlace, phaseElement, levelElement};
 
 // The number of the first element of symbol s on a port. Callers ask inside a grid: at most 14 symbols.
-pub fn row_at(cell: Cell, s: usize, port: u8) -> usize
+fn row_at(cell: Cell, s: usize, port: u8) -> usize
     requires { ⌜ s < 14 ⌝ }
     ensures { λ r. ⌜ r ≡ port * placesOf cell + s * carriers cell ⌝ }
 {
@@ -26,18 +21,12 @@ pub fn row_at(cell: Cell, s: usize, port: u8) -> usize
     rows * layout::carriers(cell)
 }
 
-// The n values of a word of 2n bits, at every sixth element. Callers take n from `at_once`, and the last element lies in the grid.
-fn fill_word(word: u32, n: usize, first: usize, grid: &mut [u8])
-    requires { ⌜ (n ≤ 14) × (3 * (first + 6 * n) + 2 < length (now grid) + 18) ⌝ }
-    ensures { λ _. ⌜ Written (everySixth first n) (wordSent word n first) (now (grid .entry)) (now (grid .exit)) ⌝ }
+// The number of the first element of a port's reference signal in symbol s. Callers have the cell from an accepted plan.
+pub fn crs_at(cell: Cell, s: usize, port: u8) -> usize
+    requires { ⌜ CellIn cell × (s < symbols cell) × (port < cell .ports) ⌝ }
+    ensures { λ r. ⌜ r ≡ crsPlace cell s port ⌝ }
 {
-    let mut i: usize = 0;
-    while i < n {
-        let low = 2 * (n - 1 - i);
-        let d = crs::value((word >> low) % 4);
-        grid::put(grid, first + 6 * i, base::element_of(2, d));
-        i += 1;
-    }
+    row_at(cell, s, port) + layout::crs_first(cell, port, s)
 }
 
 // How many of the values left go into one word of the sequence: two bits each, 28 bits at most.
@@ -46,33 +35,6 @@ pub fn at_once(left: usize) -> usize
     ensures { λ r. ⌜ (0 < r) × (r ≤ 14) × (r ≤ left) ⌝ }
 {
     if left < 14 { left } else { 14 }
-}
-
-// The first n values that the pair gives, at every sixth element, and the pair after them. The last element lies in the grid.
-fn fill_values(r: Registers, n: usize, first: usize, grid: &mut [u8]) -> Registers
-    requires { ⌜ 3 * (first + 6 * n) + 2 < length (now grid) + 18 ⌝ }
-    ensures { λ result. ⌜ Written (everySixth first n) (pairSent r first) (now (grid .entry)) (now (grid .exit)) × (result ≡ after r (2 * n)) ⌝ }
-{
-    let mut pair = r;
-    let mut m: usize = 0;
-    while m < n {
-        let count = at_once(n - m);
-        let bits = (2 * count) as u32;
-        fill_word(gold::word(pair, bits), count, first + 6 * m, grid);
-        pair = gold::advance(pair, bits);
-        m += count;
-    }
-    pair
-}
-
-// A port's reference signal in symbol s, from the pair that stands at the symbol's first value. Callers have the cell from an
-// accepted plan, and have compared the grid's length.
-pub fn fill_crs(r: Registers, cell: Cell, s: usize, port: u8, grid: &mut [u8]) -> Registers
-    requires { ⌜ SignalIn cell s port (now grid) ⌝ }
-    ensures { λ result. ⌜ Written (crsSends cell s port) (crsSent cell r) (now (grid .entry)) (now (grid .exit)) × (result ≡ after r (4 * cell .blocks)) ⌝ }
-{
-    let first = row_at(cell, s, port) + layout::crs_first(cell, port, s);
-    fill_values(r, 2 * base::wide(cell.blocks), first, grid)
 }
 
 // The number of the first of 62 elements in the middle of the symbol that stands y from the first slot's end, on port 0.
@@ -84,58 +46,24 @@ pub fn mark_at(cell: Cell, y: usize) -> usize
     row_at(cell, s, 0) + (6 * base::wide(cell.blocks) - 31)
 }
 
-// The primary signal's 62 elements, unit 63.
-fn fill_phases(identity: u16, first: usize, grid: &mut [u8])
-    requires { ⌜ 3 * (first + 62) ≤ length (now grid) ⌝ }
-    ensures { λ _. ⌜ Written (inRow first 62) (phaseSent identity first) (now (grid .entry)) (now (grid .exit)) ⌝ }
+// Number i of the primary signal's 62 elements, unit 63.
+pub fn phase_element(identity: u16, i: usize) -> Element
+    requires { ⌜ i < 62 ⌝ }
+    ensures { λ r. ⌜ r ≡ phaseElement identity i ⌝ }
 {
-    let mut i: usize = 0;
-    while i < 62 {
-        let phase = sync::pss_phase(identity, i);
-        grid::put(
-            grid,
-            first + i,
-            Element {
-                unit: 63,
-                i: phase,
-                j: 0,
-            },
-        );
-        i += 1;
+    let phase = sync::pss_phase(identity, i);
+    Element {
+        unit: 63,
+        i: phase,
+        j: 0,
     }
 }
 
-// The secondary signal's 62 elements, unit 1.
-fn fill_levels(d: Sss, first: usize, grid: &mut [u8])
-    requires { ⌜ 3 * (first + 62) ≤ length (now grid) ⌝ }
-    ensures { λ _. ⌜ Written (inRow first 62) (levelSent d first) (now (grid .entry)) (now (grid .exit)) ⌝ }
+// Number i of the secondary signal's 62 elements, unit 1.
+pub fn level_element(d: Sss, i: usize) -> Element
+    requires { ⌜ i < 62 ⌝ }
+    ensures { λ r. ⌜ r ≡ levelElement d i ⌝ }
 {
-    let mut i: usize = 0;
-    while i < 62 {
-        let level = sync::sss_level(d, i);
-        grid::put(
-            grid,
-            first + i,
-            base::element_of(1, Pair { re: level, im: 0 }),
-        );
-        i += 1;
-    }
-}
-
-// PSS, in the last symbol of the first slot. Callers have the cell from an accepted plan whose subframe has the signal, and have
-// compared the grid's length.
-pub fn fill_pss(cell: Cell, grid: &mut [u8])
-    requires { ⌜ MarkIn cell (now grid) ⌝ }
-    ensures { λ _. ⌜ Written (markSends cell 1) (pssSent cell) (now (grid .entry)) (now (grid .exit)) ⌝ }
-{
-    fill_phases(cell.identity, mark_at(cell, 1), grid);
-}
-
-// SSS, one symbol earlier. Callers as for PSS.
-pub fn fill_sss(cell: Cell, frame: Frame, grid: &mut [u8])
-    requires { ⌜ MarkIn cell (now grid) ⌝ }
-    ensures { λ _. ⌜ Written (markSends cell 2) (sssSent cell frame) (now (grid .entry)) (now (grid .exit)) ⌝ }
-{
-    let d = sync::sss_for(cell.identity, frame.subframe);
-    fill_levels(d, mark_at(cell, 2), grid);
+    let level = sync::sss_level(d, i);
+    base::element_of(1, Pair { re: level, im: 0 })
 }

@@ -1,3 +1,2 @@
 -- Laws that the proofs cite.
-mod Turns
-mod Signals
+mod Differing

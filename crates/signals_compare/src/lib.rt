@@ -1,6 +1,4 @@
 // The reference and synchronisation signals of a subframe, compared with those in a grid (TS 36.211 6.10.1.2, 6.11.1.2, 6.11.2.2).
-use base::Element;
-use base::Pair;
 use compare::Seen;
 use gold::Registers;
 use plan::Cell;
@@ -69,11 +67,11 @@ pub fn compare_crs(r: Registers, cell: Cell, s: usize, port: u8, grid: &[u8]) ->
     requires { ⌜ SignalIn cell s port (now grid) ⌝ }
     ensures { λ seen. ⌜ Compared (crsSends cell s port) (crsSent cell r) (now (grid .entry)) seen ⌝ }
 {
-    let first = signals::row_at(cell, s, port) + layout::crs_first(cell, port, s);
+    let first = signals::crs_at(cell, s, port);
     compare_values(r, 2 * base::wide(cell.blocks), first, grid)
 }
 
-// The primary signal's 62 elements, unit 63.
+// The primary signal's 62 elements.
 fn compare_phases(identity: u16, first: usize, grid: &[u8]) -> Seen
     requires { ⌜ (3 * (first + 62) ≤ length (now grid)) × (length (now grid) ≤ 201600) ⌝ }
     ensures { λ r. ⌜ Compared (inRow first 62) (phaseSent identity first) (now (grid .entry)) r ⌝ }
@@ -81,19 +79,14 @@ fn compare_phases(identity: u16, first: usize, grid: &[u8]) -> Seen
     let mut seen = Seen::Weight(0);
     let mut i: usize = 0;
     while i < 62 {
-        let phase = sync::pss_phase(identity, i);
-        let el = Element {
-            unit: 63,
-            i: phase,
-            j: 0,
-        };
+        let el = signals::phase_element(identity, i);
         seen = compare::both(seen, compare::look(grid, first + i, el));
         i += 1;
     }
     seen
 }
 
-// The secondary signal's 62 elements, unit 1.
+// The secondary signal's 62 elements.
 fn compare_levels(d: Sss, first: usize, grid: &[u8]) -> Seen
     requires { ⌜ (3 * (first + 62) ≤ length (now grid)) × (length (now grid) ≤ 201600) ⌝ }
     ensures { λ r. ⌜ Compared (inRow first 62) (levelSent d first) (now (grid .entry)) r ⌝ }
@@ -101,8 +94,7 @@ fn compare_levels(d: Sss, first: usize, grid: &[u8]) -> Seen
     let mut seen = Seen::Weight(0);
     let mut i: usize = 0;
     while i < 62 {
-        let level = sync::sss_level(d, i);
-        let el = base::element_of(1, Pair { re: level, im: 0 });
+        let el = signals::level_element(d, i);
         seen = compare::both(seen, compare::look(grid, first + i, el));
         i += 1;
     }

@@ -45,9 +45,9 @@ use Rattle.signals.specs.Signals.{crsSends, crsSent, markSends, pssSent, sssSen
 use Rattle.signals.specs.Rows.{MarkIn, SignalIn}
 use Rattle.control.specs.Control.{pcfichSends, pcfichSent, phichSends, phichSent}
 use Rattle.control.specs.Filling.{PhichIn}
-use Rattle.control.specs.Reading.{HisRead, ackFrom}
+use Rattle.control_read.specs.Reading.{HisRead, ackFrom}
 use Rattle.control.proofs.ControlOwners.{phich-in, part-levels}
-use Rattle.control.proofs.ReadingOwners.{acks-are, his-read}
+use Rattle.control_read.proofs.ReadingOwners.{acks-are, his-read}
 use Rattle.channels.specs.declared.Channel.the-variants.{Crs, Pcfich as PcfichChannel, Phich as PhichChannel}
 use Rattle.channels.specs.Channels.{initOf, firstBit, Among}
 use Rattle.build.specs.Senders.{someBelow, ownerSends, crsIn, crsPorts, crsRows, marksSend, pbchSends, unitsSend, usersSend, allSend}

@@ -1,7 +1,7 @@
--- `control_compare::compare_pair` meets its contract: the two places are not one. Assumes nothing.
-use native.Mathlib.Omega.{arith}
-use Rattle.control.proofs.PairPlaces.{first-ok}
-use Rattle.control_compare.proofs.Turns.{second-ok, both-few, pair-seen}
+-- `control_compare::compare_pair` meets its contract: one place, and the other. Assumes nothing.
+use Rattle.compare.proofs.Comparing.{widest, both-few}
+use Rattle.compare.proofs.Accumulating.{also, comparing}
+use Rattle.control.proofs.Pairs.{first-ok, second-ok, pair-done}
 use borrow.Author.Needs.{needs}
 use Rattle.control_compare.proofs.compare_pair.Statement.{statement}
 use Rattle.control_compare.proofs.compare_pair.Tie as tie
@@ -10,34 +10,41 @@ places-requires : tie.Need-places-requires
 places-requires c κs = search needs
 
 mul-quad-place : tie.Need-mul-quad-place
-mul-quad-place c = omega (arith, c .before .before .pre .half)
+mul-quad-place c = search needs
 
 quad-place-requires : tie.Need-quad-place-requires
-quad-place-requires c κs = (c .before .before .pre .group, omega (arith, c .before .before .pre .half))
+quad-place-requires c κs = search needs
 
 look-place-requires : tie.Need-look-place-requires
-look-place-requires c κs = first-ok (c .before .before .before .pre) (c .before .places .ensures) (c .quad-place .ensures)
+look-place-requires c κs =
+    let at-places = c .before .before in let entry = at-places .before .before in
+    first-ok (entry .pre .0) (entry .pre .1) (at-places .places .ensures) (c .quad-place .ensures)
 
 mul-quad-place-2 : tie.Need-mul-quad-place-2
-mul-quad-place-2 c = omega (arith, c .before .before .before .before .pre .half)
+mul-quad-place-2 c = search needs
 
 add-quad-place : tie.Need-add-quad-place
-add-quad-place c = omega (arith, c .before .before .before .before .pre .half)
+add-quad-place c = search needs
 
 quad-place-requires-2 : tie.Need-quad-place-requires-2
-quad-place-requires-2 c κs = (c .before .before .before .before .pre .group, omega (arith, c .before .before .before .before .pre .half))
+quad-place-requires-2 c κs = search needs
 
 look-place-requires-2 : tie.Need-look-place-requires-2
-look-place-requires-2 c κs = second-ok (c .before .before .before .before .before .pre) (c .before .before .before .places .ensures) (c .quad-place2 .ensures)
+look-place-requires-2 c κs =
+    let at-places = c .before .before .before .before .before in let entry = at-places .before .before in
+    second-ok (entry .pre .0) (entry .pre .1) (at-places .places .ensures) (c .quad-place2 .ensures)
 
 both-requires : tie.Need-both-requires
-both-requires c κs = both-few (c .before .before .before .before .before .before .pre) (c .before .before .look-place .ensures) (c .look-place2 .ensures)
+both-requires c κs =
+    let at-look-place = c .before .before .before in let entry = at-look-place .before .before .before .before .before in
+    both-few (widest (entry .pre .1)) (at-look-place .look-place .ensures) (c .look-place2 .ensures)
 
 returns : tie.Need-returns
 returns c =
-    pair-seen (c .before .before .before .before .before .before .before .pre) (c .before .before .before .before .before .places .ensures)
-    (c .before .before .before .before .before .before .before .args .turn) (c .before .before .before .before .quad-place .ensures) (c .before .before .quad-place2 .ensures)
-    (c .before .before .before .look-place .ensures) (c .before .look-place2 .ensures) (c .both .ensures)
+    let at-quad-place2 = c .before .before in let at-look-place = at-quad-place2 .before .before in let at-quad-place = at-look-place .before in
+    let at-places = at-quad-place .before .before in let entry = at-places .before .before in
+    pair-done (entry .pre .0) (comparing (entry .args .grid .now)) (at-places .places .ensures) (at-quad-place .quad-place .ensures)
+    (at-quad-place2 .quad-place2 .ensures) (at-look-place .look-place .ensures) (also (c .before .look-place2 .ensures) (c .both .ensures))
 
 pub compare-pair-spec : {M : Type 1} → statement M
 compare-pair-spec =

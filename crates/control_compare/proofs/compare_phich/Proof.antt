@@ -1,6 +1,6 @@
 -- `control_compare::compare_phich` meets its contract: the sums by the word's bits are those by the pair's. Assumes nothing.
-use Rattle.control.proofs.Sums.{part-ready, unit-ready}
-use Rattle.control_compare.proofs.AgainSums.{unit-seen}
+use Rattle.compare.proofs.Accumulating.{comparing}
+use Rattle.control.proofs.Sums.{part-ready, unit-ready, unit-done}
 use borrow.Author.Needs.{needs}
 use Rattle.control_compare.proofs.compare_phich.Statement.{statement}
 use Rattle.control_compare.proofs.compare_phich.Tie as tie
@@ -16,14 +16,14 @@ unit-sums-requires c κs = part-ready (c .before .before .before .before .pre) (
 
 compare-sums-requires : tie.Need-compare-sums-requires
 compare-sums-requires c κs =
-    unit-ready (c .before .before .before .before .before .pre) (c .before .before .spread-length .ensures) (c .before .word .result) (c .unit-sums
-    .ensures)
+    let entry = c .before .before .before .before .before in
+    (unit-ready (entry .pre) (c .before .before .spread-length .ensures) (c .before .word .result) (c .unit-sums .ensures), entry .pre .room)
 
 returns : tie.Need-returns
 returns c =
-    unit-seen (c .before .before .before .before .before .before .pre) (c .before .before .before .spread-length .ensures) (c .before .before .word
-    .result) (c .before .unit-sums .ensures) (c .before .before .before .before .before .before .args .r) (c .before .before .word .ensures) (c
-    .compare-sums .ensures)
+    let at-word = c .before .before in let at-length = at-word .before in let entry = at-length .before .before .before in
+    unit-done (entry .pre) (at-length .spread-length .ensures) (at-word .word .result) (c .before .unit-sums .ensures) (entry .args .r) (at-word .word .ensures)
+    (comparing (entry .args .grid .now)) (c .compare-sums .ensures)
 
 pub compare-phich-spec : {M : Type 1} → statement M
 compare-phich-spec =

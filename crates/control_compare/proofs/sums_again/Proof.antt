@@ -1,5 +1,5 @@
 -- `control_compare::sums_again` meets its contract: the bits from the first quads are those of the grid. Assumes nothing.
-use Rattle.control.proofs.Reading.{his-in}
+use Rattle.control.proofs.His.{his-in}
 use Rattle.control_compare.proofs.AgainSums.{again}
 use borrow.Author.Needs.{needs}
 use Rattle.control_compare.proofs.sums_again.Statement.{statement}
@@ -15,18 +15,16 @@ first-sums-requires : tie.Need-first-sums-requires
 first-sums-requires c κs = search needs
 
 sums-again-requires : tie.Need-sums-again-requires
-sums-again-requires c κs = (
-  his-in (c .before .before .before .before .before .before .before .before .pre .0) (c .before .before .before .before .before .spread-length
-      .ensures),
-  c .before .before .before .before .before .before .before .before .pre .1,
-)
+sums-again-requires c κs =
+    let at-length = c .before .before .before .before .before in let entry = at-length .before .before .before in
+    (his-in (entry .pre .0 .cell-his) (at-length .spread-length .ensures), entry .pre .1)
 
 returns : tie.Need-returns
 returns c =
-    again (c .before .before .before .before .before .before .before .before .before .pre .0) (c .before .before .before .first-sums .ensures) (c
-    .before .before .before .before .before .before .before .before .before .args .r) (c .before .before .before .before .before .word .result) (c
-    .before .before .before .before .before .before .spread-length .result) (c .before .before .before .before .before .word .ensures) (c .before
-    .before .before .before .before .before .spread-length .ensures) (c .sums-again .ensures)
+    let at-first-sums = c .before .before .before in let at-word = at-first-sums .before .before in let at-length = at-word .before in
+    let entry = at-length .before .before .before in
+    again (entry .pre .0) (at-first-sums .first-sums .ensures) (entry .args .r) (at-word .word .result) (at-length .spread-length .result) (at-word .word .ensures)
+    (at-length .spread-length .ensures) (c .sums-again .ensures)
 
 pub sums-again-spec : {M : Type 1} → statement M
 sums-again-spec =

@@ -1,25 +1,25 @@
 -- `signals_compare::compare_levels` meets its contract. The loop: the first i levels are compared. Assumes nothing.
 use Prim.Native.Nat.{_+_, _-_}
 use native.Mathlib.Omega.{arith}
+use Rattle.compare.proofs.Comparing.{both-few, looked}
+use Rattle.compare.proofs.Accumulating.{ComparedIn, also, comparing}
 use Rattle.signals.specs.Rows.{levelSent}
-use Rattle.signals_compare.proofs.Turns.{RowSeen, row-first, level-turn, row-last, few-looked}
+use Rattle.signals.proofs.ValueByValue.{RowDone, row-first, row-turn, row-last}
+use Rattle.signals.proofs.Values.{level-value}
 use Rattle.signals_compare.proofs.compare_levels.Statement.{statement}
 use Rattle.signals_compare.proofs.compare_levels.Tie as tie
 
 abbrev Inv-loop : tie.InvT-loop
-Inv-loop d first grid seen₀ i₀ seen i = RowSeen (levelSent d first) first grid i seen
+Inv-loop d first grid seen₀ i₀ seen i = RowDone (ComparedIn grid) (levelSent d first) first i seen
 
 abbrev μ-loop : tie.MeasureT-loop
 μ-loop d first grid seen₀ i₀ seen i = 62 - i
 
 loop-holds : tie.Need-loop-holds Inv-loop μ-loop
-loop-holds c = row-first (levelSent (c .before .args .d) (c .before .args .first)) (c .before .args .first) (c .before .args .grid .now)
+loop-holds c = row-first (comparing (c .before .args .grid .now)) (levelSent (c .before .args .d) (c .before .args .first)) (c .before .args .first)
 
-sss-level-requires : tie.Need-sss-level-requires Inv-loop μ-loop
-sss-level-requires c κs = c .loop-test .taken
-
-element-of-requires : tie.Need-element-of-requires Inv-loop μ-loop
-element-of-requires c κs = tt
+level-element-requires : tie.Need-level-element-requires Inv-loop μ-loop
+level-element-requires c κs = c .loop-test .taken
 
 add-look : tie.Need-add-look Inv-loop μ-loop
 add-look c = omega arith
@@ -29,8 +29,9 @@ look-requires c κs = omega arith
 
 both-requires : tie.Need-both-requires Inv-loop μ-loop
 both-requires c κs =
-    let c4 = c .before .before .before .before in let c6 = c4 .before .before in
-    few-looked (c6 .args .grid .now) (c6 .args .first + c4 .loop .i) (c .before .element-of .result) (c6 .pre .1) (c4 .loop .inv .found) (omega arith) (c .look .ensures)
+    let at-loop = c .before .before .before in let entry = at-loop .before .before in
+    both-few (entry .pre .1) (at-loop .loop .inv .done) (looked (entry .args .grid .now) (entry .args .first + at-loop .loop .i)
+    (c .before .level-element .result) (omega arith) (c .look .ensures))
 
 add-i : tie.Need-add-i Inv-loop μ-loop
 add-i c = omega arith
@@ -40,14 +41,17 @@ loop-less c = omega arith
 
 loop-again : tie.Need-loop-again Inv-loop μ-loop
 loop-again c =
-    let c2 = c .before .before in let c3 = c2 .before in let c4 = c3 .before in let c5 = c4 .before in let c7 = c5 .before .before in
-    level-turn (c7 .args .d) (c7 .args .first) (c7 .args .grid .now) (c5 .loop .i) (c4 .loop-test .taken) (omega arith) (c5 .loop .inv) (c3 .sss-level .ensures) (c2 .element-of .ensures)
-    (c .before .look .ensures) (c .both .ensures)
+    let at-level-element = c .before .before in let at-loop-test = at-level-element .before in let at-loop = at-loop-test .before in
+    let entry = at-loop .before .before in
+    row-turn (comparing (entry .args .grid .now)) (at-loop .loop .inv) (at-loop-test .loop-test .taken)
+    (level-value (entry .args .d) (entry .args .first) (at-loop .loop .i) (at-level-element .level-element .ensures)) (also
+    (looked (entry .args .grid .now) (entry .args .first + at-loop .loop .i) (at-level-element .level-element .result) (omega arith) (c .before .look .ensures))
+    (c .both .ensures))
 
 returns : tie.Need-returns Inv-loop μ-loop
 returns c =
-    let c3 = c .before .before .before in
-    row-last (levelSent (c3 .args .d) (c3 .args .first)) (c3 .args .first) (c .before .loop .i) (c .before .loop .inv) (omega arith)
+    let entry = c .before .before .before in
+    row-last (comparing (entry .args .grid .now)) (c .before .loop .inv) (omega arith)
 
 pub compare-levels-spec : {M : Type 1} → statement M
 compare-levels-spec =
@@ -56,8 +60,7 @@ compare-levels-spec =
     Inv-loop
     μ-loop
     loop-holds
-    sss-level-requires
-    element-of-requires
+    level-element-requires
     add-look
     look-requires
     both-requires

@@ -2,18 +2,19 @@
 -- Assumes nothing.
 use Prim.Native.Nat.{_-_}
 use native.Mathlib.Omega.{arith}
-use Rattle.signals_compare.proofs.Turns.{ValuesSeen, values-first, values-turn, values-same, values-differ}
+use Rattle.signals.proofs.ValueByValue.{ValuesDone, values-first, values-turn, values-last}
+use Rattle.signals_compare.proofs.Differing.{DifferingIn, differing, also-differing, values-same, values-differ}
 use Rattle.signals_compare.proofs.compare_values.Statement.{statement}
 use Rattle.signals_compare.proofs.compare_values.Tie as tie
 
 abbrev Inv-loop : tie.InvT-loop
-Inv-loop n first grid differ₀ pair₀ m₀ differ pair m = ValuesSeen pair₀ n first grid pair m differ
+Inv-loop n first grid differ₀ pair₀ m₀ differ pair m = ValuesDone (DifferingIn grid) pair₀ n first pair m differ
 
 abbrev μ-loop : tie.MeasureT-loop
 μ-loop n first grid differ₀ pair₀ m₀ differ pair m = n - m
 
 loop-holds : tie.Need-loop-holds Inv-loop μ-loop
-loop-holds c = values-first (c .before .args .r) (c .before .args .n) (c .before .args .first) (c .before .args .grid .now)
+loop-holds c = values-first (differing (c .before .args .grid .now)) (c .before .args .r) (c .before .args .n) (c .before .args .first)
 
 sub-at-once : tie.Need-sub-at-once Inv-loop μ-loop
 sub-at-once c = omega arith
@@ -40,28 +41,39 @@ compare-word-requires : tie.Need-compare-word-requires Inv-loop μ-loop
 compare-word-requires c κs = (c .before .at-once .ensures .1, omega (arith, c .before .at-once .ensures))
 
 advance-requires : tie.Need-advance-requires Inv-loop μ-loop
-advance-requires c κs = (omega (arith, c .before .before .at-once .ensures), omega (arith, c .before .before .at-once .ensures))
+advance-requires c κs =
+    let at-at-once = c .before .before in
+    (omega (arith, at-at-once .at-once .ensures), omega (arith, at-at-once .at-once .ensures))
 
 add-m : tie.Need-add-m Inv-loop μ-loop
-add-m c = omega (arith, c .before .before .before .at-once .ensures)
+add-m c =
+    let at-at-once = c .before .before .before in
+    omega (arith, at-at-once .at-once .ensures)
 
 loop-less : tie.Need-loop-less Inv-loop μ-loop
-loop-less c = omega (arith, c .before .before .before .at-once .ensures)
+loop-less c =
+    let at-at-once = c .before .before .before in
+    omega (arith, at-at-once .at-once .ensures)
 
 loop-again : tie.Need-loop-again Inv-loop μ-loop
 loop-again c =
-    let c2 = c .before .before in let c3 = c2 .before in let c5 = c3 .before .before in
-    values-turn (c5 .loop .inv) (c3 .at-once .result) (c2 .word .result) (omega (arith, c3 .at-once .ensures)) (c2 .word .ensures)
-    (c .before .compare-word .ensures) (c .advance .ensures)
+    let at-word = c .before .before in let at-at-once = at-word .before in let at-loop = at-at-once .before .before in
+    let entry = at-loop .before .before in
+    values-turn (differing (entry .args .grid .now)) (at-at-once .at-once .result) (at-word .word .result) (at-loop .loop .inv)
+    (omega (arith, at-at-once .at-once .ensures)) (at-word .word .ensures) (also-differing (c .before .compare-word .ensures)) (c .advance .ensures)
 
 mul-weight : tie.Need-mul-weight Inv-loop μ-loop
 mul-weight c = omega arith
 
 returns : tie.Need-returns Inv-loop μ-loop
-returns c = values-same (c .before .before .loop .inv) (omega arith) (c .before .before .before .before .pre) (c .if1 .taken)
+returns c =
+    let at-loop = c .before .before in let entry = at-loop .before .before in
+    values-same (entry .args .r) (entry .args .n) (entry .args .first) (values-last (differing (entry .args .grid .now)) (at-loop .loop .inv) (omega arith) .0) (entry .pre) (c .if1 .taken)
 
 returns-2 : tie.Need-returns-2 Inv-loop μ-loop
-returns-2 c = values-differ (c .before .before .loop .inv) (omega arith) (c .if1 .left)
+returns-2 c =
+    let at-loop = c .before .before in let entry = at-loop .before .before in
+    values-differ (entry .args .r) (entry .args .n) (entry .args .first) (values-last (differing (entry .args .grid .now)) (at-loop .loop .inv) (omega arith) .0) (c .if1 .left)
 
 pub compare-values-spec : {M : Type 1} → statement M
 compare-values-spec =

@@ -1,18 +1,20 @@
 -- `signals_compare::compare_word` meets its contract. The loop: the first i values are compared. Assumes nothing.
-use Prim.Native.Nat.{_-_}
+use Prim.Native.Nat.{_+_, _-_, _*_}
 use native.Mathlib.Omega.{arith}
-use Rattle.signals_compare.proofs.Turns.{WordSeen, word-first, word-turn, word-last}
+use mathlib.Core.Path.{refl}
+use Rattle.signals.proofs.ValueByValue.{WordDone, word-first, word-turn, word-last}
+use Rattle.signals_compare.proofs.Differing.{DifferingIn, differing, also-differing, numbered}
 use Rattle.signals_compare.proofs.compare_word.Statement.{statement}
 use Rattle.signals_compare.proofs.compare_word.Tie as tie
 
 abbrev Inv-loop : tie.InvT-loop
-Inv-loop word n first grid differ₀ i₀ differ i = WordSeen word n first grid i differ
+Inv-loop word n first grid differ₀ i₀ differ i = WordDone (DifferingIn grid) word n first i differ
 
 abbrev μ-loop : tie.MeasureT-loop
 μ-loop word n first grid differ₀ i₀ differ i = n - i
 
 loop-holds : tie.Need-loop-holds Inv-loop μ-loop
-loop-holds c = word-first (c .before .args .word) (c .before .args .n) (c .before .args .first) (c .before .args .grid .now)
+loop-holds c = word-first (differing (c .before .args .grid .now)) (c .before .args .word) (c .before .args .n) (c .before .args .first)
 
 sub-low : tie.Need-sub-low Inv-loop μ-loop
 sub-low c = omega arith
@@ -52,11 +54,14 @@ loop-less c = omega arith
 
 loop-again : tie.Need-loop-again Inv-loop μ-loop
 loop-again c =
-    let c2 = c .before .before in let c3 = c2 .before in
-    word-turn (c3 .loop .inv) (c2 .loop-test .taken) (c .before .three-at .ensures) (c .number-of .ensures)
+    let at-loop-test = c .before .before in let at-loop = at-loop-test .before in let entry = at-loop .before .before in
+    word-turn (differing (entry .args .grid .now)) (at-loop .loop .inv) (at-loop-test .loop-test .taken) refl (c .number-of .ensures .0) (also-differing
+    (numbered (entry .args .first + 6 * at-loop .loop .i) (c .before .three-at .ensures) (c .number-of .ensures .1)))
 
 returns : tie.Need-returns Inv-loop μ-loop
-returns c = word-last (c .before .loop .inv) (omega arith)
+returns c =
+    let entry = c .before .before .before in
+    word-last (differing (entry .args .grid .now)) (c .before .loop .inv) (omega arith)
 
 pub compare-word-spec : {M : Type 1} → statement M
 compare-word-spec =

@@ -1,6 +1,6 @@
 -- `signals_compare::number_of` meets its contract. Assumes nothing.
 use native.Mathlib.Omega.{arith}
-use Rattle.signals_compare.proofs.Turns.{number-is}
+use Rattle.signals_compare.proofs.Differing.{number-is}
 use borrow.Author.Needs.{needs}
 use Rattle.signals_compare.proofs.number_of.Statement.{statement}
 use Rattle.signals_compare.proofs.number_of.Tie as tie

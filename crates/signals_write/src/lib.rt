@@ -1,0 +1,95 @@
+// The reference and synchronisation signals of a subframe, written into its grid (TS 36.211 6.10.1.2, 6.11.1.2, 6.11.2.2).
+use gold::Registers;
+use plan::Cell;
+use plan::Frame;
+use sync::Sss;
+ghost use mathlib.Core.Path.{_≡_};
+ghost use Prim.Native.Nat.{_+_, _*_, _≤_, _<_};
+ghost use lib.ListN.{length};
+ghost use Rattle.gold.specs.Steps.{after};
+ghost use Rattle.grid.specs.Writing.{Written};
+ghost use Rattle.signals.specs.Signals.{crsSends, crsSent, markSends, pssSent, sssSent};
+ghost use Rattle.signals.specs.Rows.{MarkIn, SignalIn, everySixth, wordSent, pairSent, inRow, phaseSent, levelSent};
+
+// The n values of a word of 2n bits, at every sixth element. Callers take n from `signals::at_once`, and the last element lies in the grid.
+fn fill_word(word: u32, n: usize, first: usize, grid: &mut [u8])
+    requires { ⌜ (n ≤ 14) × (3 * (first + 6 * n) + 2 < length (now grid) + 18) ⌝ }
+    ensures { λ _. ⌜ Written (everySixth first n) (wordSent word n first) (now (grid .entry)) (now (grid .exit)) ⌝ }
+{
+    let mut i: usize = 0;
+    while i < n {
+        let low = 2 * (n - 1 - i);
+        let d = crs::value((word >> low) % 4);
+        grid::put(grid, first + 6 * i, base::element_of(2, d));
+        i += 1;
+    }
+}
+
+// The first n values that the pair gives, at every sixth element, and the pair after them. The last element lies in the grid.
+fn fill_values(r: Registers, n: usize, first: usize, grid: &mut [u8]) -> Registers
+    requires { ⌜ 3 * (first + 6 * n) + 2 < length (now grid) + 18 ⌝ }
+    ensures { λ result. ⌜ Written (everySixth first n) (pairSent r first) (now (grid .entry)) (now (grid .exit)) × (result ≡ after r (2 * n)) ⌝ }
+{
+    let mut pair = r;
+    let mut m: usize = 0;
+    while m < n {
+        let count = signals::at_once(n - m);
+        let bits = (2 * count) as u32;
+        fill_word(gold::word(pair, bits), count, first + 6 * m, grid);
+        pair = gold::advance(pair, bits);
+        m += count;
+    }
+    pair
+}
+
+// A port's reference signal in symbol s, from the pair that stands at the symbol's first value. Callers have the cell from an
+// accepted plan, and have compared the grid's length.
+pub fn fill_crs(r: Registers, cell: Cell, s: usize, port: u8, grid: &mut [u8]) -> Registers
+    requires { ⌜ SignalIn cell s port (now grid) ⌝ }
+    ensures { λ result. ⌜ Written (crsSends cell s port) (crsSent cell r) (now (grid .entry)) (now (grid .exit)) × (result ≡ after r (4 * cell .blocks)) ⌝ }
+{
+    let first = signals::crs_at(cell, s, port);
+    fill_values(r, 2 * base::wide(cell.blocks), first, grid)
+}
+
+// The primary signal's 62 elements.
+fn fill_phases(identity: u16, first: usize, grid: &mut [u8])
+    requires { ⌜ 3 * (first + 62) ≤ length (now grid) ⌝ }
+    ensures { λ _. ⌜ Written (inRow first 62) (phaseSent identity first) (now (grid .entry)) (now (grid .exit)) ⌝ }
+{
+    let mut i: usize = 0;
+    while i < 62 {
+        grid::put(grid, first + i, signals::phase_element(identity, i));
+        i += 1;
+    }
+}
+
+// The secondary signal's 62 elements.
+fn fill_levels(d: Sss, first: usize, grid: &mut [u8])
+    requires { ⌜ 3 * (first + 62) ≤ length (now grid) ⌝ }
+    ensures { λ _. ⌜ Written (inRow first 62) (levelSent d first) (now (grid .entry)) (now (grid .exit)) ⌝ }
+{
+    let mut i: usize = 0;
+    while i < 62 {
+        grid::put(grid, first + i, signals::level_element(d, i));
+        i += 1;
+    }
+}
+
+// PSS, in the last symbol of the first slot. Callers have the cell from an accepted plan whose subframe has the signal, and have
+// compared the grid's length.
+pub fn fill_pss(cell: Cell, grid: &mut [u8])
+    requires { ⌜ MarkIn cell (now grid) ⌝ }
+    ensures { λ _. ⌜ Written (markSends cell 1) (pssSent cell) (now (grid .entry)) (now (grid .exit)) ⌝ }
+{
+    fill_phases(cell.identity, signals::mark_at(cell, 1), grid);
+}
+
+// SSS, one symbol earlier. Callers as for PSS.
+pub fn fill_sss(cell: Cell, frame: Frame, grid: &mut [u8])
+    requires { ⌜ MarkIn cell (now grid) ⌝ }
+    ensures { λ _. ⌜ Written (markSends cell 2) (sssSent cell frame) (now (grid .entry)) (now (grid .exit)) ⌝ }
+{
+    let d = sync::sss_for(cell.identity, frame.subframe);
+    fill_levels(d, signals::mark_at(cell, 2), grid);
+}
