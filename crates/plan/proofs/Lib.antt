@@ -15,5 +15,6 @@ pub mod Valid
 pub mod Counts
 mod Before
 mod Phases
+mod Clashes
 pub mod Known
 pub mod Answers
