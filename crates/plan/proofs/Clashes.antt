@@ -1,6 +1,6 @@
--- The earlier command that a refused one clashes with: what two commands have in common, and the loop that looks for the first. Assumes nothing.
-use Prim.Native.Nat.{ℕ, zero, suc, _+_, _-_, _≤_, _<_}
-use mathlib.Core.Path.{_≡_, refl, sym, ap, _∙_}
+-- What two commands have in common, and the loop that looks for the first that has it. Assumes nothing.
+use Prim.Native.Nat.{ℕ, suc, _+_, _-_, _≤_, _<_}
+use mathlib.Core.Path.{_≡_, refl, _∙_}
 use mathlib.Core.Bool.{Bool, true, false, _&&_}
 use mathlib.Core.List.{List}
 use native.Mathlib.Omega.{arith}
@@ -14,7 +14,6 @@ use Rattle.plan.specs.declared.Hi.{Hi}
 use Rattle.plan.specs.declared.User.{User}
 use Rattle.plan.specs.declared.Shared.{Shared}
 use Rattle.plan.specs.declared.Shared.the-variants.{Pair, Rnti, Block}
-use Rattle.plan.specs.declared.Earlier.{Earlier}
 use Rattle.plan.specs.declared.Earlier.the-variants.{Nothing, Is}
 
 -- ---- two commands, the bytes l and e from each on

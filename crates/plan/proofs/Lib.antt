@@ -1,4 +1,4 @@
--- Laws that the proofs cite. For the crates above: Verdict, Valid, Counts, RowLaws, Entries, Reading, Answers. About lists alone: OneOf, Listed, Few.
+-- Laws that the proofs cite. For the crates above: Verdict, Earliest, Valid, Counts, RowLaws, Entries, Reading, Answers. About lists alone: OneOf, Listed, Few.
 pub mod OneOf
 pub mod Listed
 pub mod Few
@@ -16,5 +16,6 @@ pub mod Counts
 mod Before
 mod Phases
 mod Clashes
+pub mod Earliest
 pub mod Known
 pub mod Answers

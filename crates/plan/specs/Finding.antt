@@ -2,7 +2,7 @@
 -- number: ..". Of the commands the first that has a fault is named, by its number from 1 and its position in the plan, and of that command
 -- the first of its fields that has the fault, in the order in which document 01 lists the fields; where that is a pair, an RNTI or a block used
 -- before, the first command that uses it.
-use Prim.Native.Nat.{ℕ, zero, suc, _+_, _-_, _<_}
+use Prim.Native.Nat.{ℕ, zero, suc, _+_, _-_, _≤_, _<_}
 use mathlib.Core.Path.{_≡_}
 use mathlib.Core.Bool.{Bool, true, false, not, cond, _&&_}
 use mathlib.Core.List.{List, [], _∷_}
@@ -34,6 +34,7 @@ use Rattle.plan.specs.declared.Walked.{Walked}
 use Rattle.plan.specs.declared.Walked.the-variants.{Accepted, Refused}
 use Rattle.plan.specs.declared.Shared.{Shared}
 use Rattle.plan.specs.declared.Shared.the-variants.{Nothing as nothing, Pair, Rnti as rnti, Block}
+use Rattle.plan.specs.declared.Numbered.{Numbered}
 use Rattle.plan.specs.declared.Earlier.{Earlier}
 use Rattle.plan.specs.declared.Earlier.the-variants.{Nothing as noCommand, Is as command}
 use Rattle.plan.specs.declared.Finding.{Finding}
@@ -234,7 +235,7 @@ explainedBy w (Refused s) = explainedRefusal (findingAt w s)
 unfoldable pub findingOf : List ℕ → Explained
 findingOf w = explainedBy w (walkOf w)
 
--- what proofs/Verdict.antt concludes. The plan check's answer: the plan, or the refusal alone
+-- ---- what proofs/Verdict.antt and proofs/Earliest.antt conclude. The plan check's answer: the plan, or the refusal alone
 abbrev pub walkAnswer : Walked → Checked
 walkAnswer (Accepted p) = accepted p
 walkAnswer (Refused s) = refused (causeRefusal (s .cause))
@@ -248,3 +249,20 @@ answerOf (explainedRefusal f) = refused (f .refusal)
 abbrev pub Named : List ℕ → Explained → Type 0
 Named w (explainedPlan p) = Unit {0}
 Named w (explainedRefusal f) = (f .refusal ≡ causeRefusal (f .cause)) × (drop (f .offset) w ≡ past w (f .command - 1))
+
+-- e is the first command of the plan w that f's command clashes with: it stands before, at its byte, and none before it clashes
+pub record FirstClash (w : List ℕ) (f : Finding) (e : Numbered) : Type 0 where
+  pub some : 1 ≤ e .command
+  pub before : e .command < f .command
+  pub place : drop (e .offset) w ≡ past w (e .command - 1)
+  pub clash : clashes (sharedBy (f .cause)) (drop (f .offset) w) (drop (e .offset) w) ≡ true
+  pub first : (m : ℕ) → m < e .command - 1 → clashes (sharedBy (f .cause)) (drop (f .offset) w) (past w m) ≡ false
+
+-- there is one wherever the cause says that a pair, an RNTI or a block was used before
+abbrev pub EarlierIs : List ℕ → Finding → Earlier → Type 0
+EarlierIs w f noCommand = sharedBy (f .cause) ≡ nothing
+EarlierIs w f (command e) = FirstClash w f e
+
+abbrev pub EarlierNamed : List ℕ → Explained → Type 0
+EarlierNamed w (explainedPlan p) = Unit {0}
+EarlierNamed w (explainedRefusal f) = EarlierIs w f (f .earlier)
