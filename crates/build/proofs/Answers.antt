@@ -13,7 +13,7 @@ use denote.Enum.Declared.{tagOf}
 use Rattle.base.proofs.Tests.{}
 use Rattle.plan.specs.Lists.{oneOf}
 use Rattle.plan.specs.Answers.{given}
-use Rattle.plan.specs.Check.{checkOf, refusedAs}
+use Rattle.plan.specs.Check.{checkOf, refusedAs, refusalOf}
 use Rattle.plan.specs.declared.Plan.{Plan}
 use Rattle.plan.specs.declared.Refusal.{Refusal}
 use Rattle.plan.specs.declared.Refusal.the-variants.{GridLength, PayloadLength, SpareBit}
@@ -26,7 +26,6 @@ use Rattle.plan.specs.Fields.{portCounts}
 use Rattle.plan.proofs.Counts.{blocks-most, ports-least, ports-most}
 use Rattle.plan.proofs.Valid.{valid}
 use Rattle.places.proofs.Numbers.{symbols-most}
-use Rattle.layout.specs.Chain.{refusalOf}
 use Rattle.layout.specs.Owners.{symbols, carriers}
 use Rattle.places.specs.Places.{placesOf}
 use Rattle.payload.specs.Payload.{gridLength, payloadLength, spareClear, AcceptedPayload, unlessLengths, unlessBuffers}

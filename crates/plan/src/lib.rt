@@ -8,7 +8,7 @@ ghost use lib.ListN.{length, drop};
 ghost use Rattle.plan.specs.Lists.{oneOf};
 ghost use Rattle.plan.specs.Commands.{byte, cellOf, frameOf, hiOf, userOf, entryFor, commandOf};
 ghost use Rattle.plan.specs.Fields.{unitsOf, groupsOf, sequencesOf, samePair};
-ghost use Rattle.plan.specs.Check.{refusalNumber, checkOf};
+ghost use Rattle.plan.specs.Check.{refusalNumber, checkOf, refusalOf};
 ghost use Rattle.plan.specs.Rows.{nextOf};
 ghost use Rattle.plan.specs.Valid.{CellIn};
 ghost use Rattle.plan.specs.Finding.{causeRefusal, demand as demandOf, cellCause, frameCause, hiCause, userCause, foundAt, walkOf};
@@ -667,6 +667,16 @@ pub fn check(plan: &[u8]) -> Checked
             let cause = s.cause;
             Checked::Refused(refusal_of(cause))
         }
+    }
+}
+
+// The refusal of a check that has no plan; nobody asks for that of a plan.
+pub fn refusal_in(a: Checked) -> Refusal
+    ensures { λ r. ⌜ r ≡ refusalOf a ⌝ }
+{
+    match a {
+        Checked::Refused(r) => r,
+        Checked::Plan(_) => Refusal::Unreadable,
     }
 }
 
