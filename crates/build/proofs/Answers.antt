@@ -14,7 +14,7 @@ use borrow.Author.Tests.{eqb-true, eqb-false}
 use Rattle.base.proofs.Tests.{by-test, clash}
 use Rattle.plan.specs.Lists.{oneOf}
 use Rattle.plan.specs.Answers.{Answer, given, refusedBy}
-use Rattle.plan.specs.Check.{refusalNumber, checkOf, refusedAs}
+use Rattle.plan.specs.Check.{refusalNumber, checkOf, refusedAs, refusalOf}
 use Rattle.plan.specs.declared.Plan.{Plan}
 use Rattle.plan.specs.declared.Refusal.{Refusal}
 use Rattle.plan.specs.declared.Refusal.the-variants.{GridLength, PayloadLength, SpareBit}
@@ -27,7 +27,6 @@ use Rattle.plan.specs.Fields.{portCounts}
 use Rattle.plan.proofs.Counts.{blocks-most, ports-least, ports-most}
 use Rattle.plan.proofs.Valid.{valid}
 use Rattle.places.proofs.Numbers.{symbols-most}
-use Rattle.layout.specs.Chain.{refusalOf}
 use Rattle.layout.specs.Owners.{symbols, carriers}
 use Rattle.places.specs.Places.{placesOf}
 use Rattle.payload.specs.Payload.{gridLength, payloadLength, spareClear, AcceptedPayload, unlessLengths, unlessBuffers}

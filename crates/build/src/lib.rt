@@ -52,7 +52,7 @@ fn fill_crs(plan: &[u8], p: Plan, payload: &[u8], t: &[u32; 256], masks: &[u8; 1
     requires { ⌜ Ready (now plan) p (now payload) (now grid) ⌝ }
     ensures { λ _. ⌜ Written (crsRows p (symbols (p .cell))) (elementNumbered (now (plan .entry)) p (now (payload .entry))) (now (grid .entry)) (now (grid .exit)) ⌝ }
 {
-    let rows = 2 * layout::slot_length(p.cell);
+    let rows = layout::symbols(p.cell);
     let mut s: usize = 0;
     while s < rows {
         fill_crs_row(plan, p, payload, s as u8, t, masks, grid);
@@ -196,7 +196,7 @@ pub fn build(plan: &[u8], payload: &[u8], grid: &mut [u8]) -> Built
 {
     let checked = plan::check(plan);
     let Checked::Plan(p) = checked else {
-        return Built::Refused(layout::refusal(checked));
+        return Built::Refused(plan::refusal_in(checked));
     };
     if grid.len() != payload::grid_length(p) {
         return Built::Refused(Refusal::GridLength);

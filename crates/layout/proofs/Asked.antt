@@ -10,7 +10,7 @@ use types.Run.{OneOf}
 use denote.Enum.Declared.{tagOf}
 use Rattle.base.proofs.Tests.{both}
 use Rattle.plan.specs.Lists.{oneOf}
-use Rattle.plan.specs.Check.{checkOf, refusalNumber}
+use Rattle.plan.specs.Check.{checkOf, refusalNumber, refusalOf}
 use Rattle.plan.specs.declared.Cell.{Cell}
 use Rattle.plan.specs.declared.Plan.{Plan}
 use Rattle.plan.specs.declared.Refusal.{Refusal}
@@ -21,7 +21,6 @@ use Rattle.plan.proofs.Checked.{the-type}
 use Rattle.plan.proofs.OneOf.{not-in}
 use Rattle.plan.proofs.Listed.{and-left, and-right}
 use Rattle.layout.specs.Owners.{ownerNumber, symbols, carriers, gridPlace, owns, ownerOf}
-use Rattle.layout.specs.Chain.{refusalOf}
 use Rattle.layout.specs.Query.{inGrid, ownerQueryOf, ownerAnswer}
 use Rattle.layout.specs.declared.Owner.{Owner}
 use Rattle.layout.specs.declared.OwnerAnswer.the-variants.{Is, Refused}

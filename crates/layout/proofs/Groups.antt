@@ -12,12 +12,12 @@ use Rattle.base.specs.Counts.{cnt}
 use Rattle.base.proofs.Counts.{cnt-none, cnt-more, cnt-lt}
 use Rattle.plan.specs.declared.Cell.{Cell}
 use Rattle.layout.specs.Rules.{formatGroup, isFormat, groupsLeft, isLeft}
-use Rattle.layout.specs.Chain.{number}
+use Rattle.layout.specs.Chain.{belowOf, number}
 use Rattle.layout.proofs.Ring as ring
 
 -- how many of PCFICH's groups stand below t
 unfoldable pub below : Cell → ℕ → ℕ
-below c t = one (ltb (formatGroup c 0) t) + one (ltb (formatGroup c 1) t) + one (ltb (formatGroup c 2) t) + one (ltb (formatGroup c 3) t)
+below c t = belowOf (formatGroup c 0) (formatGroup c 1) (formatGroup c 2) (formatGroup c 3) t
 
 -- below t + 1: below t, or t itself
 pub up : (q t : ℕ) → one (ltb q (suc t)) ≡ one (ltb q t) + one (eqb t q)

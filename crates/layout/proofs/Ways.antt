@@ -4,7 +4,7 @@ use mathlib.Core.Path.{_≡_, refl, sym, ap, _∙_}
 use mathlib.Core.Bool.{Bool, true, false, _&&_, or-true}
 use mathlib.Core.List.{List, [], _∷_}
 use native.Mathlib.Omega.{arith}
-use native.Mathlib.Nat.{not-suc-le-zero}
+use native.Mathlib.Nat.{not-suc-le-zero, mod-lt}
 use native.Mathlib.Numerals.{sub-one}
 use lib.Dec.{leb, ltb, eqb}
 use lib.ListN.{drop}
@@ -23,11 +23,11 @@ use Rattle.plan.specs.declared.Plan.{Plan}
 use Rattle.plan.proofs.OneOf.{not-in}
 use Rattle.plan.proofs.Listed.{and-left, and-right}
 use Rattle.plan.proofs.RowLaws.{row-next}
-use Rattle.base.specs.Choice.{if_then_else_, one}
+use Rattle.base.specs.Choice.{if_then_else_}
 use Rattle.base.proofs.Tests.{by-test, same-test}
-use Rattle.layout.specs.Rules.{slotLength, slotOf, inSlot, crsShift, middle, centre, used, marked, inSyncArea, inPbchArea, formatGroup, isFormat}
+use Rattle.layout.specs.Rules.{slotLength, slotOf, inSlot, crsShift, middle, centre, used, marked, inSyncArea, inPbchArea, formatGroup, isFormat, groupsLeft}
 use Rattle.layout.specs.Owners.{controlSymbols, blocksHave}
-use Rattle.layout.specs.Chain.{pilot, number, unitAt, groupAt, controlAt, fixedAt, userFrom, isIdle, ownerAt}
+use Rattle.layout.specs.Chain.{pilot, belowOf, number, unitAt, groupAt, controlAt, fixedAt, userFrom, isIdle, ownerAt}
 use Rattle.layout.specs.declared.Mark.the-variants.{Primary, Secondary}
 use Rattle.layout.specs.declared.Owner.{Owner}
 use Rattle.layout.specs.declared.Owner.the-variants.{Crs, Sync, Pbch, Pcfich, Phich, User as UserOf, Held, Idle}
@@ -111,29 +111,26 @@ unfolding inPbchArea
 area-frame c f s k e = rw (ne-eqb (f .subframe) 0 e) refl
 
 -- ---- groups and units: M the number of units, h that of the groups left
-module _ (c : Cell) (d M : ℕ) (eM : M ≡ unitsOf c) where
+module _ (c : Cell) (d : ℕ) {M : ℕ} (eM : M ≡ unitsOf c) where
   pub unit-first : d < M → Phich d ≡ unitAt c d
   unfolding unitAt
   unit-first l = rw (← eM, lt-ltb d M l) refl
 
-  abbrev h : ℕ
-  h = 2 * c .blocks - 4
-
   abbrev In : ℕ → Bool
   In a = leb a d && ltb d (a + M)
 
-  module _ (n : M ≤ d) where
+  module _ {h : ℕ} (eh : h ≡ groupsLeft c) (n : M ≤ d) where
     pub unit-second : In (h / 3) ≡ true → Phich (d - h / 3) ≡ unitAt c d
     unfolding unitAt
-    unit-second e = let z : 1 * h / 3 ≡ h / 3 = omega arith in rw (← eM, le-ltb d M n, z, e) refl
+    unit-second e = let z : 1 * h / 3 ≡ h / 3 = omega arith in rw (← eh, ← eM, le-ltb d M n, z, e) refl
 
     pub unit-third : In (h / 3) ≡ false → In (2 * h / 3) ≡ true → Phich (d - 2 * h / 3) ≡ unitAt c d
     unfolding unitAt
-    unit-third e w = let z : 1 * h / 3 ≡ h / 3 = omega arith in rw (← eM, le-ltb d M n, z, e, w) refl
+    unit-third e w = let z : 1 * h / 3 ≡ h / 3 = omega arith in rw (← eh, ← eM, le-ltb d M n, z, e, w) refl
 
     pub unit-none : In (h / 3) ≡ false → In (2 * h / 3) ≡ false → Idle ≡ unitAt c d
     unfolding unitAt
-    unit-none e w = let z : 1 * h / 3 ≡ h / 3 = omega arith in rw (← eM, le-ltb d M n, z, e, w) refl
+    unit-none e w = let z : 1 * h / 3 ≡ h / 3 = omega arith in rw (← eh, ← eM, le-ltb d M n, z, e, w) refl
 
 module _ (c : Cell) (t : ℕ) where
   is-format : (i : ℕ) → i < 4 → t ≡ formatGroup c i → isFormat c t ≡ true
@@ -145,15 +142,15 @@ module _ (c : Cell) (t : ℕ) where
   group-format i l e = rw (is-format i l e) refl
 
 module _ (c : Cell) (t x y z w : ℕ) (ex : x ≡ formatGroup c 0) (ey : y ≡ formatGroup c 1) (ez : z ≡ formatGroup c 2) (ew : w ≡ formatGroup c 3) where
-  module _ (big : 6 ≤ c .blocks) (i j m n : ℕ) (ei : i ≡ one (ltb x t)) (ej : j ≡ one (ltb y t)) (em : m ≡ one (ltb z t)) (en : n ≡ one (ltb w t)) where
-    counted : i + j + m + n ≡ below c t
+  module _ (big : 6 ≤ c .blocks) {b : ℕ} (eb : b ≡ belowOf x y z w t) where
+    counted : b ≡ below c t
     unfolding below
-    counted = rw (← ex, ← ey, ← ez, ← ew, ← ei, ← ej, ← em, ← en) refl
+    counted = rw (← ex, ← ey, ← ez, ← ew) eb
 
-    pub counted-le : i + j + m + n ≤ t
+    pub counted-le : b ≤ t
     counted-le = omega (arith, counted, number-is c big t)
 
-    numbered : t - (i + j + m + n) ≡ number c t
+    numbered : t - b ≡ number c t
     numbered = omega (arith, counted, number-is c big t)
 
     module _ (nx : (t ≡ x) → ⊥) (ny : (t ≡ y) → ⊥) (nz : (t ≡ z) → ⊥) (nw : (t ≡ w) → ⊥) where
@@ -161,9 +158,9 @@ module _ (c : Cell) (t x y z w : ℕ) (ex : x ≡ formatGroup c 0) (ey : y ≡ f
       unfolding isFormat
       no-format = rw (← ex, ← ey, ← ez, ← ew, ne-eqb t x nx, ne-eqb t y ny, ne-eqb t z nz, ne-eqb t w nw) refl
 
-      pub group-unit : (r : Owner) → r ≡ unitAt c ((t - (i + j + m + n) + (2 * c .blocks - 4 - c .identity % (2 * c .blocks - 4))) % (2 * c .blocks - 4)) → r ≡ groupAt c t
+      pub group-unit : {h : ℕ} → h ≡ groupsLeft c → (r : Owner) → r ≡ unitAt c ((t - b + (h - c .identity % h)) % h) → r ≡ groupAt c t
       unfolding groupAt
-      group-unit r er = er ∙ rw (numbered, no-format) refl
+      group-unit eh r er = er ∙ rw (numbered, eh, no-format) refl
 
 -- ---- the owner above the users: q is the port that the place has a reference signal of
 module _ (c : Cell) (f : Frame) (s k q : ℕ) (eq : q ≡ pilot c s k) where
@@ -209,6 +206,13 @@ pub in-both : (a b d : ℕ) (r : Bool) → r ≡ leb a d && ltb d b → r ≡ tr
 in-both a b d r e t =
     let h : leb a d && ltb d b ≡ true = sym e ∙ t in
     (leb-true _ _ (and-left (leb a d) (ltb d b) h), ltb-true _ _ (and-right (leb a d) (ltb d b) h))
+
+module _ (c : Cell) {h : ℕ} (eh : h ≡ groupsLeft c) where
+  pub left-few : c .blocks < 256 → h < 512
+  left-few l = omega arith
+
+  pub left-rest : 6 ≤ c .blocks → c .identity % h ≤ h
+  left-rest big = omega (arith, mod-lt (c .identity) {m = h} (omega arith))
 
 pub far-fits : (t w h r : ℕ) → t < 512 → h < 512 → t - w + (h - r) < 18446744073709551616
 far-fits t w h r l m = omega arith

@@ -10,11 +10,7 @@ use Rattle.plan.specs.declared.Cell.{Cell}
 use Rattle.plan.specs.declared.Frame.{Frame}
 use Rattle.plan.specs.declared.User.{User}
 use Rattle.plan.specs.declared.Plan.{Plan}
-use Rattle.plan.specs.declared.Refusal.{Refusal}
-use Rattle.plan.specs.declared.Refusal.the-variants.{Unreadable}
-use Rattle.plan.specs.declared.Checked.{Checked}
-use Rattle.plan.specs.declared.Checked.the-variants.{Plan as accepted, Refused as refused}
-use Rattle.base.specs.Choice.{if_then_else_}
+use Rattle.base.specs.Choice.{if_then_else_, one}
 use Rattle.base.specs.Counts.{cnt}
 use Rattle.layout.specs.Rules.{slotLength, slotOf, crsSymbol, crsShift, standsAt, used, inSyncArea, inPbchArea, isFormat, groupsLeft, isLeft, unitNumber}
 use Rattle.layout.specs.Owners.{controlSymbols, blocksHave}
@@ -29,6 +25,10 @@ pilotOf c p s k = if standsAt c (crsShift c p s) k then p else if standsAt c (cr
 -- the port below 4 whose reference signal a four-port cell has at the place, 4 for none
 unfoldable pub pilot : Cell → ℕ → ℕ → ℕ
 pilot c s k = if crsSymbol c 0 s then pilotOf c 0 s k else if crsSymbol c 2 s then pilotOf c 2 s k else 4
+
+-- how many of the groups a, b, c, d stand below t
+abbrev pub belowOf : ℕ → ℕ → ℕ → ℕ → ℕ → ℕ
+belowOf a b c d t = one (ltb a t) + one (ltb b t) + one (ltb c t) + one (ltb d t)
 
 -- a group left's number: how many groups left stand below it; and whether unit m takes number n
 abbrev pub number : Cell → ℕ → ℕ
@@ -91,8 +91,3 @@ ownerAt w p s k =
     if isIdle o
     then (if ltb s (controlSymbols (p .cell) (p .frame)) then Idle else userFrom 0 (usersOf w p) (slotOf (p .cell) s) k)
     else o
-
--- a check's refusal; a plan has none, and nobody asks for it
-abbrev pub refusalOf : Checked → Refusal
-refusalOf (accepted p) = Unreadable
-refusalOf (refused r) = r

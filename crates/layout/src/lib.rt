@@ -9,7 +9,7 @@ ghost use Rattle.plan.specs.Rows.{usersFrom};
 ghost use Rattle.plan.specs.declared.Checked.the-variants.{Plan as accepted};
 ghost use Rattle.layout.specs.Rules.{slotLength, inSlot, crsSymbol, crsShift, middle, marked, inSyncArea, inPbchArea, formatGroup, groupsLeft};
 ghost use Rattle.layout.specs.Owners.{ownerNumber, symbols as symbolsOf, carriers as carriersOf, gridPlace, controlSymbols, blocksHave, ownerOf};
-ghost use Rattle.layout.specs.Chain.{pilotOf, pilot, unitAt, groupAt, controlAt, fixedAt, userFrom, refusalOf};
+ghost use Rattle.layout.specs.Chain.{pilotOf, pilot, unitAt, groupAt, controlAt, fixedAt, userFrom, belowOf};
 ghost use Rattle.layout.specs.Query.{inGrid, ownerQueryOf};
 use plan::Cell;
 use plan::Checked;
@@ -234,6 +234,21 @@ pub fn format_group(cell: Cell, i: usize) -> usize
     ((cell.identity as usize) + i * blocks / 2) % (2 * blocks)
 }
 
+// How many of PCFICH's groups, a, b, c and d, stand below group t.
+pub fn formats_below(a: usize, b: usize, c: usize, d: usize, t: usize) -> usize
+    ensures { λ r. ⌜ (r ≡ belowOf a b c d t) × (r ≤ 4) ⌝ }
+{
+    base::one_below(a, t) + base::one_below(b, t) + base::one_below(c, t) + base::one_below(d, t)
+}
+
+// The number of the groups that PCFICH leaves, h.
+pub fn groups_left(cell: Cell) -> usize
+    requires { ⌜ 2 ≤ cell .blocks ⌝ }
+    ensures { λ r. ⌜ r ≡ groupsLeft cell ⌝ }
+{
+    2 * base::wide(cell.blocks) - 4
+}
+
 // The unit that takes the number d past the identity's, or idle.
 fn unit_in(cell: Cell, d: usize) -> Owner
     requires { ⌜ (6 ≤ cell .blocks) × (cell .sixths ≤ 12) ⌝ }
@@ -243,7 +258,7 @@ fn unit_in(cell: Cell, d: usize) -> Owner
     if d < units {
         return Owner::Phich(d as u8);
     }
-    let h = 2 * (cell.blocks as usize) - 4;
+    let h = groups_left(cell);
     let a = h / 3;
     if within(a, a + units, d) {
         return Owner::Phich((d - a) as u8);
@@ -276,12 +291,8 @@ fn group_at(cell: Cell, t: usize) -> Owner
     if t == d {
         return Owner::Pcfich;
     }
-    let n = t
-        - (base::one_below(a, t)
-            + base::one_below(b, t)
-            + base::one_below(c, t)
-            + base::one_below(d, t));
-    let h = 2 * (cell.blocks as usize) - 4;
+    let n = t - formats_below(a, b, c, d, t);
+    let h = groups_left(cell);
     let far = (n + (h - (cell.identity as usize) % h)) % h;
     unit_in(cell, far)
 }
@@ -394,23 +405,13 @@ fn in_grid(cell: Cell, s: usize, k: usize, port: usize) -> bool
     }
 }
 
-// The refusal of a check that has no plan.
-pub fn refusal(a: Checked) -> Refusal
-    ensures { λ r. ⌜ r ≡ refusalOf a ⌝ }
-{
-    match a {
-        Checked::Refused(r) => r,
-        Checked::Plan(_) => Refusal::Unreadable,
-    }
-}
-
 // The owner query: the owner of the element (s, k) of a port.
 pub fn owner_query(plan: &[u8], s: usize, k: usize, port: usize) -> OwnerAnswer
     ensures { λ r. ⌜ r ≡ ownerQueryOf (now (plan .entry)) s k port ⌝ }
 {
     let checked = plan::check(plan);
     let Checked::Plan(p) = checked else {
-        return OwnerAnswer::Refused(refusal(checked));
+        return OwnerAnswer::Refused(plan::refusal_in(checked));
     };
     if in_grid(p.cell, s, k, port) {
         OwnerAnswer::Is(owner_at(plan, p, s, k))

@@ -11,11 +11,11 @@ use Rattle.base.proofs.Tests.{clash}
 use Rattle.base.specs.Choice.{one}
 use Rattle.plan.specs.declared.Cell.{Cell}
 use Rattle.layout.specs.Rules.{formatGroup, isFormat, groupsLeft, isLeft, unitNumber, unitGroup}
-use Rattle.layout.specs.Chain.{number}
+use Rattle.layout.specs.Chain.{belowOf, number}
 use Rattle.layout.proofs.Groups.{below, number-is, left-count}
 use Rattle.layout.proofs.Units.{number-lt}
 use Rattle.base.specs.Counts.{cnt, nth}
-use Rattle.places.specs.Steps.{belowOf, stepOf}
+use Rattle.places.specs.Steps.{stepOf}
 use Rattle.base.proofs.Counts.{cnt-le, cnt-own, nth-is}
 use Rattle.places.proofs.Channels.{format-groups}
 

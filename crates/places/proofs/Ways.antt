@@ -6,24 +6,25 @@ use native.Mathlib.Omega.{arith}
 use lib.Dec.{ltb}
 use Rattle.base.specs.Choice.{one}
 use Rattle.plan.specs.declared.Cell.{Cell}
-use Rattle.layout.specs.Rules.{formatGroup, unitNumber, unitGroup}
+use Rattle.layout.specs.Rules.{formatGroup, groupsLeft, unitNumber, unitGroup}
 use Rattle.layout.proofs.Units.{number-lt}
 use Rattle.places.specs.Quads.{quadPlace}
+use Rattle.layout.specs.Chain.{belowOf}
 use Rattle.places.specs.Steps.{stepOf}
 use Rattle.places.proofs.Quads.{place-is}
 use Rattle.places.proofs.Inserted.{unit-inserted}
 
--- a product of a small number and one that a byte bounds
-pub small-product : (i n : ℕ) → i < 4 → n < 512 → i * n ≤ 1536
-small-product i n h l = mul-le-mul {n₁ = i} {m₁ = n} {n₂ = 3} {m₂ = 512} (omega arith) (omega arith)
+-- h is the number of the groups left
+module _ (c : Cell) {h : ℕ} (eh : h ≡ groupsLeft c) where
+  pub left-product : (i : ℕ) → c .blocks < 256 → i < 4 → i * h ≤ 1536
+  left-product i small l = mul-le-mul {n₁ = i} {m₁ = h} {n₂ = 3} {m₂ = 512} (omega arith) (omega arith)
 
-pub number-in : (c : Cell) (m i : ℕ) → 6 ≤ c .blocks → c .blocks < 256 → (unitNumber c m i ≡ unitNumber c m i) × (unitNumber c m i < 512)
-number-in c m i big small = (refl, omega (arith, number-lt c big m i))
+  pub number-in : (m i : ℕ) → 6 ≤ c .blocks → c .blocks < 256 → ((c .identity + m + i * h / 3) % h ≡ unitNumber c m i) × ((c .identity + m + i * h / 3) % h < 512)
+  unfolding unitNumber
+  number-in m i big small = rw eh (refl, omega (arith, number-lt c big m i))
 
-pub step-sum :
-    (a b c d n t : ℕ) {w x y z r : ℕ} → w ≡ one (ltb a t) → x ≡ one (ltb b t) → y ≡ one (ltb c t) → z ≡ one (ltb d t)
-    → r ≡ one (ltb t (n + 1 + (w + x + y + z))) → r ≡ stepOf a b c d n t
-step-sum a b c d n t ew ex ey ez er = cc
+pub step-sum : (a b c d n t : ℕ) {x r : ℕ} → x ≡ belowOf a b c d t → r ≡ one (ltb t (n + 1 + x)) → r ≡ stepOf a b c d n t
+step-sum a b c d n t ex er = rw (← ex) er
 
 module _ (c : Cell) (m i : ℕ) (big : 6 ≤ c .blocks) {w x y z n : ℕ}
     (ew : w ≡ formatGroup c 0) (ex : x ≡ formatGroup c 1) (ey : y ≡ formatGroup c 2) (ez : z ≡ formatGroup c 3) (en : n ≡ unitNumber c m i) where

@@ -2,10 +2,7 @@
 use Prim.Native.Nat.{ℕ, _+_}
 use lib.Dec.{ltb}
 use Rattle.base.specs.Choice.{one}
-
--- how many of the groups a, b, c, d stand below t
-abbrev pub belowOf : ℕ → ℕ → ℕ → ℕ → ℕ → ℕ
-belowOf a b c d t = one (ltb a t) + one (ltb b t) + one (ltb c t) + one (ltb d t)
+use Rattle.layout.specs.Chain.{belowOf}
 
 -- 1 where at most n of the other groups stand below t
 abbrev pub stepOf : ℕ → ℕ → ℕ → ℕ → ℕ → ℕ → ℕ

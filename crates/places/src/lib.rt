@@ -12,7 +12,7 @@ fn unit_number(cell: Cell, m: usize, i: usize) -> usize
     requires { ⌜ (6 ≤ cell .blocks) × (m < 256) × (i < 3) ⌝ }
     ensures { λ r. ⌜ (r ≡ unitNumber cell m i) × (r < 512) ⌝ }
 {
-    let h = 2 * (cell.blocks as usize) - 4;
+    let h = layout::groups_left(cell);
     ((cell.identity as usize) + m + i * h / 3) % h
 }
 
@@ -21,15 +21,7 @@ fn step(a: usize, b: usize, c: usize, d: usize, n: usize, t: usize) -> usize
     requires { ⌜ n < 512 ⌝ }
     ensures { λ r. ⌜ (r ≡ stepOf a b c d n t) × (r ≤ 1) ⌝ }
 {
-    base::one_below(
-        t,
-        n
-            + 1
-            + (base::one_below(a, t)
-                + base::one_below(b, t)
-                + base::one_below(c, t)
-                + base::one_below(d, t)),
-    )
+    base::one_below(t, n + 1 + layout::formats_below(a, b, c, d, t))
 }
 
 // The group of quad i of PHICH unit m. Every accepted plan has 15 blocks or more, and 25 units at most.

@@ -1,6 +1,6 @@
 -- The first cause of a command: by the tests that the code makes, and what a command without a cause has passed. Assumes nothing.
 use Prim.Native.Nat.{ℕ, _+_, _≤_, _<_}
-use mathlib.Core.Path.{_≡_, refl, sym, _∙_}
+use mathlib.Core.Path.{_≡_, refl, sym, ap, _∙_}
 use mathlib.Core.Bool.{Bool, true, false, not, _&&_}
 use mathlib.Core.Logic.{inl, inr}
 use mathlib.Core.List.{List, [], _∷_}
@@ -16,7 +16,7 @@ use Rattle.bitset.specs.Sets.{member, meet}
 use Rattle.plan.specs.Lists.{oneOf, noneOf, Every}
 use Rattle.plan.specs.Commands.{commandOf}
 use Rattle.plan.specs.Fields.{widths, portCounts, sixthCounts, orders, groupsOf, sequencesOf, samePair, clash}
-use Rattle.plan.specs.Finding.{causeRefusal, demand, cellCause, frameCause, hiCause, sameRnti, sharesBlock, userCause}
+use Rattle.plan.specs.Finding.{demand, cellCause, frameCause, hiCause, sameRnti, sharesBlock, userCause}
 use Rattle.plan.specs.Loops.{brokenFor, lateFor, lateCause, pairOf, PairsUsed, blocksOf, UsersUsed}
 use Rattle.plan.specs.Valid.{CellIn, FrameIn, HiIn, UserIn}
 use Rattle.plan.specs.declared.Cell.{Cell}
@@ -25,8 +25,6 @@ use Rattle.plan.specs.declared.Hi.{Hi}
 use Rattle.plan.specs.declared.User.{User}
 use Rattle.plan.specs.declared.Command.{Command}
 use Rattle.plan.specs.declared.Command.the-variants.{Cell as cell, Frame as frame, Hi as hi, User as user, End as end, Broken as broken}
-use Rattle.plan.specs.declared.Refusal.{Refusal}
-use Rattle.plan.specs.declared.Refusal.the-variants.{Unreadable, Order, CellField, FrameField, HiField, UserField, Used}
 use Rattle.plan.specs.declared.Cause.{Cause}
 use Rattle.plan.specs.declared.Cause.the-variants.{Unknown, CutOff, NoEnd, OutOfOrder, AfterEnd}
 use Rattle.plan.specs.declared.Cause.the-variants.{Identity, Blocks, Prefix, Ports, Sixths, FrameNumber, Subframe, Cfi}
@@ -199,13 +197,16 @@ module _ (w : List ℕ) (at : ℕ) where
         by end o = refl
         by broken o = absurd (not-in (0 ∷ 1 ∷ 2 ∷ 3 ∷ 4 ∷ []) 5 o refl)
 
--- ---- the refusal of a cause, by its number in the list of all causes
-abbrev refusals : List Refusal
-refusals =
-    Unreadable ∷ Unreadable ∷ Unreadable ∷ Order ∷ Order ∷ CellField ∷ CellField ∷ CellField ∷ CellField ∷ CellField ∷ FrameField ∷ FrameField ∷ FrameField
-    ∷ HiField ∷ HiField ∷ HiField ∷ UserField ∷ UserField ∷ UserField ∷ UserField ∷ Used ∷ Used ∷ []
+-- ---- what a function gives for each cause of some, by their numbers in the list of all causes
+abbrev all : List Cause
+all =
+    Unknown ∷ CutOff ∷ NoEnd ∷ OutOfOrder ∷ AfterEnd ∷ Identity ∷ Blocks ∷ Prefix ∷ Ports ∷ Sixths ∷ FrameNumber ∷ Subframe ∷ Cfi
+    ∷ Group ∷ Sequence ∷ PairUsed ∷ Rnti ∷ Modulation ∷ Count ∷ LastBlock ∷ RntiUsed ∷ BlockUsed ∷ []
 
-listed : (c : Cause) → getD refusals (tagOf causes c) Used ≡ causeRefusal c
+abbrev numbered : ℕ → Cause
+numbered k = getD all k BlockUsed
+
+listed : (c : Cause) → numbered (tagOf causes c) ≡ c
 listed Unknown = refl
 listed CutOff = refl
 listed NoEnd = refl
@@ -229,10 +230,10 @@ listed LastBlock = refl
 listed RntiUsed = refl
 listed BlockUsed = refl
 
-pub refusal-among : (c : Cause) (r : Refusal) (ks : List ℕ) → Every (λ (k : ℕ). r ≡ getD refusals k Used) ks → OneOf ks (tagOf causes c) → r ≡ causeRefusal c
-refusal-among c r ks t o = by ks t o ∙ listed c
+pub cause-among : {A : Type 0} (f : Cause → A) (c : Cause) (a : A) (ks : List ℕ) → Every (λ (k : ℕ). a ≡ f (numbered k)) ks → OneOf ks (tagOf causes c) → a ≡ f c
+cause-among f c a ks t o = by ks t o ∙ ap f (listed c)
   where
-    by : (ks : List ℕ) → Every (λ (k : ℕ). r ≡ getD refusals k Used) ks → OneOf ks (tagOf causes c) → r ≡ getD refusals (tagOf causes c) Used
+    by : (ks : List ℕ) → Every (λ (k : ℕ). a ≡ f (numbered k)) ks → OneOf ks (tagOf causes c) → a ≡ f (numbered (tagOf causes c))
     by [] t o = absurd o
     by (k ∷ []) t o = rw o (t .0)
     by (k ∷ l ∷ ks) t (inl e) = rw e (t .0)

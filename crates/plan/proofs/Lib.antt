@@ -1,4 +1,4 @@
--- Laws that the proofs cite. For the crates above: Verdict, Valid, Counts, RowLaws, Entries, Reading, Answers. About lists alone: OneOf, Listed, Few.
+-- Laws that the proofs cite. For the crates above: Verdict, Earliest, Valid, Counts, RowLaws, Entries, Reading, Answers. About lists alone: OneOf, Listed, Few.
 pub mod OneOf
 pub mod Listed
 pub mod Few
@@ -15,5 +15,7 @@ pub mod Valid
 pub mod Counts
 mod Before
 mod Phases
+mod Clashes
+pub mod Earliest
 pub mod Known
 pub mod Answers

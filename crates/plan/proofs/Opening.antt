@@ -10,7 +10,7 @@ use denote.Enum.Declared.{tagOf}
 use Rattle.plan.specs.Lists.{oneOf}
 use Rattle.plan.specs.Commands.{commandOf}
 use Rattle.plan.specs.Check.{begin, stateAfter}
-use Rattle.plan.specs.Finding.{cellCause, frameCause, inOrder, fieldCause, causeAt, causeOf, foundAt, refusedAt, findingOf}
+use Rattle.plan.specs.Finding.{cellCause, frameCause, inOrder, fieldCause, causeAt, causeOf, foundAt, refusedAt, walkOf}
 use Rattle.plan.specs.Rows.{row}
 use Rattle.plan.specs.Loops.{lateCause, celled, bodyState, restFrom, bodyRest}
 use Rattle.plan.specs.declared.Cell.{Cell}
@@ -20,9 +20,9 @@ use Rattle.plan.specs.declared.Command.the-variants.{Cell as cell, Frame
 use Rattle.plan.specs.declared.Cause.{Cause}
 use Rattle.plan.specs.declared.Reason.{Reason}
 use Rattle.plan.specs.declared.Reason.the-variants.{Nothing, Is}
-use Rattle.plan.specs.declared.Finding.{Finding}
-use Rattle.plan.specs.declared.Explained.{Explained}
-use Rattle.plan.specs.declared.Explained.the-variants.{Refused}
+use Rattle.plan.specs.declared.Stop.{Stop}
+use Rattle.plan.specs.declared.Walked.{Walked}
+use Rattle.plan.specs.declared.Walked.the-variants.{Refused}
 use Rattle.plan.proofs.Command.{the-type}
 use Rattle.plan.proofs.OneOf.{not-in}
 use Rattle.plan.proofs.Entries.{told}
@@ -31,8 +31,8 @@ use Rattle.plan.proofs.Turns.{stopped, turned, fits, late}
 -- ---- before CELL
 module _ (w : List ℕ) where
   pub late-first : {x : Command} → commandOf w ≡ x → OneOf (1 ∷ 2 ∷ 3 ∷ 4 ∷ 5 ∷ []) (tagOf the-type x) →
-      {k : Cause} → k ≡ lateCause w → {g : Finding} → g ≡ foundAt 1 0 k → Refused g ≡ findingOf w
-  unfolding findingOf begin oneOf
+      {k : Cause} → k ≡ lateCause w → {g : Stop} → g ≡ foundAt 1 0 k → Refused g ≡ walkOf w
+  unfolding walkOf begin oneOf
   late-first {x} e h ek eg = ap Refused eg ∙ ap (refusedAt 1 0) ek ∙ sym (late begin refl w 1 0 x e (by x h))
     where
       by : (x : Command) → OneOf (1 ∷ 2 ∷ 3 ∷ 4 ∷ 5 ∷ []) (tagOf the-type x) → fits 0 x ≡ false
@@ -48,12 +48,12 @@ module _ (w : List ℕ) where
     unfolding begin causeAt inOrder fieldCause
     cell-cause = sym er
 
-    pub cell-refused : {k : Cause} → r ≡ Is k → {g : Finding} → g ≡ foundAt 1 0 k → Refused g ≡ findingOf w
-    unfolding findingOf
+    pub cell-refused : {k : Cause} → r ≡ Is k → {g : Stop} → g ≡ foundAt 1 0 k → Refused g ≡ walkOf w
+    unfolding walkOf
     cell-refused q eg = ap Refused eg ∙ sym (stopped w begin 1 0 (cell c) e (omega (arith, told w (cell c) e .2)) _ (cell-cause ∙ q))
 
-    pub cell-turn : r ≡ Nothing → restFrom w (celled c 7) 2 7 ≡ findingOf w
-    unfolding findingOf begin stateAfter celled
+    pub cell-turn : r ≡ Nothing → restFrom w (celled c 7) 2 7 ≡ walkOf w
+    unfolding walkOf begin stateAfter celled
     cell-turn q = sym (turned w begin 1 0 (cell c) e (omega (arith, told w (cell c) e .2)) (cell-cause ∙ q) _ refl 2 7 refl (omega (arith, told w (cell c) e .1)))
 
 -- ---- before FRAME, which is due at position at
@@ -61,11 +61,11 @@ module _ (w : List ℕ) (c : Cell) (at : ℕ) where
   abbrev here : List ℕ
   here = drop at w
 
-  abbrev Rest : Explained
+  abbrev Rest : Walked
   Rest = restFrom w (celled c at) 2 at
 
   pub late-second : {x : Command} → commandOf here ≡ x → OneOf (0 ∷ 2 ∷ 3 ∷ 4 ∷ 5 ∷ []) (tagOf the-type x) →
-      {k : Cause} → k ≡ lateCause here → {g : Finding} → g ≡ foundAt 2 at k → Refused g ≡ Rest
+      {k : Cause} → k ≡ lateCause here → {g : Stop} → g ≡ foundAt 2 at k → Refused g ≡ Rest
   unfolding celled oneOf
   late-second {x} e h ek eg = ap Refused eg ∙ ap (refusedAt 2 at) ek ∙ sym (late (celled c at) refl w 2 at x e (by x h))
     where
@@ -86,7 +86,7 @@ module _ (w : List ℕ) (c : Cell) (at : ℕ) where
       unfolding celled causeAt inOrder fieldCause
       frame-cause = sym er
 
-      pub frame-refused : {k : Cause} → r ≡ Is k → {g : Finding} → g ≡ foundAt 2 at k → Refused g ≡ Rest
+      pub frame-refused : {k : Cause} → r ≡ Is k → {g : Stop} → g ≡ foundAt 2 at k → Refused g ≡ Rest
       frame-refused q eg = ap Refused eg ∙ sym (stopped w (celled c at) 2 at (frame f) e (omega (arith, told here (frame f) e .2)) _ (frame-cause ∙ q))
 
       pub frame-turn : r ≡ Nothing → bodyRest w c f (at + 5) 0 (at + 5) 0 (at + 5) ≡ Rest

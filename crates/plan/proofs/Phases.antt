@@ -20,9 +20,9 @@ use Rattle.plan.specs.declared.Command.the-variants.{Hi as hi, User as u
 use Rattle.plan.specs.declared.Cause.{Cause}
 use Rattle.plan.specs.declared.Reason.{Reason}
 use Rattle.plan.specs.declared.Reason.the-variants.{Nothing, Is}
-use Rattle.plan.specs.declared.Finding.{Finding}
+use Rattle.plan.specs.declared.Stop.{Stop}
 use Rattle.plan.specs.declared.Counted.the-variants.{Count, Refused as faulty}
-use Rattle.plan.specs.declared.Explained.the-variants.{Refused}
+use Rattle.plan.specs.declared.Walked.the-variants.{Refused}
 use Rattle.plan.proofs.Entries.{told}
 use Rattle.plan.proofs.Reading.{no-hi-stands, no-user-stands}
 use Rattle.plan.proofs.RowLaws.{row-length, past-none}
@@ -70,7 +70,7 @@ module _ {w : List ℕ} {c : Cell} {start n at : ℕ} {pairs : List ℕ} {h : Hi
   pub his-less : {to : ℕ} → to ≡ nextOf w at → length w - to < length w - at
   his-less et = omega (arith, hi-next w c (frameOf []) start n at 0 at h (z .there), hi-room w c (frameOf []) start n at 0 at h (z .there) (z .going .standing))
 
-  pub his-refused : {k : Cause} → q ≡ Is k → {g : Finding} → g ≡ foundAt (n + 3) at k → HisRead w c start (faulty g)
+  pub his-refused : {k : Cause} → q ≡ Is k → {g : Stop} → g ≡ foundAt (n + 3) at k → HisRead w c start (faulty g)
   his-refused {k} e eg f =
       let number : n + 3 ≡ n + 0 + 3 = omega arith in
       ap Refused (eg ∙ ap (λ (x : ℕ). foundAt x at k) number)
@@ -151,7 +151,7 @@ module _ {w : List ℕ} {c : Cell} {f : Frame} {start n mid m at : ℕ} {rntis b
   users-less et =
       omega (arith, user-next w c f start n mid m at u (z .there), user-room w c f start n mid m at u (z .there) (z .going .standing), told (drop at w) (user u) (z .there) .1)
 
-  pub users-refused : {k : Cause} → q ≡ Is k → {g : Finding} → g ≡ foundAt (n + m + 3) at k → Refused g ≡ bodyRest w c f start n mid 0 mid
+  pub users-refused : {k : Cause} → q ≡ Is k → {g : Stop} → g ≡ foundAt (n + m + 3) at k → Refused g ≡ bodyRest w c f start n mid 0 mid
   users-refused {k} e eg = ap Refused eg ∙ sym (user-refused w c f start n mid m at u (z .there) k (sym e ∙ z .cause)) ∙ z .going .same
 
   pub users-again : q ≡ Nothing → {own : List ℕ} → own ≡ blocksOf u → {now : List ℕ} → now ≡ joined blocks own →

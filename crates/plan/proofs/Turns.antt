@@ -13,7 +13,7 @@ use borrow.Author.Tests.{eq-eqb, ne-eqb, eqb-true}
 use Rattle.plan.specs.Lists.{oneOf}
 use Rattle.plan.specs.Commands.{byte, hiOf, userOf, sizeOf, commandOf, commandsAfter, commands}
 use Rattle.plan.specs.Check.{State, due, stateAfter, planOf}
-use Rattle.plan.specs.Finding.{demand, hiCause, userCause, commandBytes, brokenCause, inOrder, fieldCause, causeAt, causeOf, foundAt, refusedAt, stopAt, findingFrom}
+use Rattle.plan.specs.Finding.{demand, hiCause, userCause, commandBytes, brokenCause, inOrder, fieldCause, causeAt, causeOf, foundAt, refusedAt, stopAt, walkFrom}
 use Rattle.plan.specs.Rows.{row, past, nextOf, hisFrom, usersFrom}
 use Rattle.plan.specs.Loops.{bodyState, restFrom, bodyRest, planRest, lateFor, lateCause, EndDue}
 use Rattle.plan.specs.declared.Cell.{Cell}
@@ -28,9 +28,9 @@ use Rattle.plan.specs.declared.Cause.{Cause}
 use Rattle.plan.specs.declared.Cause.the-variants.{Unknown, CutOff, NoEnd, OutOfOrder, AfterEnd}
 use Rattle.plan.specs.declared.Reason.{Reason}
 use Rattle.plan.specs.declared.Reason.the-variants.{Nothing, Is}
-use Rattle.plan.specs.declared.Finding.{Finding}
-use Rattle.plan.specs.declared.Explained.{Explained}
-use Rattle.plan.specs.declared.Explained.the-variants.{Accepted, Refused}
+use Rattle.plan.specs.declared.Stop.{Stop}
+use Rattle.plan.specs.declared.Walked.{Walked}
+use Rattle.plan.specs.declared.Walked.the-variants.{Accepted, Refused}
 use Rattle.plan.proofs.Command.{the-type}
 use Rattle.plan.proofs.OneOf.{not-in}
 use Rattle.plan.proofs.Entries.{told, next}
@@ -43,8 +43,8 @@ module _ (w : List ℕ) (st : State) (n at : ℕ) (x : Command) (e : commandOf (
   abbrev there : List ℕ
   there = drop at w
 
-  opened : restFrom w st n at ≡ stopAt (causeOf st there x) n at (findingFrom w (stateAfter st x) (n + 1) (at + sizeOf there) (commands (drop (sizeOf there) there)))
-  unfolding findingFrom
+  opened : restFrom w st n at ≡ stopAt (causeOf st there x) n at (walkFrom w (stateAfter st x) (n + 1) (at + sizeOf there) (commands (drop (sizeOf there) there)))
+  unfolding walkFrom
   opened = rw (next there h, e) refl
 
   pub stopped : (k : Cause) → causeOf st there x ≡ Is k → restFrom w st n at ≡ refusedAt n at k
@@ -78,7 +78,7 @@ module _ (st : State) (q : eqb (st .stage) 4 ≡ false) where
 
   module _ (w : List ℕ) (n at : ℕ) where
     missing : drop at w ≡ [] → restFrom w st n at ≡ refusedAt n at NoEnd
-    unfolding findingFrom commandsAfter
+    unfolding walkFrom commandsAfter
     missing e = rw (e, q) refl
 
     by-bytes : (l : List ℕ) → drop at w ≡ l → (x : Command) → commandOf l ≡ x → fits (st .stage) x ≡ false → restFrom w st n at ≡ refusedAt n at (lateCause l)
@@ -143,7 +143,7 @@ module _ (w : List ℕ) (c : Cell) (f : Frame) (start n mid m at : ℕ) where
   abbrev St : State
   St = bodyState w c f start n mid m
 
-  abbrev Rest : Explained
+  abbrev Rest : Walked
   Rest = bodyRest w c f start n mid m at
 
   abbrev HiC : Hi → Reason
@@ -291,7 +291,7 @@ module _ (w : List ℕ) (c : Cell) (f : Frame) (his users : Row) (k to : ℕ) wh
   not-last h = stopped w Ended k to (commandOf (drop to w)) refl (omega (arith, length-drop to w)) AfterEnd refl
 
   pub last : users .at ≡ his .at + 3 * his .count → length w ≤ to → restFrom w Ended k to ≡ Accepted (record { cell = c; frame = f; his = his; users = users })
-  unfolding findingFrom commandsAfter planOf bodyState stateAfter
+  unfolding walkFrom commandsAfter planOf bodyState stateAfter
   last e h =
       rw (drop-of-length-le w h, row-length hiOf (drop (his .at) w) (his .count), row-length userOf (drop (users .at) w) (users .count), ← e) refl
 
@@ -307,14 +307,14 @@ module _ {w : List ℕ} {p : Plan} {at : ℕ} (d : EndDue w p at) where
     turn : planRest w p at ≡ restFrom w (stateAfter Due end) (n + 1) (at + 1)
     turn = end-turn w (p .cell) (p .frame) (p .his .at) (p .his .count) (p .users .at) (p .users .count) at e
 
-    pub end-more : at + 1 < length w → {g : Finding} → g ≡ foundAt (n + 1) (at + 1) AfterEnd → Refused g ≡ planRest w p at
+    pub end-more : at + 1 < length w → {g : Stop} → g ≡ foundAt (n + 1) (at + 1) AfterEnd → Refused g ≡ planRest w p at
     end-more l eg = ap Refused eg ∙ sym (turn ∙ not-last w (p .cell) (p .frame) (p .his) (p .users) (n + 1) (at + 1) l)
 
     pub end-last : length w ≤ at + 1 → Accepted p ≡ planRest w p at
     end-last l = sym (turn ∙ last w (p .cell) (p .frame) (p .his) (p .users) (n + 1) (at + 1) (d .mid-at) l)
 
   pub end-late : {x : Command} → commandOf (drop at w) ≡ x → OneOf (0 ∷ 1 ∷ 2 ∷ 3 ∷ 5 ∷ []) (tagOf the-type x) →
-      {k : Cause} → k ≡ lateCause (drop at w) → {g : Finding} → g ≡ foundAt n at k → Refused g ≡ planRest w p at
+      {k : Cause} → k ≡ lateCause (drop at w) → {g : Stop} → g ≡ foundAt n at k → Refused g ≡ planRest w p at
   unfolding oneOf bodyState
   end-late {x} e h ek eg = ap Refused eg ∙ ap (refusedAt n at) ek ∙ sym (late Due (stage-last (eqb (p .users .count) 0)) w n at x e (by x e h))
     where

@@ -9,7 +9,7 @@ use lib.ListN.{length, drop, length-drop}
 use borrow.Author.Tests.{ltb-true, ltb-false}
 use Rattle.plan.specs.Commands.{byte, hiOf, userOf, commandOf}
 use Rattle.plan.specs.Check.{State, begin, stateAfter, checkOf}
-use Rattle.plan.specs.Finding.{demand, cellCause, frameCause, hiCause, userCause, findingOf}
+use Rattle.plan.specs.Finding.{demand, cellCause, frameCause, hiCause, userCause, walkOf}
 use Rattle.plan.specs.Rows.{nextOf, hisFrom, usersFrom, hisOf, usersOf}
 use Rattle.plan.specs.Loops.{celled, bodyState, restFrom, bodyRest}
 use Rattle.plan.specs.Valid.{CellIn, FrameIn, Valid}
@@ -23,9 +23,9 @@ use Rattle.plan.specs.declared.Command.the-variants.{Cell as cell, Frame
 use Rattle.plan.specs.declared.Cause.the-variants.{OutOfOrder}
 use Rattle.plan.specs.declared.Reason.{Reason}
 use Rattle.plan.specs.declared.Reason.the-variants.{Nothing, Is}
-use Rattle.plan.specs.declared.Finding.{Finding}
-use Rattle.plan.specs.declared.Explained.{Explained}
-use Rattle.plan.specs.declared.Explained.the-variants.{Accepted, Refused}
+use Rattle.plan.specs.declared.Stop.{Stop}
+use Rattle.plan.specs.declared.Walked.{Walked}
+use Rattle.plan.specs.declared.Walked.the-variants.{Accepted, Refused}
 use Rattle.plan.specs.declared.Checked.the-variants.{Plan as accepted}
 use Rattle.plan.proofs.Entries.{told}
 use Rattle.plan.proofs.Reading.{gone}
@@ -38,7 +38,7 @@ use Rattle.plan.proofs.Turns.{hi-refused, standing-hi, on-more-his, hi-
 use Rattle.plan.proofs.Opening.{cell-refused, cell-turn, frame-room, frame-refused, frame-turn}
 
 -- ---- answers
-not-both : {a : Explained} {g : Finding} {p : Plan} → a ≡ Refused g → a ≡ Accepted p → ⊥
+not-both : {a : Walked} {g : Stop} {p : Plan} → a ≡ Refused g → a ≡ Accepted p → ⊥
 not-both e q = let z : _≡_ {A = ℕ} 0 1 = cc in omega arith
 
 -- a command that is not due
@@ -166,12 +166,12 @@ module _ (w : List ℕ) (p : Plan) where
   second c at ci end e r = not-due (celled c at) refl w 2 at end e refl r
   second c at ci broken e r = not-due (celled c at) refl w 2 at broken e refl r
 
-  by-cell : (c : Cell) → commandOf w ≡ cell c → (t : Reason) → t ≡ cellCause c → findingOf w ≡ Accepted p → Valid w p
+  by-cell : (c : Cell) → commandOf w ≡ cell c → (t : Reason) → t ≡ cellCause c → walkOf w ≡ Accepted p → Valid w p
   by-cell c e Nothing o r = second c 7 (cell-in c o) (commandOf (drop 7 w)) refl (cell-turn w c e o refl ∙ r)
   by-cell c e (Is k) o r = absurd (not-both (sym (cell-refused w c e o refl refl)) r)
 
-  first : (x : Command) → commandOf w ≡ x → findingOf w ≡ Accepted p → Valid w p
-  unfolding findingOf begin
+  first : (x : Command) → commandOf w ≡ x → walkOf w ≡ Accepted p → Valid w p
+  unfolding walkOf begin
   first (cell c) e r = by-cell c e (cellCause c) refl r
   first (frame y) e r = not-due begin refl w 1 0 (frame y) e refl r
   first (hi y) e r = not-due begin refl w 1 0 (hi y) e refl r

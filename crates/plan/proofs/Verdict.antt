@@ -28,13 +28,14 @@ use Rattle.plan.specs.declared.Checked.{Checked}
 use Rattle.plan.specs.declared.Checked.the-variants.{Plan as accepted, Refused as refused}
 use Rattle.plan.proofs.RowLaws.{past-more, past-none}
 use Rattle.plan.specs.Finding.{causeRefusal, demand, cellCause, frameCause, hiCause, userCause, commandBytes, brokenCause}
-use Rattle.plan.specs.Finding.{inOrder, fieldCause, causeAt, causeOf, refusedAt, stopAt, findingFrom, findingOf, answerOf, Named}
+use Rattle.plan.specs.Finding.{inOrder, fieldCause, causeAt, causeOf, refusedAt, stopAt, walkFrom, walkOf}
+use Rattle.plan.specs.Finding.{explainedBy, findingOf, walkAnswer, answerOf, Named}
 use Rattle.plan.specs.declared.Cause.{Cause}
 use Rattle.plan.specs.declared.Cause.the-variants.{NoEnd, OutOfOrder, AfterEnd}
 use Rattle.plan.specs.declared.Reason.{Reason}
 use Rattle.plan.specs.declared.Reason.the-variants.{Nothing, Is}
-use Rattle.plan.specs.declared.Explained.{Explained}
-use Rattle.plan.specs.declared.Explained.the-variants.{Accepted, Refused}
+use Rattle.plan.specs.declared.Walked.{Walked}
+use Rattle.plan.specs.declared.Walked.the-variants.{Accepted, Refused}
 use Rattle.plan.proofs.CauseLaws.{none-clash}
 
 -- ---- the fault that a reason is
@@ -105,55 +106,72 @@ cause-fault st l end = ordered _ _ _ (due-early (st .stage))
 cause-fault st l broken = rw (fault-demand (not (eqb (st .stage) 4)), broken-fault l) refl
 
 -- ---- command by command
-answer-stop : (r : Reason) (n at : ℕ) (a : Explained) (b : Checked) → answerOf a ≡ b → answerOf (stopAt r n at a) ≡ unless (faultFor r) b
+answer-stop : (r : Reason) (n at : ℕ) (a : Walked) (b : Checked) → walkAnswer a ≡ b → walkAnswer (stopAt r n at a) ≡ unless (faultFor r) b
 answer-stop Nothing n at a b h = h
 answer-stop (Is c) n at a b h = refl
 
-answer-last : (t : Bool) (n at : ℕ) (p : Plan) → answerOf (cond t (Accepted p) (refusedAt n at NoEnd)) ≡ cond t (accepted p) (refused Unreadable)
+answer-last : (t : Bool) (n at : ℕ) (p : Plan) → walkAnswer (cond t (Accepted p) (refusedAt n at NoEnd)) ≡ cond t (accepted p) (refused Unreadable)
 answer-last true n at p = refl
 answer-last false n at p = refl
 
-answers : (w : List ℕ) (xs : List Command) (st : State) (n at : ℕ) → answerOf (findingFrom w st n at xs) ≡ run st xs
-unfolding findingFrom run
+answers : (w : List ℕ) (xs : List Command) (st : State) (n at : ℕ) → walkAnswer (walkFrom w st n at xs) ≡ run st xs
+unfolding walkFrom run
 answers w [] st n at = answer-last (eqb (st .stage) 4) n at (planOf st)
 answers w (x ∷ xs) st n at =
     rw (← cause-fault st (drop at w) x)
     (answer-stop (causeOf st (drop at w) x) n at _ _ (answers w xs (stateAfter st x) (n + 1) (at + sizeOf (drop at w))))
 
+-- the plan check's answer is that of the walk
+pub walked-refusal : (w : List ℕ) → walkAnswer (walkOf w) ≡ checkOf w
+unfolding walkOf checkOf
+walked-refusal w = answers w (commands w) begin 1 0
+
+pub accepted-both : (w : List ℕ) (p : Plan) → checkOf w ≡ accepted p → walkOf w ≡ Accepted p
+accepted-both w p e = by (walkOf w) (walked-refusal w ∙ e)
+  where
+    by : (a : Walked) → walkAnswer a ≡ accepted p → a ≡ Accepted p
+    by (Accepted q) h = cc
+    by (Refused s) h = cc
+
 -- THE LAW: the explanation has the plan exactly where the plan check accepts it, and else its refusal is the plan check's
 pub explained-refusal : (w : List ℕ) → answerOf (findingOf w) ≡ checkOf w
-unfolding findingOf checkOf
-explained-refusal w = answers w (commands w) begin 1 0
-
-pub accepted-both : (w : List ℕ) (p : Plan) → checkOf w ≡ accepted p → findingOf w ≡ Accepted p
-accepted-both w p e = by (findingOf w) (explained-refusal w ∙ e)
+unfolding findingOf
+explained-refusal w = by (walkOf w) ∙ walked-refusal w
   where
-    by : (a : Explained) → answerOf a ≡ accepted p → a ≡ Accepted p
-    by (Accepted q) h = cc
-    by (Refused f) h = cc
+    by : (a : Walked) → answerOf (explainedBy w a) ≡ walkAnswer a
+    by (Accepted p) = refl
+    by (Refused s) = refl
 
--- ---- the number, the offset and the cause
-name-stop : (w : List ℕ) (r : Reason) (n at : ℕ) (a : Explained) → drop at w ≡ past w (n - 1) → Named w a → Named w (stopAt r n at a)
-name-stop w Nothing n at a e h = h
-name-stop w (Is c) n at a e h = (refl, e)
+-- ---- the number, the offset and the cause: where the walk stops
+abbrev Placed : List ℕ → Walked → Type 0
+Placed w (Accepted p) = Unit {0}
+Placed w (Refused s) = drop (s .offset) w ≡ past w (s .command - 1)
 
-name-last : (w : List ℕ) (t : Bool) (n at : ℕ) (p : Plan) → drop at w ≡ past w (n - 1) → Named w (cond t (Accepted p) (refusedAt n at NoEnd))
-name-last w true n at p e = tt
-name-last w false n at p e = (refl, e)
+place-stop : (w : List ℕ) (r : Reason) (n at : ℕ) (a : Walked) → drop at w ≡ past w (n - 1) → Placed w a → Placed w (stopAt r n at a)
+place-stop w Nothing n at a e h = h
+place-stop w (Is c) n at a e h = e
+
+place-last : (w : List ℕ) (t : Bool) (n at : ℕ) (p : Plan) → drop at w ≡ past w (n - 1) → Placed w (cond t (Accepted p) (refusedAt n at NoEnd))
+place-last w true n at p e = tt
+place-last w false n at p e = e
 
 -- the command after the one at a position stands where that one ends
-one-more : (w : List ℕ) (m at : ℕ) → drop at w ≡ past w m → drop (at + sizeOf (drop at w)) w ≡ past w (m + 1)
+pub one-more : (w : List ℕ) (m at : ℕ) → drop at w ≡ past w m → drop (at + sizeOf (drop at w)) w ≡ past w (m + 1)
 one-more w m at e =
     sym (drop-drop (sizeOf (drop at w)) at w) ∙ ap (λ (l : List ℕ). drop (sizeOf l) l) e ∙ sym (past-more m w)
 
-names : (w : List ℕ) (xs : List Command) (st : State) (m at : ℕ) → drop at w ≡ past w m → Named w (findingFrom w st (m + 1) at xs)
-unfolding findingFrom
-names w [] st m at e = let z : m ≡ m + 1 - 1 = omega arith in name-last w (eqb (st .stage) 4) (m + 1) at (planOf st) (e ∙ ap (past w) z)
-names w (x ∷ xs) st m at e =
+places : (w : List ℕ) (xs : List Command) (st : State) (m at : ℕ) → drop at w ≡ past w m → Placed w (walkFrom w st (m + 1) at xs)
+unfolding walkFrom
+places w [] st m at e = let z : m ≡ m + 1 - 1 = omega arith in place-last w (eqb (st .stage) 4) (m + 1) at (planOf st) (e ∙ ap (past w) z)
+places w (x ∷ xs) st m at e =
     let z : m ≡ m + 1 - 1 = omega arith in
-    name-stop w (causeOf st (drop at w) x) (m + 1) at _ (e ∙ ap (past w) z) (names w xs (stateAfter st x) (m + 1) (at + sizeOf (drop at w)) (one-more w m at e))
+    place-stop w (causeOf st (drop at w) x) (m + 1) at _ (e ∙ ap (past w) z) (places w xs (stateAfter st x) (m + 1) (at + sizeOf (drop at w)) (one-more w m at e))
 
 -- THE LAW: a refused explanation has the refusal of its cause, and its offset is where the command of its number stands
 pub explained-place : (w : List ℕ) → Named w (findingOf w)
-unfolding findingOf
-explained-place w = names w (commands w) begin 0 0 (sym (past-none 0 w refl))
+unfolding walkOf findingOf
+explained-place w = by (walkOf w) (places w (commands w) begin 0 0 (sym (past-none 0 w refl)))
+  where
+    by : (a : Walked) → Placed w a → Named w (explainedBy w a)
+    by (Accepted p) h = tt
+    by (Refused s) h = (refl, h)

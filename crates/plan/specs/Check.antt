@@ -120,6 +120,11 @@ abbrev pub unlessRefused : {A : Type 0} → (Refusal → A) → (Plan → A) →
 unlessRefused refusal answer (accepted p) = answer p
 unlessRefused refusal answer (refused r) = refusal r
 
+-- a check's refusal; a plan has none, and nobody asks for it
+abbrev pub refusalOf : Checked → Refusal
+refusalOf (accepted p) = Unreadable
+refusalOf (refused r) = r
+
 -- the answer as a number: 0, or the refusal's
 abbrev pub verdictOf : Checked → ℕ
 verdictOf (accepted p) = 0

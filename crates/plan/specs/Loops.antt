@@ -10,7 +10,7 @@ use Rattle.plan.specs.Lists.{oneOf, noneOf}
 use Rattle.plan.specs.Commands.{byte, entryFor, commandOf, commands}
 use Rattle.plan.specs.Fields.{samePair}
 use Rattle.plan.specs.Check.{State, begin}
-use Rattle.plan.specs.Finding.{sameRnti, sharesBlock, commandBytes, findingFrom}
+use Rattle.plan.specs.Finding.{sameRnti, sharesBlock, commandBytes, walkFrom}
 use Rattle.plan.specs.Rows.{past, hisFrom, usersFrom}
 use Rattle.plan.specs.Valid.{HiIn, UserIn}
 use Rattle.plan.specs.declared.Cell.{Cell}
@@ -24,8 +24,8 @@ use Rattle.plan.specs.declared.Cause.{Cause}
 use Rattle.plan.specs.declared.Cause.the-variants.{Unknown, CutOff, NoEnd, OutOfOrder}
 use Rattle.plan.specs.declared.Counted.{Counted}
 use Rattle.plan.specs.declared.Counted.the-variants.{Count, Refused as faulty}
-use Rattle.plan.specs.declared.Explained.{Explained}
-use Rattle.plan.specs.declared.Explained.the-variants.{Refused}
+use Rattle.plan.specs.declared.Walked.{Walked}
+use Rattle.plan.specs.declared.Walked.the-variants.{Refused}
 
 -- after CELL, where FRAME stands at position at
 unfoldable pub celled : Cell → ℕ → State
@@ -44,13 +44,13 @@ bodyState w c f start n mid m =
     }
 
 -- the explanation from command number n on, which stands at position at; CELL and FRAME are commands 1 and 2
-abbrev pub restFrom : List ℕ → State → ℕ → ℕ → Explained
-restFrom w st n at = findingFrom w st n at (commands (drop at w))
+abbrev pub restFrom : List ℕ → State → ℕ → ℕ → Walked
+restFrom w st n at = walkFrom w st n at (commands (drop at w))
 
-abbrev pub bodyRest : List ℕ → Cell → Frame → ℕ → ℕ → ℕ → ℕ → ℕ → Explained
+abbrev pub bodyRest : List ℕ → Cell → Frame → ℕ → ℕ → ℕ → ℕ → ℕ → Walked
 bodyRest w c f start n mid m at = restFrom w (bodyState w c f start n mid m) (n + m + 3) at
 
-abbrev pub planRest : List ℕ → Plan → ℕ → Explained
+abbrev pub planRest : List ℕ → Plan → ℕ → Walked
 planRest w p at = bodyRest w (p .cell) (p .frame) (p .his .at) (p .his .count) (p .users .at) (p .users .count) at
 
 -- the cause of a command that is not due, before END: the bytes l begin with it, or have ended

@@ -1,17 +1,18 @@
 // The plan check (document 01, Plan and payload; Refusals 1 to 7): reads a plan's commands from left to right and answers
 // with the plan, or with the first fault: which command, at which byte of the plan, the first of its fields that has the fault,
-// and so the refusal.
+// and so the refusal; and the command before that it clashes with.
 ghost use mathlib.Core.Path.{_≡_};
 ghost use Prim.Native.Nat.{_+_, _*_, _≤_};
 ghost use mathlib.Core.List.{List};
 ghost use lib.ListN.{length, drop};
 ghost use Rattle.plan.specs.Lists.{oneOf};
 ghost use Rattle.plan.specs.Commands.{byte, cellOf, frameOf, hiOf, userOf, entryFor, commandOf};
-ghost use Rattle.plan.specs.Fields.{unitsOf, groupsOf, sequencesOf};
-ghost use Rattle.plan.specs.Check.{refusalNumber, checkOf};
+ghost use Rattle.plan.specs.Fields.{unitsOf, groupsOf, sequencesOf, samePair};
+ghost use Rattle.plan.specs.Check.{refusalNumber, checkOf, refusalOf};
 ghost use Rattle.plan.specs.Rows.{nextOf};
 ghost use Rattle.plan.specs.Valid.{CellIn};
-ghost use Rattle.plan.specs.Finding.{causeRefusal, demand as demandOf, cellCause, frameCause, hiCause, userCause, foundAt, findingOf};
+ghost use Rattle.plan.specs.Finding.{causeRefusal, demand as demandOf, cellCause, frameCause, hiCause, userCause, foundAt, walkOf};
+ghost use Rattle.plan.specs.Finding.{sameRnti, sharesBlock, sharedBy, inCommon, earlierOf, findingAt, findingOf};
 ghost use Rattle.plan.specs.Loops.{brokenFor, lateCause, celled, restFrom, bodyRest, planRest, standsAt, pairOf, blocksOf, PairsUsed, UsersUsed, HisPast, HisRead, EndDue};
 
 // 10 CELL: the identity C, the width in blocks N, the prefix (1 extended), the antenna ports P, and N_g in sixths.
@@ -134,19 +135,54 @@ enum Reason {
     Is(Cause),
 }
 
-// The command is counted from 1. The offset is the position of its command byte in the plan, from 0; that of a missing END is the plan's length.
-// Of PairUsed, RntiUsed and BlockUsed the earlier command would be one more field: his_from and users_from know the commands before.
-pub struct Finding {
-    pub refusal: Refusal,
-    pub command: usize,
-    pub offset: usize,
-    pub cause: Cause,
+// Where the walk over the commands stops, and why. The command is counted from 1. The offset is the position of its command byte in the plan,
+// from 0; that of a missing END is the plan's length.
+struct Stop {
+    command: usize,
+    offset: usize,
+    cause: Cause,
 }
 
 // How many commands of one kind stand in a row, or the first fault of one.
 enum Counted {
     Count(usize),
-    Refused(Finding),
+    Refused(Stop),
+}
+
+// The plan, or the first fault.
+enum Walked {
+    Accepted(Plan),
+    Refused(Stop),
+}
+
+// What a command has in common with one before it.
+enum Shared {
+    Nothing,
+    Pair,
+    Rnti,
+    Block,
+}
+
+// A command of the plan by its number, counted from 1, and the position of its command byte.
+pub struct Numbered {
+    pub command: usize,
+    pub offset: usize,
+}
+
+// The earlier command that a refused one clashes with, or none.
+pub enum Earlier {
+    Nothing,
+    Is(Numbered),
+}
+
+// Why a plan is refused: the command's number and offset as in Stop; earlier: of PairUsed, RntiUsed and BlockUsed the first command that has the
+// pair, the RNTI or one of the blocks.
+pub struct Finding {
+    pub refusal: Refusal,
+    pub command: usize,
+    pub offset: usize,
+    pub cause: Cause,
+    pub earlier: Earlier,
 }
 
 // The plan, or why it is refused.
@@ -204,11 +240,10 @@ fn refusal_of(c: Cause) -> Refusal
 }
 
 // Command number n, at position at, is refused for the cause.
-fn found(n: usize, at: usize, cause: Cause) -> Finding
+fn found(n: usize, at: usize, cause: Cause) -> Stop
     ensures { λ r. ⌜ r ≡ foundAt n at cause ⌝ }
 {
-    Finding {
-        refusal: refusal_of(cause),
+    Stop {
         command: n,
         offset: at,
         cause: cause,
@@ -530,7 +565,7 @@ fn late_cause(plan: &[u8], at: usize) -> Cause
 }
 
 // After the HIs and the USERs of p: END is due at position at, and nothing after it.
-fn finish(plan: &[u8], p: Plan, at: usize) -> Explained
+fn finish(plan: &[u8], p: Plan, at: usize) -> Walked
     requires { ⌜ EndDue (now plan) p at ⌝ }
     ensures { λ r. ⌜ r ≡ planRest (now (plan .entry)) p at ⌝ }
 {
@@ -538,16 +573,16 @@ fn finish(plan: &[u8], p: Plan, at: usize) -> Explained
     match command_at(plan, at) {
         Command::End => {
             if at + 1 < plan.len() {
-                return Explained::Refused(found(number + 1, at + 1, Cause::AfterEnd));
+                return Walked::Refused(found(number + 1, at + 1, Cause::AfterEnd));
             }
-            Explained::Accepted(p)
+            Walked::Accepted(p)
         }
-        _ => Explained::Refused(found(number, at, late_cause(plan, at))),
+        _ => Walked::Refused(found(number, at, late_cause(plan, at))),
     }
 }
 
 // The commands after his HIs from position start on: USERs and END.
-fn users_from(plan: &[u8], cell: Cell, frame: Frame, start: usize, his: usize) -> Explained
+fn users_from(plan: &[u8], cell: Cell, frame: Frame, start: usize, his: usize) -> Walked
     requires { ⌜ (HisPast (now plan) start his (start + 3 * his)) × CellIn cell ⌝ }
     ensures { λ r. ⌜ r ≡ bodyRest (now (plan .entry)) cell frame start his (start + 3 * his) 0 (start + 3 * his) ⌝ }
 {
@@ -566,7 +601,7 @@ fn users_from(plan: &[u8], cell: Cell, frame: Frame, start: usize, his: usize) -
                 users = users + 1;
                 at = next_at(plan, at);
             }
-            Reason::Is(cause) => return Explained::Refused(found(his + users + 3, at, cause)),
+            Reason::Is(cause) => return Walked::Refused(found(his + users + 3, at, cause)),
         }
     }
     let p = Plan {
@@ -585,40 +620,40 @@ fn users_from(plan: &[u8], cell: Cell, frame: Frame, start: usize, his: usize) -
 }
 
 // The commands after FRAME: HIs, USERs and END, from position start on.
-fn body(plan: &[u8], cell: Cell, frame: Frame, start: usize) -> Explained
+fn body(plan: &[u8], cell: Cell, frame: Frame, start: usize) -> Walked
     requires { ⌜ (start ≤ length (now plan)) × CellIn cell ⌝ }
     ensures { λ r. ⌜ r ≡ bodyRest (now (plan .entry)) cell frame start 0 start 0 start ⌝ }
 {
     match his_from(plan, cell, start) {
         Counted::Count(his) => users_from(plan, cell, frame, start, his),
-        Counted::Refused(f) => Explained::Refused(f),
+        Counted::Refused(f) => Walked::Refused(f),
     }
 }
 
 // The commands after CELL, from position at on.
-fn after_cell(plan: &[u8], c: Cell, at: usize) -> Explained
+fn after_cell(plan: &[u8], c: Cell, at: usize) -> Walked
     requires { ⌜ CellIn c ⌝ }
     ensures { λ r. ⌜ r ≡ restFrom (now (plan .entry)) (celled c at) 2 at ⌝ }
 {
     match command_at(plan, at) {
         Command::Frame(f) => match frame_cause(f) {
             Reason::Nothing => body(plan, c, f, at + 5),
-            Reason::Is(cause) => Explained::Refused(found(2, at, cause)),
+            Reason::Is(cause) => Walked::Refused(found(2, at, cause)),
         },
-        _ => Explained::Refused(found(2, at, late_cause(plan, at))),
+        _ => Walked::Refused(found(2, at, late_cause(plan, at))),
     }
 }
 
 // The plan, or the first command that has a fault and the first cause of it.
-pub fn explain(plan: &[u8]) -> Explained
-    ensures { λ r. ⌜ r ≡ findingOf (now (plan .entry)) ⌝ }
+fn walk(plan: &[u8]) -> Walked
+    ensures { λ r. ⌜ r ≡ walkOf (now (plan .entry)) ⌝ }
 {
     match command_at(plan, 0) {
         Command::Cell(c) => match cell_cause(c) {
             Reason::Nothing => after_cell(plan, c, 7),
-            Reason::Is(cause) => Explained::Refused(found(1, 0, cause)),
+            Reason::Is(cause) => Walked::Refused(found(1, 0, cause)),
         },
-        _ => Explained::Refused(found(1, 0, late_cause(plan, 0))),
+        _ => Walked::Refused(found(1, 0, late_cause(plan, 0))),
     }
 }
 
@@ -626,11 +661,108 @@ pub fn explain(plan: &[u8]) -> Explained
 pub fn check(plan: &[u8]) -> Checked
     ensures { λ r. ⌜ r ≡ checkOf (now (plan .entry)) ⌝ }
 {
-    match explain(plan) {
-        Explained::Accepted(p) => Checked::Plan(p),
-        Explained::Refused(f) => {
-            let refusal = f.refusal;
-            Checked::Refused(refusal)
+    match walk(plan) {
+        Walked::Accepted(p) => Checked::Plan(p),
+        Walked::Refused(s) => {
+            let cause = s.cause;
+            Checked::Refused(refusal_of(cause))
         }
+    }
+}
+
+// The refusal of a check that has no plan; nobody asks for that of a plan.
+pub fn refusal_in(a: Checked) -> Refusal
+    ensures { λ r. ⌜ r ≡ refusalOf a ⌝ }
+{
+    match a {
+        Checked::Refused(r) => r,
+        Checked::Plan(_) => Refusal::Unreadable,
+    }
+}
+
+// What a cause says that the command has in common with one before it.
+fn shared_by(c: Cause) -> Shared
+    ensures { λ r. ⌜ r ≡ sharedBy c ⌝ }
+{
+    match c {
+        Cause::PairUsed => Shared::Pair,
+        Cause::RntiUsed => Shared::Rnti,
+        Cause::BlockUsed => Shared::Block,
+        _ => Shared::Nothing,
+    }
+}
+
+fn same_pair(h: Hi, e: Hi) -> bool
+    ensures { λ r. ⌜ r ≡ samePair h e ⌝ }
+{
+    (h.group == e.group) & (h.sequence == e.sequence)
+}
+
+fn same_rnti(u: User, v: User) -> bool
+    ensures { λ r. ⌜ r ≡ sameRnti u v ⌝ }
+{
+    u.rnti == v.rnti
+}
+
+fn shares_block(u: User, v: User) -> bool
+    ensures { λ r. ⌜ r ≡ sharesBlock u v ⌝ }
+{
+    let u_end = (u.first as usize) + (u.count as usize);
+    let v_end = (v.first as usize) + (v.count as usize);
+    ((u.first as usize) < v_end) & ((v.first as usize) < u_end)
+}
+
+// Whether the commands at two positions have it in common.
+fn in_common(plan: &[u8], s: Shared, at: usize, before: usize) -> bool
+    ensures { λ r. ⌜ r ≡ inCommon s (drop at (now (plan .entry))) (drop before (now (plan .entry))) ⌝ }
+{
+    match s {
+        Shared::Nothing => false,
+        Shared::Pair => same_pair(hi_at(plan, at), hi_at(plan, before)),
+        Shared::Rnti => same_rnti(user_at(plan, at), user_at(plan, before)),
+        Shared::Block => shares_block(user_at(plan, at), user_at(plan, before)),
+    }
+}
+
+// The first command before number n, at position at, that is of its kind and has it in common.
+fn earlier_of(plan: &[u8], n: usize, at: usize, s: Shared) -> Earlier
+    ensures { λ r. ⌜ r ≡ earlierOf (now (plan .entry)) n at s ⌝ }
+{
+    let code = byte_at(plan, at, 0);
+    let mut number: usize = 1;
+    let mut before: usize = 0;
+    while number < n {
+        if (byte_at(plan, before, 0) == code) & in_common(plan, s, at, before) {
+            return Earlier::Is(Numbered {
+                command: number,
+                offset: before,
+            });
+        }
+        number = number + 1;
+        before = next_at(plan, before);
+    }
+    Earlier::Nothing
+}
+
+fn finding_at(plan: &[u8], s: Stop) -> Finding
+    ensures { λ r. ⌜ r ≡ findingAt (now (plan .entry)) s ⌝ }
+{
+    let cause = s.cause;
+    Finding {
+        refusal: refusal_of(cause),
+        command: s.command,
+        offset: s.offset,
+        cause: cause,
+        earlier: earlier_of(plan, s.command, s.offset, shared_by(cause)),
+    }
+}
+
+// The plan, or why it is refused. The earlier command is looked for here alone, so that the plan check does not wait for it.
+pub fn explain(plan: &[u8]) -> Explained
+    ensures { λ r. ⌜ r ≡ findingOf (now (plan .entry)) ⌝ }
+{
+    match walk(plan) {
+        Walked::Accepted(p) => Explained::Accepted(p),
+        Walked::Refused(s) => Explained::Refused(finding_at(plan, s)),
     }
 }

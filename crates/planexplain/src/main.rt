@@ -1,9 +1,11 @@
 // planexplain: reads a two-byte plan length and the plan from standard input, prints each command of the plan in words up to the one that is
-// refused, and says which field of it is refused and what is allowed there. What follows the plan is not looked at.
+// refused, and says which field of it is refused and what is allowed there, or which command before has used it. What follows the plan is not
+// looked at.
 use libc::STDOUT_FILENO;
 use plan::Cause;
 use plan::Cell;
 use plan::Command;
+use plan::Earlier;
 use plan::Explained;
 use plan::Finding;
 use plan::Frame;
@@ -240,9 +242,20 @@ fn because(plan: &[u8], cause: Cause, at: usize) {
     }
 }
 
+fn clash(earlier: Earlier) {
+    match earlier {
+        Earlier::Nothing => {}
+        Earlier::Is(e) => {
+            put(b"; clashes with command ", e.command, b" at byte ");
+            print::number(e.offset as u64);
+        }
+    }
+}
+
 fn refused(plan: &[u8], f: Finding) {
     let refusal = f.refusal;
     let cause = f.cause;
+    let earlier = f.earlier;
     let number = plan::number(refusal);
     put(b"refused ", number as usize, b": ");
     words::meaning(STDOUT_FILENO, number);
@@ -250,6 +263,7 @@ fn refused(plan: &[u8], f: Finding) {
     put(b"command ", f.command, b"");
     put(b", byte ", f.offset, b" of the plan");
     because(plan, cause, f.offset);
+    clash(earlier);
     print::line();
 }
 

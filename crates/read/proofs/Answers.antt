@@ -8,7 +8,7 @@ use types.Run.{OneOf}
 use denote.Enum.Declared.{tagOf}
 use Rattle.plan.specs.Lists.{oneOf}
 use Rattle.plan.specs.Answers.{Answer, given}
-use Rattle.plan.specs.Check.{checkOf, refusedAs}
+use Rattle.plan.specs.Check.{checkOf, refusedAs, refusalOf}
 use Rattle.plan.specs.declared.Plan.{Plan}
 use Rattle.plan.specs.declared.Refusal.{Refusal}
 use Rattle.plan.specs.declared.Refusal.the-variants.{GridLength, PayloadLength, NoPayload}
@@ -16,7 +16,6 @@ use Rattle.plan.specs.declared.Checked.{Checked}
 use Rattle.plan.specs.declared.Checked.the-variants.{Plan as accepted, Refused as refused}
 use Rattle.plan.proofs.Checked.{the-type}
 use Rattle.plan.proofs.OneOf.{not-in}
-use Rattle.layout.specs.Chain.{refusalOf}
 use Rattle.payload.specs.Payload.{gridLength, payloadLength}
 use Rattle.recovery.specs.Recovery.{payloadIn}
 use Rattle.build.specs.Build.{pdschElements}

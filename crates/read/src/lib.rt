@@ -122,7 +122,7 @@ pub fn read(plan: &[u8], grid: &[u8], payload: &mut [u8]) -> ReadBack
 {
     let checked = plan::check(plan);
     let Checked::Plan(p) = checked else {
-        return ReadBack::Refused(layout::refusal(checked));
+        return ReadBack::Refused(plan::refusal_in(checked));
     };
     if grid.len() != payload::grid_length(p) {
         return ReadBack::Refused(Refusal::GridLength);

@@ -10,7 +10,7 @@ use denote.Enum.Declared.{tagOf}
 use borrow.Author.Tests.{eq-eqb, ne-eqb}
 use Rattle.plan.specs.Lists.{oneOf}
 use Rattle.plan.specs.Answers.{Answer, given}
-use Rattle.plan.specs.Check.{checkOf, refusedAs}
+use Rattle.plan.specs.Check.{checkOf, refusedAs, refusalOf}
 use Rattle.plan.specs.declared.Plan.{Plan}
 use Rattle.plan.specs.declared.Refusal.{Refusal}
 use Rattle.plan.specs.declared.Refusal.the-variants.{GridLength, PayloadLength, SpareBit}
@@ -18,7 +18,6 @@ use Rattle.plan.specs.declared.Checked.{Checked}
 use Rattle.plan.specs.declared.Checked.the-variants.{Plan as accepted, Refused as refused}
 use Rattle.plan.proofs.Checked.{the-type}
 use Rattle.plan.proofs.OneOf.{not-in}
-use Rattle.layout.specs.Chain.{refusalOf}
 use Rattle.payload.specs.Payload.{gridLength, payloadLength, spareClear, AcceptedPayload}
 use Rattle.payload.proofs.Refusals.{accepted-payload, payload-clear}
 use Rattle.subframe.specs.Grid.{gridOf}

@@ -17,7 +17,7 @@ pub fn build_both(plan: &[u8], a: &[u8], b: &[u8], grid_a: &mut [u8], grid_b: &m
 {
     let checked = plan::check(plan);
     let Checked::Plan(p) = checked else {
-        return Built::Refused(layout::refusal(checked));
+        return Built::Refused(plan::refusal_in(checked));
     };
     let room = payload::grid_length(p);
     if grid_a.len() != room {

@@ -40,7 +40,7 @@ fn see_crs(plan: &[u8], p: Plan, grid: &[u8]) -> Seen
     requires { ⌜ Given (now plan) p (now grid) ⌝ }
     ensures { λ r. ⌜ Compared (crsRows p (symbols (p .cell))) (elementDue (now (plan .entry)) p (now (grid .entry))) (now (grid .entry)) r ⌝ }
 {
-    let rows = 2 * layout::slot_length(p.cell);
+    let rows = layout::symbols(p.cell);
     let mut seen = Seen::Weight(0);
     let mut s: usize = 0;
     while s < rows {

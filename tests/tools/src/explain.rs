@@ -48,13 +48,26 @@ impl Sort {
 /// A refusal's number and what is said after the command's place.
 type Fault = (u8, String);
 
+/// A command that was read: its number, its byte of the plan and its fields' values.
+struct Read {
+    number: usize,
+    at: usize,
+    values: Vec<usize>,
+}
+
+impl Read {
+    fn clash(&self) -> String {
+        format!("used before; clashes with command {} at byte {}", self.number, self.at)
+    }
+}
+
 /// What has been read so far, by name of command.
 #[derive(Default)]
 struct Before {
     names: Vec<&'static str>,
     cell: Vec<usize>,
-    his: Vec<Vec<usize>>,
-    users: Vec<Vec<usize>>,
+    his: Vec<Read>,
+    users: Vec<Read>,
 }
 
 fn field(number: u8, name: &str, value: usize, allowed: &str) -> Option<Fault> {
@@ -104,8 +117,9 @@ fn hi_fault(v: &[usize], before: &Before) -> Option<Fault> {
     if v[1] >= sequences {
         return field(5, "sequence", v[1], &format!("below {sequences}"));
     }
-    if before.his.iter().any(|other| other == v) {
-        let said = format!(", field group and sequence: {} and {}; the pair was used before", v[0], v[1]);
+    if let Some(other) = before.his.iter().find(|other| other.values == v) {
+        let said =
+            format!(", field group and sequence: {} and {}; the pair was {}", v[0], v[1], other.clash());
         return Some((5, said));
     }
     None
@@ -125,12 +139,15 @@ fn user_fault(v: &[usize], before: &Before) -> Option<Fault> {
     if v[2] + v[3] > blocks {
         return field(6, "first block + count", v[2] + v[3], &format!("at most {blocks}"));
     }
-    if before.users.iter().any(|other| other[0] == v[0]) {
-        return field(7, "RNTI", v[0], "used before");
+    if let Some(other) = before.users.iter().find(|other| other.values[0] == v[0]) {
+        return field(7, "RNTI", v[0], &other.clash());
     }
-    let mut used = before.users.iter().flat_map(|other| other[2]..other[2] + other[3]);
-    if used.any(|block| (v[2]..v[2] + v[3]).contains(&block)) {
-        let said = format!(", field first block and count: {} and {}; a block was used before", v[2], v[3]);
+    let blocks = |u: &[usize]| u[2]..u[2] + u[3];
+    if let Some(other) =
+        before.users.iter().find(|other| blocks(v).any(|block| blocks(&other.values).contains(&block)))
+    {
+        let said =
+            format!(", field first block and count: {} and {}; a block was {}", v[2], v[3], other.clash());
         return Some((7, said));
     }
     None
@@ -231,8 +248,8 @@ fn lines_of_plan(plan: &[u8]) -> Vec<String> {
         let values = sort.values(&plan[at..]);
         match sort.name {
             "CELL" => before.cell = values,
-            "HI" => before.his.push(values),
-            "USER" => before.users.push(values),
+            "HI" => before.his.push(Read { number, at, values }),
+            "USER" => before.users.push(Read { number, at, values }),
             _ => {}
         }
         before.names.push(sort.name);
@@ -355,11 +372,61 @@ fn inputs() -> Vec<Vec<u8>> {
     inputs
 }
 
+/// Clashes worked out by hand: the commands after CELL (25 blocks, N_g 1) and FRAME, and what is said of the last.
+const CLASHES: [(&[&[u8]], &str); 6] = [
+    // The second of three HIs has the pair; the third differs from it in the sequence alone.
+    (
+        &[&[0x20, 1, 2], &[0x20, 2, 1], &[0x20, 2, 2], &[0x20, 2, 1]],
+        "command 6, byte 21 of the plan, field group and sequence: 2 and 1; the pair was used before; \
+         clashes with command 4 at byte 15",
+    ),
+    // The same HI at once.
+    (
+        &[&[0x20, 0, 0], &[0x20, 0, 0]],
+        "command 4, byte 15 of the plan, field group and sequence: 0 and 0; the pair was used before; \
+         clashes with command 3 at byte 12",
+    ),
+    // The first user has a block, the second the RNTI: the RNTI is named, and with it the second.
+    (
+        &[&[0x20, 0, 0], &[0x30, 0, 7, 2, 0, 5], &[0x30, 0, 8, 2, 5, 5], &[0x30, 0, 8, 2, 4, 1]],
+        "command 6, byte 27 of the plan, field RNTI: 8; used before; clashes with command 5 at byte 21",
+    ),
+    // Blocks of both users before: the first of them is named.
+    (
+        &[&[0x30, 0, 7, 2, 0, 5], &[0x30, 0, 8, 2, 5, 5], &[0x30, 0, 9, 2, 4, 2]],
+        "command 5, byte 24 of the plan, field first block and count: 4 and 2; a block was used before; \
+         clashes with command 3 at byte 12",
+    ),
+    // A block of the second alone.
+    (
+        &[&[0x30, 0, 7, 2, 0, 5], &[0x30, 0, 8, 2, 5, 5], &[0x30, 0, 9, 2, 9, 1]],
+        "command 5, byte 24 of the plan, field first block and count: 9 and 1; a block was used before; \
+         clashes with command 4 at byte 18",
+    ),
+    // An RNTI used before is not named where a field is refused.
+    (
+        &[&[0x30, 0, 7, 2, 0, 5], &[0x30, 0, 7, 3, 0, 5]],
+        "command 4, byte 18 of the plan, field modulation: 3; 2, 4 or 6",
+    ),
+];
+
+/// The inputs of the clashes, and the last line for each.
+fn clashes() -> Vec<(Vec<u8>, &'static str)> {
+    let start = [&[0x10, 0, 5, 25, 0, 1, 6][..], &[0x11, 0, 0, 1, 2]].concat();
+    let input = |list: &[&[u8]]| with_length(&[&start[..], &list.concat(), &[0]].concat());
+    CLASHES.iter().map(|(list, last)| (input(list), *last)).collect()
+}
+
 /// Prints one line and gives the number of differences.
 pub fn compare(bin: &Path) -> usize {
     let program = bin.join("planexplain").to_string_lossy().into_owned();
     let (mut answers, mut differences) = (BTreeMap::new(), 0);
-    let inputs = inputs();
+    let mut inputs = inputs();
+    for (input, last) in clashes() {
+        let expected = lines_of_input(&input);
+        assert_eq!(expected.last().map(String::as_str), Some(last), "a clash worked out by hand");
+        inputs.push(input);
+    }
     for input in &inputs {
         let expected = lines_of_input(input);
         let answer = expected.iter().find(|line| *line == "accepted" || line.starts_with("refused "));

@@ -17,14 +17,14 @@ enum-known-checked c = search needs
 enum-told : tie.Need-enum-told
 enum-told c = search needs
 
-refusal-requires : tie.Need-refusal-requires
-refusal-requires c κs = search needs
+refusal-in-requires : tie.Need-refusal-in-requires
+refusal-in-requires c κs = search needs
 
 returns : tie.Need-returns
 returns c =
     let a = c .before .before in
     let b = a .before .before .before .before .before in
-    way-refused (b .args .plan .now) (b .args .payload .now) (b .args .grid .now) _ (a .before .check .ensures) (a .match .keys2) _ (c .refusal .ensures)
+    way-refused (b .args .plan .now) (b .args .payload .now) (b .args .grid .now) _ (a .before .check .ensures) (a .match .keys2) _ (c .refusal-in .ensures)
 
 grid-length-requires : tie.Need-grid-length-requires
 grid-length-requires c κs = search needs
@@ -92,7 +92,7 @@ build-spec =
     check-requires
     enum-known-checked
     enum-told
-    refusal-requires
+    refusal-in-requires
     returns
     grid-length-requires
     returns-2

@@ -15,13 +15,13 @@ enum-known-checked c = search needs
 enum-told : tie.Need-enum-told
 enum-told c = search needs
 
-refusal-requires : tie.Need-refusal-requires
-refusal-requires c κs = tt
+refusal-in-requires : tie.Need-refusal-in-requires
+refusal-in-requires c κs = tt
 
 returns : tie.Need-returns
 returns c =
     let at-match = c .before .before in let at-check = at-match .before in let entry = at-check .before .before in
-    ap Refused (c .refusal .ensures) ∙ way-refused (entry .args .plan .now) (entry .args .s) (entry .args .k) (entry .args .port) _ (at-check .check .ensures)
+    ap Refused (c .refusal-in .ensures) ∙ way-refused (entry .args .plan .now) (entry .args .s) (entry .args .k) (entry .args .port) _ (at-check .check .ensures)
     (at-match .match .keys2)
 
 in-grid-requires : tie.Need-in-grid-requires
@@ -55,7 +55,7 @@ owner-query-spec =
     check-requires
     enum-known-checked
     enum-told
-    refusal-requires
+    refusal-in-requires
     returns
     in-grid-requires
     owner-at-requires

@@ -1,19 +1,12 @@
 -- The products fit, and the sentence is the definition.
-use Prim.Native.Nat.{_-_, _*_}
 use native.Mathlib.Omega.{arith}
-use Rattle.places.proofs.Ways.{small-product, number-in}
+use Rattle.places.proofs.Ways.{left-product, number-in}
 use borrow.Author.Needs.{needs}
 use Rattle.places.proofs.unit_number.Statement.{statement}
 use Rattle.places.proofs.unit_number.Tie as tie
 
-cast-h : tie.Need-cast-h
-cast-h c = search needs
-
-mul-h : tie.Need-mul-h
-mul-h c = search needs
-
-sub-h : tie.Need-sub-h
-sub-h c = search needs
+groups-left-requires : tie.Need-groups-left-requires
+groups-left-requires c κs = search needs
 
 cast-result : tie.Need-cast-result
 cast-result c = search needs
@@ -22,19 +15,34 @@ add-result : tie.Need-add-result
 add-result c = search needs
 
 mul-result : tie.Need-mul-result
-mul-result c = omega (arith, small-product (c .before .before .args .i) (2 * c .before .before .args .cell .blocks - 4) (omega arith) (omega arith))
+mul-result c =
+    let at-left = c .before in
+    let a = at-left .before .args in
+    omega (arith, left-product (a .cell) (at-left .groups-left .ensures) (a .i) (omega arith) (omega arith))
 
 add-result-2 : tie.Need-add-result-2
-add-result-2 c = omega (arith, small-product (c .before .before .args .i) (2 * c .before .before .args .cell .blocks - 4) (omega arith) (omega arith))
+add-result-2 c =
+    let at-left = c .before in
+    let a = at-left .before .args in
+    omega (arith, left-product (a .cell) (at-left .groups-left .ensures) (a .i) (omega arith) (omega arith))
 
 rem-result : tie.Need-rem-result
 rem-result c = search needs
 
 returns : tie.Need-returns
-unfolding Rattle.layout.specs.Rules.unitNumber
-returns c = number-in (c .before .before .args .cell) (c .before .before .args .m) (c .before .before .args .i) (omega arith) (omega arith)
+returns c =
+    let at-left = c .before in
+    let a = at-left .before .args in
+    number-in (a .cell) (at-left .groups-left .ensures) (a .m) (a .i) (omega arith) (omega arith)
 
 pub unit-number-spec : {M : Type 1} → statement M
 unit-number-spec =
     tie.close
-    (tie.spec cast-h mul-h sub-h cast-result add-result mul-result add-result-2 rem-result returns)
+    (tie.spec
+    groups-left-requires
+    cast-result
+    add-result
+    mul-result
+    add-result-2
+    rem-result
+    returns)

@@ -1,78 +1,40 @@
--- `plan::explain` meets its contract: CELL is due. Assumes nothing.
-use mathlib.Core.Path.{sym, _∙_}
-use Rattle.plan.proofs.CauseLaws.{cell-in}
-use Rattle.plan.proofs.Opening.{late-first, cell-refused, cell-turn}
+-- `plan::explain` meets its contract: what the walk gives, in full. Assumes nothing.
+use mathlib.Core.Path.{sym, ap, _∙_}
 use borrow.Author.Needs.{needs}
+use Rattle.plan.specs.Finding.{explainedBy, findingOf}
+use Rattle.plan.specs.declared.Explained.the-variants.{Refused}
 use Rattle.plan.proofs.explain.Statement.{statement}
 use Rattle.plan.proofs.explain.Tie as tie
 
-command-at-requires : tie.Need-command-at-requires
-command-at-requires c κs = search needs
+walk-requires : tie.Need-walk-requires
+walk-requires c κs = tt
 
-enum-known-c : tie.Need-enum-known-c
-enum-known-c c = search needs
+enum-known-p : tie.Need-enum-known-p
+enum-known-p c = search needs
 
-cell-cause-requires : tie.Need-cell-cause-requires
-cell-cause-requires c κs = search needs
+enum-known-s : tie.Need-enum-known-s
+enum-known-s c = search needs
 
-enum-told : tie.Need-enum-told
-enum-told c = search needs
-
-after-cell-requires : tie.Need-after-cell-requires
-after-cell-requires c κs = cell-in _ (sym (c .enum-told .given .1) ∙ c .before .before .cell-cause .ensures)
-
-enum-known-cause : tie.Need-enum-known-cause
-enum-known-cause c = search needs
-
-found-requires : tie.Need-found-requires
-found-requires c κs = search needs
-
-late-cause-requires : tie.Need-late-cause-requires
-late-cause-requires c κs = search needs
-
-found-requires-2 : tie.Need-found-requires-2
-found-requires-2 c κs = search needs
+finding-at-requires : tie.Need-finding-at-requires
+finding-at-requires c κs = tt
 
 returns : tie.Need-returns
+unfolding findingOf
 returns c =
-    let at-enum-told = c .before in
-    let at-cell-cause = at-enum-told .before .before in
-    let at-c = at-cell-cause .before .before in
-    let at-command-at = at-c .before .before in
-    let w = at-command-at .before .before .args .plan .now in
-    let e = sym (at-command-at .command-at .ensures) ∙ at-c .c .given .1 in
-    c .after-cell .ensures ∙ cell-turn w _ e (at-cell-cause .cell-cause .ensures) (at-enum-told .enum-told .given .1)
+    let at-p = c .before in
+    let at-walk = at-p .before .before in
+    let explained = explainedBy (at-walk .before .before .args .plan .now) in
+    ap explained (sym (at-p .p .given .1) ∙ at-walk .walk .ensures)
 
 returns-2 : tie.Need-returns-2
+unfolding findingOf
 returns-2 c =
-    let at-cause = c .before .before in
-    let at-cell-cause = at-cause .before .before in
-    let at-c = at-cell-cause .before .before in
-    let at-command-at = at-c .before .before in
-    let w = at-command-at .before .before .args .plan .now in
-    let e = sym (at-command-at .command-at .ensures) ∙ at-c .c .given .1 in
-    cell-refused w _ e (at-cell-cause .cell-cause .ensures) (at-cause .cause .given .1) (c .found .ensures)
-
-returns-3 : tie.Need-returns-3
-returns-3 c =
-    let at-match = c .before .before in
-    let at-command-at = at-match .before in
-    let w = at-command-at .before .before .args .plan .now in
-    late-first w (sym (at-command-at .command-at .ensures)) (at-match .match .keys2) (c .before .late-cause .ensures) (c .found2 .ensures)
+    let at-s = c .before .before in
+    let at-walk = at-s .before .before in
+    let explained = explainedBy (at-walk .before .before .args .plan .now) in
+    ap Refused (c .finding-at .ensures) ∙ ap explained (sym (at-s .s .given .1) ∙ at-walk .walk .ensures)
 
 pub explain-spec : {M : Type 1} → statement M
 explain-spec =
     tie.close
-    (tie.spec
-    command-at-requires
-    enum-known-c
-    cell-cause-requires
-    enum-told
-    after-cell-requires
-    enum-known-cause
-    found-requires
-    late-cause-requires
-    found-requires-2
-    returns
-    returns-2
-    returns-3)
+    (tie.spec walk-requires enum-known-p enum-known-s finding-at-requires returns returns-2)

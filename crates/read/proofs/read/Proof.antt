@@ -15,13 +15,13 @@ enum-known-checked c = search needs
 enum-told : tie.Need-enum-told
 enum-told c = search needs
 
-refusal-requires : tie.Need-refusal-requires
-refusal-requires c κs = search needs
+refusal-in-requires : tie.Need-refusal-in-requires
+refusal-in-requires c κs = search needs
 
 returns : tie.Need-returns
 returns c =
     let at-match = c .before .before in let at-check = at-match .before in let entry = at-check .before .before .before .before in
-    way-refused (entry .args .plan .now) (entry .args .grid .now) (entry .args .payload .now) _ (at-check .check .ensures) (at-match .match .keys2) _ (c .refusal .ensures)
+    way-refused (entry .args .plan .now) (entry .args .grid .now) (entry .args .payload .now) _ (at-check .check .ensures) (at-match .match .keys2) _ (c .refusal-in .ensures)
 
 grid-length-requires : tie.Need-grid-length-requires
 grid-length-requires c κs = search needs
@@ -93,7 +93,7 @@ read-spec =
     check-requires
     enum-known-checked
     enum-told
-    refusal-requires
+    refusal-in-requires
     returns
     grid-length-requires
     returns-2

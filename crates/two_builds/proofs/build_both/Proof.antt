@@ -21,7 +21,7 @@ use Rattle.two_builds.proofs.build_both.Reads as reads
 use Rattle.two_builds.proofs.build_both.Lts as lts
 use Rattle.build.proofs.fill.Reads as fill-reads
 use Rattle.counts.proofs.users_count.Reads as users-count-reads
-use Rattle.layout.proofs.refusal.Reads as refusal-reads
+use Rattle.plan.proofs.refusal_in.Reads as refusal-in-reads
 use Rattle.payload.proofs.grid_length.Reads as grid-length-reads
 use Rattle.payload.proofs.payload_length.Reads as payload-length-reads
 use Rattle.payload.proofs.spare_clear.Reads as spare-clear-reads
@@ -40,15 +40,15 @@ enum-told : tie.Need-enum-told
 enum-told c = search needs
 
 -- src/lib.rt:19:31
-refusal-requires : tie.Need-refusal-requires
-refusal-requires c κs = search needs
+refusal-in-requires : tie.Need-refusal-in-requires
+refusal-in-requires c κs = search needs
 
 -- src/lib.rt:19:9
 returns : tie.Need-returns
 returns c =
     let at-match = c .before .before in let at-check = at-match .before in let entry = at-check .before .before .before .before .before .before in
     way-refused (entry .args .plan .now) (entry .args .a .now) (entry .args .b .now) (entry .args .grid-a .now) (entry .args .grid-b .now) _ (at-check .check .ensures)
-    (at-match .match .keys2) _ (c .refusal .ensures)
+    (at-match .match .keys2) _ (c .refusal-in .ensures)
 
 -- src/lib.rt:21:9
 grid-length-requires : tie.Need-grid-length-requires
@@ -201,7 +201,7 @@ build-both-spec =
     check-requires
     enum-known-checked
     enum-told
-    refusal-requires
+    refusal-in-requires
     returns
     grid-length-requires
     returns-2

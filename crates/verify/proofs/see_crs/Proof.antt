@@ -1,6 +1,5 @@
 -- `verify::see_crs` meets its contract: symbol after symbol. Assumes nothing.
-use Prim.Native.Nat.{ℕ, _-_, _*_, _≤_}
-use mathlib.Core.Path.{ap}
+use Prim.Native.Nat.{_-_, _≤_}
 use native.Mathlib.Omega.{arith}
 use Rattle.layout.specs.Owners.{symbols}
 use Rattle.places.proofs.Numbers.{symbols-most}
@@ -18,11 +17,8 @@ Inv-loop plan p grid rows seen₀ s₀ seen s = (s ≤ symbols (p .cell)) × Com
 abbrev μ-loop : tie.MeasureT-loop
 μ-loop plan p grid rows seen₀ s₀ seen s = symbols (p .cell) - s
 
-slot-length-requires : tie.Need-slot-length-requires Inv-loop μ-loop
-slot-length-requires c κs = tt
-
-mul-rows : tie.Need-mul-rows Inv-loop μ-loop
-mul-rows c = omega (arith, c .slot-length .ensures, symbols-most (c .before .before .before .args .p .cell))
+symbols-requires : tie.Need-symbols-requires Inv-loop μ-loop
+symbols-requires c κs = tt
 
 loop-holds : tie.Need-loop-holds Inv-loop μ-loop
 loop-holds c = (omega arith, rows-none (c .before .before .before .args .plan .now) (c .before .before .before .args .p) (c .before .before .before .pre))
@@ -31,7 +27,7 @@ cast-see-crs-row : tie.Need-cast-see-crs-row Inv-loop μ-loop
 cast-see-crs-row c = omega (arith, c .before .loop .inv .0, symbols-most (c .before .before .before .before .before .args .p .cell))
 
 see-crs-row-requires : tie.Need-see-crs-row-requires Inv-loop μ-loop
-see-crs-row-requires c κs = (c .before .before .before .before .before .pre, omega (arith, c .loop-test .taken, c .before .before .slot-length .ensures))
+see-crs-row-requires c κs = (c .before .before .before .before .before .pre, omega (arith, c .loop-test .taken, c .before .before .symbols .ensures .0))
 
 both-requires : tie.Need-both-requires Inv-loop μ-loop
 both-requires c κs =
@@ -42,22 +38,22 @@ add-s : tie.Need-add-s Inv-loop μ-loop
 add-s c = omega (arith, c .before .before .before .loop .inv .0, symbols-most (c .before .before .before .before .before .before .before .args .p .cell))
 
 loop-less : tie.Need-loop-less Inv-loop μ-loop
-loop-less c = omega (arith, c .before .before .loop-test .taken, c .before .before .before .before .slot-length .ensures)
+loop-less c = omega (arith, c .before .before .loop-test .taken, c .before .before .before .before .symbols .ensures .0)
 
 loop-again : tie.Need-loop-again Inv-loop μ-loop
 loop-again c =
-    let at-loop-test = c .before .before in let at-loop = at-loop-test .before in let at-slot-length = at-loop .before in
-    let entry = at-slot-length .before .before .before in (
-      omega (arith, at-loop-test .loop-test .taken, at-slot-length .slot-length .ensures),
+    let at-loop-test = c .before .before in let at-loop = at-loop-test .before in let at-symbols = at-loop .before in
+    let entry = at-symbols .before .before .before in (
+      omega (arith, at-loop-test .loop-test .taken, at-symbols .symbols .ensures .0),
       rows-more (entry .args .plan .now) (entry .args .p) (entry .pre) (at-loop .loop .s)
           (c .both .ensures) (at-loop .loop .inv .1) (c .before .see-crs-row .ensures),
     )
 
 returns : tie.Need-returns Inv-loop μ-loop
 returns c =
-    let at-slot-length = c .before .before in let entry = at-slot-length .before .before .before in
+    let at-symbols = c .before .before in let entry = at-symbols .before .before .before in
     rows-end (entry .args .plan .now) (entry .args .p) (entry .pre) (c .before .loop .s) _ (c .before .loop .inv .0) (c .loop-test .left)
-    (ap (λ (x : ℕ). 2 * x) (at-slot-length .slot-length .ensures)) (c .before .loop .inv .1)
+    (at-symbols .symbols .ensures .0) (c .before .loop .inv .1)
 
 pub see-crs-spec : {M : Type 1} → statement M
 see-crs-spec =
@@ -65,8 +61,7 @@ see-crs-spec =
     (tie.spec
     Inv-loop
     μ-loop
-    slot-length-requires
-    mul-rows
+    symbols-requires
     loop-holds
     cast-see-crs-row
     see-crs-row-requires
