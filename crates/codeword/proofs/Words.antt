@@ -161,11 +161,11 @@ module _ (st : List ℕ) (a b c : ℕ) where
   stored-2 : length st ≡ 8 → getD stored 2 0 ≡ c
   stored-2 l = getD-set-same (set (set st 0 a) 1 b) 2 c 0 (simp length-set (omega arith))
 
-  stored-others : (i : ℕ) → 3 ≤ i → getD stored i 0 ≡ getD st i 0
-  stored-others i h =
-      getD-set-other (set (set st 0 a) 1 b) 2 i c 0 (λ e. omega arith)
-      ∙ getD-set-other (set st 0 a) 1 i b 0 (λ e. omega arith)
-      ∙ getD-set-other st 0 i a 0 (λ e. omega arith)
+  stored-5 : getD stored 5 0 ≡ getD st 5 0
+  stored-5 =
+      getD-set-other (set (set st 0 a) 1 b) 2 5 c 0 (λ e. omega arith)
+      ∙ getD-set-other (set st 0 a) 1 5 b 0 (λ e. omega arith)
+      ∙ getD-set-other st 0 5 a 0 (λ e. omega arith)
 
 -- what the calls of `next48` give
 pub next48-is : (bits st : List ℕ) (w : Wide) (b v : ℕ) → Goes48 (wideIn st) w → WordAt bits (getD st 2 0) (getD st 5 0) b → Gives48 w v
@@ -186,10 +186,9 @@ next48-is bits st w b v h f g = record {
               })
               ∙ p;
           byte = omega (arith, stored-2 st (w .x1) (w .x2) (at + 6) (d .size), d .byte);
-          last = stored-others st (w .x1) (w .x2) (at + 6) 5 (omega arith) ∙ d .last;
+          last = stored-5 st (w .x1) (w .x2) (at + 6) ∙ d .last;
         },
       );
-  kept = stored-others st (w .x1) (w .x2) (getD st 2 0 + 6);
 }
 
 -- ---- what the returns of `end` give

@@ -39,10 +39,9 @@ pub record Due (bits : List ℕ) (r : Registers) (k : ℕ) (st : List ℕ) : Typ
   pub byte : getD st 2 0 ≡ 6 * (k + 1)
   pub last : getD st 5 0 ≡ lastWord bits
 
--- what `next48` gives: the bits of the word after it, and the state, in which the rest stays
+-- what `next48` gives: the bits of the word after it, and the state
 pub record Next48 (bits st : List ℕ) (v : ℕ) (st′ : List ℕ) : Type 0 where
   pub goes : (r : Registers) (k : ℕ) → Due bits r k st → (v ≡ binary (scrambledBits bits r) (48 * (k + 1)) 48) × Due bits r (k + 1) st′
-  pub kept : (i : ℕ) → 3 ≤ i → getD st′ i 0 ≡ getD st i 0
 
 -- ---- n bits were taken, the word's lowest `left` come next, and then those that the state gives
 pub record Ready (bits : List ℕ) (r : Registers) (n : ℕ) (st : List ℕ) (word left : ℕ) : Type 0 where
