@@ -120,33 +120,24 @@ module _ {X : Type 0} {Done : Deed X} {Also : Step X} {none : X} (A : Accumulate
       (finish c byTwo (dataSymbol 2 (cfiBit cfi) (outputs r)) (some-places c ok) (pcfich-listed c ok) A (rw e at (t .done)), t .given ∙ ap (after r) bits)
 
 -- ---- a PHICH unit
--- what `unit_pair` makes
-pub unit-made :
-    {c : Cell} {m : ℕ} {sums : List Pair} {n g : ℕ} → UnitIn c m sums → n < 6 → g ≡ unitGroup c m (n / 2)
-    → _≡_ {A = PairAt} (record { group = g; half = n % 2; «port_pair» = (n / 2 + m) % 2; first = getD sums (2 * n) nil; second = getD sums (2 * n + 1) nil }) (unitPair c m sums n)
-    × PairIn c (record { group = g; half = n % 2; «port_pair» = (n / 2 + m) % 2; first = getD sums (2 * n) nil; second = getD sums (2 * n + 1) nil })
-unfolding unitPair
-unit-made {c = c} {m = m} {sums = sums} {n = n} ok in-n eg = (
-  rw eg refl,
-  record {
-    cell = ok .cell;
-    group = omega (arith, eg, phich-groups c (ok .cell) m (ok .unit) .small (n / 2) (omega arith));
-    half = omega arith;
-    first = small-sum (2 * n) (omega arith);
-    second = small-sum (2 * n + 1) (omega arith);
-  },
-)
-  where
-    small-sum : (i : ℕ) → i < 12 → Small 127 (getD sums i nil)
-    small-sum i l = let s = ok .small i l in (omega (arith, s .0), omega (arith, s .1))
-
--- what `unit_group` requires for quad n, and `unit_pair` for its pairs
+-- what `unit_group` requires for quad n of unit m, and `put_pair` and `compare_pair` for pair k, one of its two
 module _ {c : Cell} {m : ℕ} {sums : List Pair} (ok : UnitIn c m sums) {n : ℕ} (in-n : n < 3) where
   pub group-asked : (6 ≤ c .blocks) × (m < 256) × (n < 3)
   group-asked = (six c (ok .cell), unit-few c (ok .cell) m (ok .unit), in-n)
 
-  pub pair-asked : {k g : ℕ} → g ≡ unitGroup c m n → k / 2 ≡ n → UnitIn c m sums × (k < 6) × (g ≡ unitGroup c m (k / 2))
-  pair-asked eg ek = (ok, omega arith, eg ∙ ap (unitGroup c m) (sym ek))
+  pub pair-asked : (k : ℕ) {g : ℕ} {p : PairAt} → g ≡ unitGroup c m n → k / 2 ≡ n → p ≡ unitPair m g sums k → PairIn c p
+  pair-asked k eg ek ep =
+      rw ep
+      (record {
+        cell = ok .cell;
+        group = omega (arith, eg, phich-groups c (ok .cell) m (ok .unit) .small n in-n);
+        half = omega arith;
+        first = small-sum (2 * k) (omega arith);
+        second = small-sum (2 * k + 1) (omega arith);
+      })
+    where
+      small-sum : (i : ℕ) → i < 12 → Small 127 (getD sums i nil)
+      small-sum i l = let s = ok .small i l in (omega (arith, s .0), omega (arith, s .1))
 
 abbrev byQuad : ℕ → ℕ → ℕ
 byQuad m j = (j / 4 + m) % 2
@@ -162,18 +153,17 @@ pub record UnitDone {X : Type 0} (Done : Deed X) (c : Cell) (m : ℕ) (sums : Li
   pub done : Done (unitUpTo c m n) (unitValue c m sums) x
 
 unit-stands :
-    (c : Cell) (m : ℕ) (sums : List Pair) (n : ℕ)
-    → Stands c (λ (j : ℕ). placeNumber c 0 (quadsPlace c (unitGroup c m) j)) (byQuad m) (λ (i : ℕ). getD sums i nil) n (unitPair c m sums n)
-unfolding unitPair
-unit-stands c m sums n =
-    let i : ℕ = 2 * (n % 2) in
-    let u : 2 * n / 4 ≡ n / 2 = omega arith in
-    let v : (2 * n + 1) / 4 ≡ n / 2 = omega arith in
+    (c : Cell) (m : ℕ) (sums : List Pair) (n k : ℕ) → k / 2 ≡ n
+    → Stands c (λ (j : ℕ). placeNumber c 0 (quadsPlace c (unitGroup c m) j)) (byQuad m) (λ (i : ℕ). getD sums i nil) k (unitPair m (unitGroup c m n) sums k)
+unit-stands c m sums n k e =
+    let i : ℕ = 2 * (k % 2) in
+    let u : 2 * k / 4 ≡ k / 2 = omega arith in
+    let v : (2 * k + 1) / 4 ≡ k / 2 = omega arith in
     record {
       ports-one = ap (λ (z : ℕ). (z + m) % 2) u;
       ports-two = ap (λ (z : ℕ). (z + m) % 2) v;
-      one = place-at c (unitGroup c m) (2 * n) (n / 2) i (omega arith) (omega arith);
-      two = place-at c (unitGroup c m) (2 * n + 1) (n / 2) (i + 1) (omega arith) (omega arith);
+      one = place-at c (unitGroup c m) (2 * k) n i (omega arith) (omega arith);
+      two = place-at c (unitGroup c m) (2 * k + 1) n (i + 1) (omega arith) (omega arith);
       first = refl;
       second = refl;
     }
@@ -186,26 +176,27 @@ module _ {X : Type 0} {Done : Deed X} {Also : Step X} {none : X} (A : Accumulate
         done = start c (byQuad m) (λ (i : ℕ). getD sums i nil) (some-places c (ok .cell)) (phich-listed c (ok .cell) m (ok .unit)) A;
       }
 
-  -- one pair more
-  pub unit-next :
-      {n : ℕ} {p : PairAt} {x y : X} → UnitDone Done c m sums n x → n < 6 → (p ≡ unitPair c m sums n) × PairIn c p → Also (pairSends c p) (pairSent c p) x y
-      → UnitDone Done c m sums (n + 1) y
-  unit-next {n = n} t in-n p k =
-      record {
-        most = omega arith;
-        done =
-            pair-more c (byQuad m) (λ (i : ℕ). getD sums i nil) (some-places c (ok .cell)) (phich-listed c (ok .cell) m (ok .unit)) A (omega arith) (p .1)
-            (rw (p .0) (unit-stands c m sums n)) (t .done) k;
-      }
+  module _ {n g : ℕ} (in-n : n < 3) (eg : g ≡ unitGroup c m n) where
+    pair-next :
+        {k : ℕ} {p : PairAt} {x y : X} → k / 2 ≡ n → UnitDone Done c m sums k x → p ≡ unitPair m g sums k → Also (pairSends c p) (pairSent c p) x y → UnitDone Done c m sums (k + 1) y
+    pair-next {k = k} ek t ep a =
+        record {
+          most = omega arith;
+          done =
+              pair-more c (byQuad m) (λ (i : ℕ). getD sums i nil) (some-places c (ok .cell)) (phich-listed c (ok .cell) m (ok .unit)) A (omega arith)
+              (pair-asked ok in-n k eg ek ep) (rw (ep, eg) (unit-stands c m sums n k ek)) (t .done) a;
+        }
 
-  -- both pairs of quad n
-  pub quad-next :
-      {n : ℕ} {p q : PairAt} {x y z : X} → UnitDone Done c m sums (2 * n) x → n < 3
-      → (p ≡ unitPair c m sums (2 * n)) × PairIn c p → Also (pairSends c p) (pairSent c p) x y
-      → (q ≡ unitPair c m sums (2 * n + 1)) × PairIn c q → Also (pairSends c q) (pairSent c q) y z → UnitDone Done c m sums (2 * (n + 1)) z
-  quad-next {n = n} t in-n p one q two =
-      let e : 2 * n + 1 + 1 ≡ 2 * (n + 1) = omega arith in
-      rw e at (unit-next (unit-next t (omega arith) p one) (omega arith) q two)
+    -- the first pair of quad n
+    module _ {p : PairAt} {x y : X} (t : UnitDone Done c m sums (2 * n) x) (ep : p ≡ unitPair m g sums (2 * n)) (one : Also (pairSends c p) (pairSent c p) x y) where
+      pub half-next : UnitDone Done c m sums (2 * n + 1) y
+      half-next = pair-next (omega arith) t ep one
+
+      -- and the second
+      pub quad-next : {q : PairAt} {z : X} → q ≡ unitPair m g sums (2 * n + 1) → Also (pairSends c q) (pairSent c q) y z → UnitDone Done c m sums (2 * (n + 1)) z
+      quad-next eq two =
+          let e : 2 * n + 1 + 1 ≡ 2 * (n + 1) = omega arith in
+          rw e at (pair-next (omega arith) half-next eq two)
 
   pub unit-finish : {n : ℕ} {x : X} → UnitDone Done c m sums (2 * n) x → 3 ≤ n → Done (phichSends c m) (unitSent c m sums) x
   unfolding phichSends unitSent

@@ -16,7 +16,7 @@ use Rattle.codeword.specs.Streams.{outputs}
 use Rattle.precoding.specs.Places.{onPort}
 use Rattle.plan.specs.Valid.{CellIn}
 use Rattle.plan.specs.declared.Cell.{Cell}
-use Rattle.layout.specs.Rules.{unitGroup, formatGroup}
+use Rattle.layout.specs.Rules.{formatGroup}
 use Rattle.places.specs.Places.{placesOf}
 use Rattle.places.specs.Quads.{quadPlace}
 use Rattle.grid.specs.Writing.{sentAt}
@@ -62,11 +62,11 @@ pcfichPair c cfi r n =
 pub record PcfichPair (c : Cell) (cfi : ℕ) (s : Registers) (n : ℕ) (x : PairAt) : Type 0 where
   pub is : (r : Registers) → s ≡ after r (4 * n) → x ≡ pcfichPair c cfi r n
 
--- pair n of unit m with its twelve sums
-unfoldable pub unitPair : Cell → ℕ → List Pair → ℕ → PairAt
-unitPair c m sums n =
+-- pair n of the twelve sums of unit m, in the group of its quad
+abbrev pub unitPair : ℕ → ℕ → List Pair → ℕ → PairAt
+unitPair m group sums n =
     record {
-      group = unitGroup c m (n / 2);
+      group = group;
       half = n % 2;
       «port_pair» = (n / 2 + m) % 2;
       first = getD sums (2 * n) nil;

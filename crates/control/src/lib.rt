@@ -4,14 +4,12 @@ use base::Pair;
 use gold::Registers;
 use plan::Cell;
 ghost use mathlib.Core.Path.{_≡_};
-ghost use Prim.Native.Nat.{_/_, _≤_, _<_};
+ghost use Prim.Native.Nat.{_≤_, _<_};
 ghost use Rattle.gold.specs.Sequence.{binary};
 ghost use Rattle.codeword.specs.Codewords.{cfiBit};
 ghost use Rattle.plan.specs.Valid.{CellIn};
-ghost use Rattle.layout.specs.Rules.{unitGroup};
 ghost use Rattle.phich.specs.Spreading.{spreadLength};
 ghost use Rattle.control.specs.Pairs.{PairIn, PcfichPair, unitPair};
-ghost use Rattle.control.specs.Filling.{UnitIn};
 
 // Two symbols that are sent beside each other, at places 2·half and 2·half + 1 of a group of symbol 0, and which pair of antenna ports
 // sends them (6.3.4.3, 6.9.2).
@@ -72,10 +70,10 @@ pub fn spread_length(cell: Cell) -> usize
     if cell.prefix == 1 { 2 } else { 4 }
 }
 
-// Pair n of the twelve sums of unit m: half n % 2 of quad n / 2, whose group callers know. They pass a unit of an accepted plan's cell.
-pub fn unit_pair(cell: Cell, m: usize, group: usize, sums: [Pair; 12], n: usize) -> PairAt
-    requires { ⌜ UnitIn cell m sums × (n < 6) × (group ≡ unitGroup cell m (n / 2)) ⌝ }
-    ensures { λ x. ⌜ (x ≡ unitPair cell m sums n) × PairIn cell x ⌝ }
+// Pair n of the twelve sums of unit m: half n % 2 of quad n / 2, whose group callers know. An accepted plan has 25 units at most.
+pub fn unit_pair(m: usize, group: usize, sums: [Pair; 12], n: usize) -> PairAt
+    requires { ⌜ (m < 256) × (n < 6) ⌝ }
+    ensures { λ x. ⌜ x ≡ unitPair m group sums n ⌝ }
 {
     let i = 2 * n;
     let j = 2 * n + 1;

@@ -68,8 +68,8 @@ fn put_unit(cell: Cell, m: usize, sums: [Pair; 12], grid: &mut [u8])
     let mut n: usize = 0;
     while n < 3 {
         let g = places::unit_group(cell, m, n);
-        put_pair(cell, control::unit_pair(cell, m, g, sums, 2 * n), grid);
-        put_pair(cell, control::unit_pair(cell, m, g, sums, 2 * n + 1), grid);
+        put_pair(cell, control::unit_pair(m, g, sums, 2 * n), grid);
+        put_pair(cell, control::unit_pair(m, g, sums, 2 * n + 1), grid);
         n += 1;
     }
 }

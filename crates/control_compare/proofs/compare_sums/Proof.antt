@@ -1,9 +1,9 @@
 -- `control_compare::compare_sums` meets its contract: after n quads those of the indices below 4n are compared. Assumes nothing.
-use Prim.Native.Nat.{_-_, _*_}
+use Prim.Native.Nat.{_+_, _-_, _*_}
 use native.Mathlib.Omega.{arith}
 use Rattle.compare.proofs.Comparing.{widest, both-few}
 use Rattle.compare.proofs.Accumulating.{ComparedIn, also, comparing}
-use Rattle.control.proofs.PairByPair.{UnitDone, group-asked, pair-asked, unit-start, unit-next, quad-next, unit-finish}
+use Rattle.control.proofs.PairByPair.{UnitDone, group-asked, pair-asked, unit-start, half-next, quad-next, unit-finish}
 use Rattle.control_compare.proofs.compare_sums.Statement.{statement}
 use Rattle.control_compare.proofs.compare_sums.Tie as tie
 
@@ -27,12 +27,12 @@ mul-unit-pair c = omega arith
 unit-pair-requires : tie.Need-unit-pair-requires Inv-loop μ-loop
 unit-pair-requires c κs =
     let entry = c .before .before .before .before in
-    pair-asked (entry .pre .0) (c .before .loop-test .taken) (c .unit-group .ensures) (omega arith)
+    (group-asked (entry .pre .0) (c .before .loop-test .taken) .1, omega arith)
 
 compare-pair-requires : tie.Need-compare-pair-requires Inv-loop μ-loop
 compare-pair-requires c κs =
-    let entry = c .before .before .before .before .before in
-    (c .unit-pair .ensures .1, entry .pre .1)
+    let at-loop-test = c .before .before in let at-loop = at-loop-test .before in let entry = at-loop .before .before in
+    (pair-asked (entry .pre .0) (at-loop-test .loop-test .taken) (2 * at-loop .loop .n) (c .before .unit-group .ensures) (omega arith) (c .unit-pair .ensures), entry .pre .1)
 
 both-requires : tie.Need-both-requires Inv-loop μ-loop
 both-requires c κs =
@@ -47,21 +47,23 @@ add-unit-pair c = omega arith
 
 unit-pair-requires-2 : tie.Need-unit-pair-requires-2 Inv-loop μ-loop
 unit-pair-requires-2 c κs =
-    let at-unit-group = c .before .before .before in let at-loop-test = at-unit-group .before in let entry = at-loop-test .before .before .before in
-    pair-asked (entry .pre .0) (at-loop-test .loop-test .taken) (at-unit-group .unit-group .ensures) (omega arith)
+    let at-loop-test = c .before .before .before .before in let entry = at-loop-test .before .before .before in
+    (group-asked (entry .pre .0) (at-loop-test .loop-test .taken) .1, omega arith)
 
 compare-pair-requires-2 : tie.Need-compare-pair-requires-2 Inv-loop μ-loop
 compare-pair-requires-2 c κs =
-    let entry = c .before .before .before .before .before .before .before .before in
-    (c .unit-pair2 .ensures .1, entry .pre .1)
+    let at-unit-group = c .before .before .before .before in let at-loop-test = at-unit-group .before in let at-loop = at-loop-test .before in
+    let entry = at-loop .before .before in
+    (pair-asked (entry .pre .0) (at-loop-test .loop-test .taken) (2 * at-loop .loop .n + 1) (at-unit-group .unit-group .ensures) (omega arith) (c .unit-pair2 .ensures), entry .pre .1)
 
 both-requires-2 : tie.Need-both-requires-2 Inv-loop μ-loop
 both-requires-2 c κs =
     let at-both = c .before .before in let at-compare-pair = at-both .before in let at-unit-pair = at-compare-pair .before in
-    let at-loop-test = at-unit-pair .before .before in let at-loop = at-loop-test .before in let entry = at-loop .before .before in
-    both-few (widest (entry .pre .1)) (unit-next (comparing (entry .args .grid .now)) (entry .pre .0) (at-loop .loop .inv)
-    (omega (arith, at-loop-test .loop-test .taken)) (at-unit-pair .unit-pair .ensures) (also (at-compare-pair .compare-pair .ensures) (at-both .both .ensures))
-    .done) (c .compare-pair2 .ensures)
+    let at-unit-group = at-unit-pair .before in let at-loop-test = at-unit-group .before in let at-loop = at-loop-test .before in
+    let entry = at-loop .before .before in
+    both-few (widest (entry .pre .1)) (half-next (comparing (entry .args .grid .now)) (entry .pre .0) (at-loop-test .loop-test .taken)
+    (at-unit-group .unit-group .ensures) (at-loop .loop .inv) (at-unit-pair .unit-pair .ensures)
+    (also (at-compare-pair .compare-pair .ensures) (at-both .both .ensures)) .done) (c .compare-pair2 .ensures)
 
 add-n : tie.Need-add-n Inv-loop μ-loop
 add-n c = omega arith
@@ -72,10 +74,10 @@ loop-less c = omega arith
 loop-again : tie.Need-loop-again Inv-loop μ-loop
 loop-again c =
     let at-unit-pair2 = c .before .before in let at-both = at-unit-pair2 .before in let at-compare-pair = at-both .before in
-    let at-unit-pair = at-compare-pair .before in let at-loop-test = at-unit-pair .before .before in let at-loop = at-loop-test .before in
-    let entry = at-loop .before .before in
-    quad-next (comparing (entry .args .grid .now)) (entry .pre .0) (at-loop .loop .inv) (at-loop-test .loop-test .taken) (at-unit-pair .unit-pair .ensures)
-    (also (at-compare-pair .compare-pair .ensures) (at-both .both .ensures)) (at-unit-pair2 .unit-pair2 .ensures)
+    let at-unit-pair = at-compare-pair .before in let at-unit-group = at-unit-pair .before in let at-loop-test = at-unit-group .before in
+    let at-loop = at-loop-test .before in let entry = at-loop .before .before in
+    quad-next (comparing (entry .args .grid .now)) (entry .pre .0) (at-loop-test .loop-test .taken) (at-unit-group .unit-group .ensures) (at-loop .loop .inv)
+    (at-unit-pair .unit-pair .ensures) (also (at-compare-pair .compare-pair .ensures) (at-both .both .ensures)) (at-unit-pair2 .unit-pair2 .ensures)
     (also (c .before .compare-pair2 .ensures) (c .both2 .ensures))
 
 returns : tie.Need-returns Inv-loop μ-loop

@@ -1,5 +1,5 @@
 -- `control_write::put_unit` meets its contract: after n quads those of the indices below 4n are written. Assumes nothing.
-use Prim.Native.Nat.{_-_, _*_}
+use Prim.Native.Nat.{_+_, _-_, _*_}
 use native.Mathlib.Omega.{arith}
 use Rattle.grid.proofs.Writing.{room-kept}
 use Rattle.grid.proofs.Accumulating.{WrittenIn, writing}
@@ -27,12 +27,16 @@ mul-unit-pair c = omega arith
 unit-pair-requires : tie.Need-unit-pair-requires Inv-loop μ-loop
 unit-pair-requires c κs =
     let entry = c .before .before .before .before in
-    pair-asked (entry .pre .0) (c .before .loop-test .taken) (c .unit-group .ensures) (omega arith)
+    (group-asked (entry .pre .0) (c .before .loop-test .taken) .1, omega arith)
 
 put-pair-requires : tie.Need-put-pair-requires Inv-loop μ-loop
 put-pair-requires c κs =
-    let at-loop = c .before .before .before .before in let entry = at-loop .before .before in
-    (c .before .unit-pair .ensures .1, room-kept (entry .pre .1) (at-loop .loop .inv .done))
+    let at-unit-group = c .before .before in let at-loop-test = at-unit-group .before in let at-loop = at-loop-test .before in
+    let entry = at-loop .before .before in (
+      pair-asked (entry .pre .0) (at-loop-test .loop-test .taken) (2 * at-loop .loop .n) (at-unit-group .unit-group .ensures) (omega arith)
+          (c .before .unit-pair .ensures),
+      room-kept (entry .pre .1) (at-loop .loop .inv .done),
+    )
 
 mul-unit-pair-2 : tie.Need-mul-unit-pair-2 Inv-loop μ-loop
 mul-unit-pair-2 c = omega arith
@@ -42,15 +46,17 @@ add-unit-pair c = omega arith
 
 unit-pair-requires-2 : tie.Need-unit-pair-requires-2 Inv-loop μ-loop
 unit-pair-requires-2 c κs =
-    let at-unit-group = c .before .before .before .before .before in let at-loop-test = at-unit-group .before in
-    let entry = at-loop-test .before .before .before in
-    pair-asked (entry .pre .0) (at-loop-test .loop-test .taken) (at-unit-group .unit-group .ensures) (omega arith)
+    let at-loop-test = c .before .before .before .before .before .before in let entry = at-loop-test .before .before .before in
+    (group-asked (entry .pre .0) (at-loop-test .loop-test .taken) .1, omega arith)
 
 put-pair-requires-2 : tie.Need-put-pair-requires-2 Inv-loop μ-loop
 put-pair-requires-2 c κs =
-    let at-put-pair = c .before .before .before .before in let at-loop = at-put-pair .before .before .before .before .before in
-    let entry = at-loop .before .before in
-    (c .before .unit-pair2 .ensures .1, room-kept (room-kept (entry .pre .1) (at-loop .loop .inv .done)) (at-put-pair .put-pair .ensures))
+    let at-put-pair = c .before .before .before .before in let at-unit-group = at-put-pair .before .before .before in
+    let at-loop-test = at-unit-group .before in let at-loop = at-loop-test .before in let entry = at-loop .before .before in (
+      pair-asked (entry .pre .0) (at-loop-test .loop-test .taken) (2 * at-loop .loop .n + 1) (at-unit-group .unit-group .ensures) (omega arith)
+          (c .before .unit-pair2 .ensures),
+      room-kept (room-kept (entry .pre .1) (at-loop .loop .inv .done)) (at-put-pair .put-pair .ensures),
+    )
 
 add-n : tie.Need-add-n Inv-loop μ-loop
 add-n c = omega arith
@@ -61,10 +67,10 @@ loop-less c = omega arith
 loop-again : tie.Need-loop-again Inv-loop μ-loop
 loop-again c =
     let at-put-pair2 = c .before .before in let at-unit-pair2 = at-put-pair2 .before .before in let at-put-pair = at-unit-pair2 .before .before .before in
-    let at-unit-pair = at-put-pair .before .before in let at-loop-test = at-unit-pair .before .before in let at-loop = at-loop-test .before in
-    let entry = at-loop .before .before in
-    quad-next (writing (entry .args .grid .now)) (entry .pre .0) (at-loop .loop .inv) (at-loop-test .loop-test .taken) (at-unit-pair .unit-pair .ensures)
-    (at-put-pair .put-pair .ensures) (at-unit-pair2 .unit-pair2 .ensures) (at-put-pair2 .put-pair2 .ensures)
+    let at-unit-pair = at-put-pair .before .before in let at-unit-group = at-unit-pair .before in let at-loop-test = at-unit-group .before in
+    let at-loop = at-loop-test .before in let entry = at-loop .before .before in
+    quad-next (writing (entry .args .grid .now)) (entry .pre .0) (at-loop-test .loop-test .taken) (at-unit-group .unit-group .ensures) (at-loop .loop .inv)
+    (at-unit-pair .unit-pair .ensures) (at-put-pair .put-pair .ensures) (at-unit-pair2 .unit-pair2 .ensures) (at-put-pair2 .put-pair2 .ensures)
 
 same-length : tie.Need-same-length Inv-loop μ-loop
 same-length c = c .before .loop .inv .done .size
