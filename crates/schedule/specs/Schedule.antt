@@ -24,6 +24,7 @@ use Rattle.plan.specs.declared.Cell.{Cell}
 use Rattle.plan.specs.declared.Plan.{Plan}
 use Rattle.layout.specs.Rules.{slotOf, inSlot, crsSymbol, marked}
 use Rattle.layout.specs.Owners.{symbols}
+use Rattle.layout.specs.declared.Mark.{Mark}
 use Rattle.layout.specs.declared.Mark.the-variants.{Primary, Secondary}
 use Rattle.layout.specs.declared.Owner.{Owner}
 use Rattle.layout.specs.declared.Owner.the-variants as owner
@@ -139,12 +140,20 @@ presentIn p Pcfich = true
 presentIn p (Phich m) = true
 presentIn p (User u) = true
 
+-- a mark's symbol, counted from the first slot's end, and what it sends
+abbrev pub markRow : Mark → ℕ
+markRow Primary = 1
+markRow Secondary = 2
+
+abbrev pub markSent : Plan → Mark → ℕ → Element
+markSent p Primary e = pssSent (p .cell) e
+markSent p Secondary e = sssSent (p .cell) (p .frame) e
+
 -- the elements that it sends where the subframe has it, and what it sends there with the pair r, bits its section of the payload; a PHICH
 -- unit has the bytes of its quad's sums instead, which are made for all units at once
 unfoldable pub elementsOf : Plan → Channel → ℕ → Bool
 elementsOf p (Crs s q) e = crsSends (p .cell) s q e
-elementsOf p (Sync Primary) e = markSends (p .cell) 1 e
-elementsOf p (Sync Secondary) e = markSends (p .cell) 2 e
+elementsOf p (Sync m) e = markSends (p .cell) (markRow m) e
 elementsOf p Pbch e = areaSends (pbchArea (p .cell) (p .frame)) e
 elementsOf p Pcfich e = pcfichSends (p .cell) e
 elementsOf p (Phich m) e = phichSends (p .cell) m e
@@ -152,8 +161,7 @@ elementsOf p (User u) e = areaSends (userArea (p .cell) (p .frame) u) e
 
 unfoldable pub sentOf : Plan → List ℕ → Registers → Channel → ℕ → Element
 sentOf p bits r (Crs s q) e = crsSent (p .cell) r e
-sentOf p bits r (Sync Primary) e = pssSent (p .cell) e
-sentOf p bits r (Sync Secondary) e = sssSent (p .cell) (p .frame) e
+sentOf p bits r (Sync m) e = markSent p m e
 sentOf p bits r Pbch e = areaElement (pbchArea (p .cell) (p .frame)) 2 2 bits r e
 sentOf p bits r Pcfich e = pcfichSent (p .cell) (p .frame .cfi) r e
 sentOf p bits r (Phich m) e = phichSent (p .cell) m r bits e
