@@ -6,7 +6,6 @@ use mathlib.Core.Logic.{_↔_, _⊎_, inl, inr}
 use mathlib.Core.List.{List, [], _∷_}
 use native.Mathlib.Nat.{mul-le-mul}
 use native.Mathlib.Omega.{arith}
-use lib.Dec.{eqb}
 use lib.ListN.{length}
 use types.Run.{OneOf}
 use denote.Enum.Declared.{tagOf}
@@ -29,13 +28,13 @@ use Rattle.plan.proofs.Valid.{valid}
 use Rattle.places.proofs.Numbers.{symbols-most}
 use Rattle.layout.specs.Owners.{symbols, carriers}
 use Rattle.places.specs.Places.{placesOf}
-use Rattle.payload.specs.Payload.{gridLength, payloadLength, spareClear, AcceptedPayload, unlessLengths, unlessBuffers}
+use Rattle.payload.specs.Payload.{gridLength, payloadLength, spareClear, AcceptedPayload, unlessBuffers}
 use Rattle.payload.proofs.Refusals.{grid-refused, payload-refused, spare-refused, accepted-payload, buffers-right, own-answer, payload-accepted, else-refused}
 use Rattle.grid.specs.Writing.{Room}
 use Rattle.subframe.specs.Grid.{gridOf}
 use Rattle.subframe.proofs.Bytes.{length-by-port}
 use Rattle.build.specs.Build.{pdschElements, builtOf, gridAfter, builtAnswer}
-use Rattle.build.specs.Senders.{Ready}
+use Rattle.build.specs.Filling.{Ready}
 use Rattle.build.specs.declared.Built.{Built}
 use Rattle.build.specs.declared.Built.the-variants.{Elements, Refused}
 

@@ -1,7 +1,7 @@
 -- THEOREM C of two calls of build: whatever the two grids held before, what the calls leave in them stands as demand 3 says. Assumes
 -- nothing beyond what demand 3 takes: an accepted plan, two payloads accepted under it, two grids of its length.
 use Prim.Native.Nat.{ℕ}
-use mathlib.Core.Path.{_≡_, sym, _∙_}
+use mathlib.Core.Path.{_≡_}
 use mathlib.Core.List.{List}
 use lib.ListN.{length}
 use Rattle.plan.specs.Check.{checkOf}

@@ -1,22 +1,20 @@
-// build: the grid of a plan and a payload, channel by channel (document 01).
-use channels::Channel;
-use channels::map;
+// build: the grid of a plan and a payload, channel by channel in the schedule's turns (document 01).
 use data_write::set_table;
 use plan::Checked;
 use plan::Plan;
 use plan::Refusal;
-use plan::next_at;
-use plan::user_at;
+use schedule::Channel;
 ghost use mathlib.Core.Path.{_≡_};
-ghost use Prim.Native.Nat.{ℕ, _<_};
+ghost use Prim.Native.Nat.{ℕ};
 ghost use lib.ListN.{length};
-ghost use Rattle.modulation.specs.Symbols.{Order};
-ghost use Rattle.plan.specs.Rows.{usersOf};
-ghost use Rattle.plan.specs.Fields.{unitsOf};
-ghost use Rattle.layout.specs.Owners.{symbols};
+ghost use Rattle.base.specs.Tables.{table};
+ghost use Rattle.plan.specs.Check.{checkOf};
+ghost use Rattle.plan.specs.declared.Checked.the-variants.{Plan as accepted};
+ghost use Rattle.payload.specs.Payload.{payloadLength};
 ghost use Rattle.grid.specs.Writing.{Written};
 ghost use Rattle.subframe.specs.Grid.{elementNumbered, gridOf};
-ghost use Rattle.build.specs.Senders.{crsPorts, crsRows, marksSend, pbchSends, ownerSends, unitsSend, usersSend, Ready, Spare, Having};
+ghost use Rattle.schedule.specs.Schedule.{startPair, sendsOf, sentOf, allSend, lentTo, SumsOf};
+ghost use Rattle.build.specs.Filling.{Ready, Shared, Having, OrderOr, orderFor, FillIn};
 ghost use Rattle.build.specs.Build.{builtOf, gridAfter, builtAnswer};
 
 // The count of user elements, ports not multiplied, or the refusal.
@@ -25,110 +23,23 @@ pub enum Built {
     Refused(Refusal),
 }
 
-// The reference signals of all ports in symbol s.
-fn fill_crs_row(
-    plan: &[u8],
-    p: Plan,
-    payload: &[u8],
-    s: u8,
-    t: &[u32; 256],
-    masks: &[u8; 14],
-    grid: &mut [u8],
-)
-    requires { ⌜ Ready (now plan) p (now payload) (now grid) × (s < symbols (p .cell)) ⌝ }
-    ensures { λ _. ⌜ Written (crsPorts p s (p .cell .ports)) (elementNumbered (now (plan .entry)) p (now (payload .entry))) (now (grid .entry)) (now (grid .exit)) ⌝ }
+// The order whose table of elements the channel reads; `have` for one that reads none.
+fn order_for(ch: Channel, have: u8) -> u8
+    ensures { λ r. ⌜ r ≡ orderFor have ch ⌝ }
 {
-    let mut q: u8 = 0;
-    while q < p.cell.ports {
-        if layout::crs_uses(p.cell, q, base::wide(s)) {
-            map(p, Channel::Crs(s, q), t, masks, payload, grid);
-        }
-        q += 1;
-    }
-}
-
-// The reference signals.
-fn fill_crs(plan: &[u8], p: Plan, payload: &[u8], t: &[u32; 256], masks: &[u8; 14], grid: &mut [u8])
-    requires { ⌜ Ready (now plan) p (now payload) (now grid) ⌝ }
-    ensures { λ _. ⌜ Written (crsRows p (symbols (p .cell))) (elementNumbered (now (plan .entry)) p (now (payload .entry))) (now (grid .entry)) (now (grid .exit)) ⌝ }
-{
-    let rows = layout::symbols(p.cell);
-    let mut s: usize = 0;
-    while s < rows {
-        fill_crs_row(plan, p, payload, s as u8, t, masks, grid);
-        s += 1;
-    }
-}
-
-// The synchronisation marks, where the subframe has them.
-fn fill_marks(plan: &[u8], p: Plan, payload: &[u8], grid: &mut [u8])
-    requires { ⌜ Ready (now plan) p (now payload) (now grid) ⌝ }
-    ensures { λ _. ⌜ Written (marksSend p) (elementNumbered (now (plan .entry)) p (now (payload .entry))) (now (grid .entry)) (now (grid .exit)) ⌝ }
-{
-    if layout::is_marked(p.frame) {
-        signals_write::fill_pss(p.cell, grid);
-        signals_write::fill_sss(p.cell, p.frame, grid);
-    }
-}
-
-// PBCH, where the subframe has it, with the table of QPSK. It leaves out the reference signals of four ports, whatever the cell has.
-fn fill_pbch(
-    plan: &[u8],
-    p: Plan,
-    payload: &[u8],
-    t: &mut [u32; 256],
-    masks: &mut [u8; 14],
-    grid: &mut [u8],
-)
-    requires { ⌜ Ready (now plan) p (now payload) (now grid) × Spare (now t) (now masks) ⌝ }
-    ensures { λ _. ⌜ Written (pbchSends (now (plan .entry)) p) (elementNumbered (now (plan .entry)) p (now (payload .entry))) (now (grid .entry)) (now (grid .exit))
-        × Spare (now (t .exit)) (now (masks .exit)) ⌝ }
-{
-    if p.frame.subframe == 0 {
-        let end = payload::section_bytes(payload::pbch_bits(p.cell, p.frame));
-        set_table(t, 2, p.cell.ports);
-        areas::row_masks(p.cell, p.frame, 4, false, masks);
-        map(p, Channel::Pbch, t, masks, &payload[0..end], grid);
-    }
-}
-
-// PHICH: the sums of all units in one pass over the HIs, then unit by unit.
-fn fill_units(
-    plan: &[u8],
-    p: Plan,
-    payload: &[u8],
-    t: &[u32; 256],
-    masks: &[u8; 14],
-    grid: &mut [u8],
-)
-    requires { ⌜ Ready (now plan) p (now payload) (now grid) ⌝ }
-    ensures { λ _. ⌜ Written (unitsSend (now (plan .entry)) p (unitsOf (p .cell))) (elementNumbered (now (plan .entry)) p (now (payload .entry))) (now (grid .entry)) (now (grid .exit)) ⌝ }
-{
-    let units = plan::units(p.cell);
-    let start = payload::section_bytes(payload::pbch_bits(p.cell, p.frame));
-    let end = payload::users_start(p);
-    let l = control::spread_length(p.cell);
-    let mut sums = [0; 200];
-    phich::quad_sums(
-        l,
-        plan,
-        p.his.at,
-        p.his.count,
-        &payload[start..end],
-        &mut sums,
-    );
-    let mut m: usize = 0;
-    while m < units {
-        let from = 8 * m;
-        let to = 8 * m + 8;
-        map(p, Channel::Phich(m as u8), t, masks, &sums[from..to], grid);
-        m += 1;
+    match ch {
+        Channel::Crs(_, _) => have,
+        Channel::Sync(_) => have,
+        Channel::Pbch => 2,
+        Channel::Pcfich => have,
+        Channel::Phich(_) => have,
+        Channel::User(u) => u.order,
     }
 }
 
 // The table of an order on the ports, made anew unless it is there: `have` is the table's order, or 0.
 fn renew(t: &mut [u32; 256], have: u8, order: u8, ports: u8)
-    requires { ⌜ Having ports have (now t) × Order order ⌝ }
+    requires { ⌜ Having ports have (now t) × OrderOr have order ⌝ }
     ensures { λ _. ⌜ Having ports order (now (t .exit)) ⌝ }
 {
     if order != have {
@@ -136,42 +47,72 @@ fn renew(t: &mut [u32; 256], have: u8, order: u8, ports: u8)
     }
 }
 
-// The users, each from its part of the payload: a section starts where the one before ends. They share the masks, and users of one order in
-// turn the table.
-fn fill_users(
+// A turn: its channel written where the subframe has it, and the order of the table after it. Users of one order in turn share the table.
+fn fill_turn(
+    p: Plan,
+    ch: Channel,
+    have: u8,
+    t: &mut [u32; 256],
+    masks: &[u8; 14],
+    sums: &[u8],
+    bits: &[u8],
+    grid: &mut [u8],
+) -> u8
+    requires { ⌜ FillIn p ch have (now t) (now masks) (now sums) (now bits) (now grid) ⌝ }
+    ensures { λ r. ⌜
+        Written (sendsOf p ch) (sentOf p (lentTo ch (now (sums .entry)) (now (bits .entry))) (startPair p ch) ch) (now (grid .entry)) (now (grid .exit))
+        × Having (p .cell .ports) r (now (t .exit))
+        ⌝ }
+{
+    if !schedule::present(p, ch) {
+        return have;
+    }
+    let order = order_for(ch, have);
+    renew(t, have, order, p.cell.ports);
+    channels::write(p, ch, t, masks, sums, bits, grid);
+    order
+}
+
+// Every turn of the schedule, each channel with its section of the payload.
+fn fill_turns(
     plan: &[u8],
     p: Plan,
     payload: &[u8],
     t: &mut [u32; 256],
-    masks: &mut [u8; 14],
+    masks: &[u8; 14],
+    sums: &[u8],
     grid: &mut [u8],
 )
-    requires { ⌜ Ready (now plan) p (now payload) (now grid) × Spare (now t) (now masks) ⌝ }
-    ensures { λ _. ⌜
-        Written (usersSend (now (plan .entry)) p (length (usersOf (now (plan .entry)) p))) (elementNumbered (now (plan .entry)) p (now (payload .entry))) (now (grid .entry))
-        (now (grid .exit))
-        ⌝ }
+    requires { ⌜ Ready (now plan) p (now payload) (now grid) × Shared (now plan) p (now payload) (now masks) (now sums) × (length (now t) ≡ 256) ⌝ }
+    ensures { λ _. ⌜ Written (allSend (now (plan .entry)) p) (elementNumbered (now (plan .entry)) p (now (payload .entry))) (now (grid .entry)) (now (grid .exit)) ⌝ }
 {
     let shape = counts::shape_of(p.cell, p.frame);
-    areas::row_masks(p.cell, p.frame, p.cell.ports, true, masks);
+    let turns = schedule::count(p);
     let mut have: u8 = 0;
-    let mut at = p.users.at;
-    let mut start = payload::users_start(p);
-    let mut i: usize = 0;
-    while i < p.users.count {
-        let u = user_at(plan, at);
-        let end = start + payload::section_bytes(payload::user_bits(p.cell, shape, u));
-        renew(t, have, u.order, p.cell.ports);
-        have = u.order;
-        map(p, Channel::User(u), t, masks, &payload[start..end], grid);
-        start = end;
-        at = next_at(plan, at);
-        i += 1;
+    let mut turn = schedule::first(p);
+    while turn.number < turns {
+        let ch = schedule::channel_at(plan, p, turn);
+        let part = schedule::section_of(p, shape, turn.start, ch);
+        let start = part.start;
+        let end = part.end;
+        have = fill_turn(p, ch, have, t, masks, sums, &payload[start..end], grid);
+        turn = schedule::next(plan, p, shape, turn, ch);
     }
 }
 
-// Every channel over silence, with one table and one row of masks for all of them, since the stack is small. Whoever calls has the plan from
-// the plan check, and has compared the lengths and the spare bits.
+// The sums of all PHICH units, in one pass over the HIs.
+fn sum_units(plan: &[u8], p: Plan, payload: &[u8], sums: &mut [u8; 200])
+    requires { ⌜ (checkOf (now plan) ≡ accepted p) × (length (now payload) ≡ payloadLength (now plan) p) × (now sums ≡ table 200 (λ (i : ℕ). 0)) ⌝ }
+    ensures { λ _. ⌜ SumsOf (now (plan .entry)) p (now (payload .entry)) (now (sums .exit)) ⌝ }
+{
+    let start = payload::section_bytes(payload::pbch_bits(p.cell, p.frame));
+    let end = payload::users_start(p);
+    let l = control::spread_length(p.cell);
+    phich::quad_sums(l, plan, p.his.at, p.his.count, &payload[start..end], sums);
+}
+
+// Every channel over silence. What its turns share is made once: the masks of the users' rows, the sums of the units, and room for one table of
+// elements, since the stack is small. Whoever calls has the plan from the plan check, and has compared the lengths and the spare bits.
 pub fn fill(plan: &[u8], p: Plan, payload: &[u8], grid: &mut [u8])
     requires { ⌜ Ready (now plan) p (now payload) (now grid) ⌝ }
     ensures { λ _. ⌜ now (grid .exit) ≡ gridOf (now (plan .entry)) p (now (payload .entry)) ⌝ }
@@ -179,12 +120,10 @@ pub fn fill(plan: &[u8], p: Plan, payload: &[u8], grid: &mut [u8])
     grid::silence(grid);
     let mut t: [u32; 256] = [0; 256];
     let mut masks: [u8; 14] = [0; 14];
-    fill_crs(plan, p, payload, &t, &masks, grid);
-    fill_marks(plan, p, payload, grid);
-    fill_pbch(plan, p, payload, &mut t, &mut masks, grid);
-    map(p, Channel::Pcfich, &t, &masks, payload, grid);
-    fill_units(plan, p, payload, &t, &masks, grid);
-    fill_users(plan, p, payload, &mut t, &mut masks, grid);
+    let mut sums: [u8; 200] = [0; 200];
+    areas::row_masks(p.cell, p.frame, p.cell.ports, true, &mut masks);
+    sum_units(plan, p, payload, &mut sums);
+    fill_turns(plan, p, payload, &mut t, &masks, &sums[..], grid);
 }
 
 // BUILD: the grid of a plan and a payload. It goes on only if the plan check answers with a plan.
@@ -196,7 +135,7 @@ pub fn build(plan: &[u8], payload: &[u8], grid: &mut [u8]) -> Built
 {
     let checked = plan::check(plan);
     let Checked::Plan(p) = checked else {
-        return Built::Refused(plan::refusal_in(checked));
+        return Built::Refused(layout::refusal(checked));
     };
     if grid.len() != payload::grid_length(p) {
         return Built::Refused(Refusal::GridLength);

@@ -1,2 +1,2 @@
-pub mod Starts
+-- Laws that the proofs cite. For the crates above: Filling.order-ok.
 pub mod Filling

@@ -23,7 +23,7 @@ use Rattle.payload.proofs.Refusals.{accepted-payload, payload-clear}
 use Rattle.subframe.specs.Grid.{gridOf}
 use Rattle.subframe.proofs.TwoBuilds.{two-builds}
 use Rattle.build.specs.Build.{pdschElements, builtAnswer}
-use Rattle.build.specs.Senders.{Ready}
+use Rattle.build.specs.Filling.{Ready}
 use Rattle.build.specs.declared.Built.{Built}
 use Rattle.build.specs.declared.Built.the-variants.{Elements, Refused}
 use Rattle.build.proofs.Answers.{plan-room}

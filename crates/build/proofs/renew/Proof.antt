@@ -4,7 +4,7 @@ use Rattle.build.proofs.renew.Statement.{statement}
 use Rattle.build.proofs.renew.Tie as tie
 
 set-table-requires : tie.Need-set-table-requires
-set-table-requires c κs = (c .before .before .pre .0 .size, c .before .before .pre .1)
+set-table-requires c κs = (c .before .before .pre .0 .size, c .before .before .pre .1 .new (c .before .if1 .taken))
 
 returns : tie.Need-returns
 returns c = having-made (c .set-table .ensures)

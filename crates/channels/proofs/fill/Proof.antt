@@ -51,10 +51,11 @@ use Rattle.plan.specs.declared.Plan.{Plan}
 use Rattle.plan.proofs.Plan as P
 use Rattle.plan.proofs.Plan.Laws as P′
 use Rattle.grid.specs.Writing.{Written}
-use Rattle.channels.specs.Channels.{sendsOf, sentOf, bitsUsed, ChannelIn}
-use Rattle.channels.specs.declared.Channel.{Channel}
-use Rattle.channels.proofs.Channel as E
-use Rattle.channels.proofs.Channel.Laws as E′
+use Rattle.schedule.specs.Schedule.{sendsOf, sentOf}
+use Rattle.channels.specs.Channels.{bitsUsed, SequenceIn}
+use Rattle.schedule.specs.declared.Channel.{Channel}
+use Rattle.schedule.proofs.Channel as E
+use Rattle.schedule.proofs.Channel.Laws as E′
 use Rattle.channels.proofs.filled as core
 use Rattle.channels.proofs.filled.Symbol as core-def
 use Rattle.channels.proofs.filled.Symbol.{name as #channels·filled}
@@ -105,7 +106,7 @@ module _ {M : Type 1} (𝓤 : URA M) (H : Heap 𝓤) (A : Atoms 𝓤) (W : Given
     (b′ o′ : ℕ) (γ′ : GName) (g : List ℕ)
     (is-p : Is P.the-row p (LL.vals P.the-type P′.the-laws p)) (is-ch : Is E.the-row ch (EL.vals E.the-type E′.the-laws ch))
     (is-ts : Is (ShrRef (named 1) κ₁ Elements) ts (ptr-vals ts)) (is-ms : Is (ShrRef (named 2) κ₂ Masks) ms (ptr-vals ms))
-    (is-bs : Is (ShrSlice (named 3) κ₃ u8) bs (slice-vals bs)) (room : Room u8 (length g)) (ok : ChannelIn p ch (now ts) (now ms) (now bs) g) where
+    (is-bs : Is (ShrSlice (named 3) κ₃ u8) bs (slice-vals bs)) (room : Room u8 (length g)) (ok : SequenceIn p ch (now ts) (now ms) (now bs) g) where
   abbrev sx : RefT (List ℕ)
   sx = record { ptr = (b′, o′); name = γ′; now = g }
 
@@ -275,7 +276,7 @@ fill-meets 𝓤 H A W at-mem run 𝓣 known =
     let m = a .1 .1 in
     let z = m .1 .1 .1 .1 .0 in
     let i = are .1 .1 in
-    needs 𝓤 (ChannelIn (a .1 .0) (m .0) (now (m .1 .0)) (now (m .1 .1 .0)) (now (m .1 .1 .1 .0)) (now z)) _ (λ ok.
+    needs 𝓤 (SequenceIn (a .1 .0) (m .0) (now (m .1 .0)) (now (m .1 .1 .0)) (now (m .1 .1 .1 .0)) (now z)) _ (λ ok.
     walk 𝓤 H A W at-mem run (κs .0) (κs .1 .0) (k .0) (k .1 .0) (k .1 .1 .0) (qs .0) (qs .1 .0) (l .0) (l .1 .0) (l .1 .1 .0)
     (a .0 .ptr .0) (a .0 .ptr .1) (a .0 .name) (a .0 .now) (a .1 .0) (m .0) (m .1 .0) (m .1 .1 .0) (m .1 .1 .1 .0)
     (z .ptr .0) (z .ptr .1) (z .name) (z .now) (are .1 .0) (i .0) (i .1 .0) (i .1 .1 .0) (i .1 .1 .1 .0) (i .1 .1 .1 .1 .0 .0 .1) ok

@@ -53,15 +53,16 @@ use Rattle.plan.specs.declared.Plan.{Plan}
 use Rattle.plan.proofs.Plan as P
 use Rattle.plan.proofs.Plan.Laws as P′
 use Rattle.grid.specs.Writing.{Written}
-use Rattle.channels.specs.Channels.{initOf, firstBit, sendsOf, sentOf, bitsUsed, ChannelIn}
-use Rattle.channels.specs.declared.Channel.{Channel}
-use Rattle.channels.proofs.Channel as E
-use Rattle.channels.proofs.Channel.Laws as E′
+use Rattle.schedule.specs.Schedule.{initOf, firstBit, sendsOf, sentOf}
+use Rattle.channels.specs.Channels.{bitsUsed, SequenceIn}
+use Rattle.schedule.specs.declared.Channel.{Channel}
+use Rattle.schedule.proofs.Channel as E
+use Rattle.schedule.proofs.Channel.Laws as E′
 use Rattle.channels.proofs.Filling.{begins}
-use Rattle.channels.proofs.started as begin
-use Rattle.channels.proofs.started.Symbol as begin-def
-use Rattle.channels.proofs.started.Symbol.{name as #channels·started}
-use Rattle.channels.proofs.started.Met as begin-thm
+use Rattle.schedule.proofs.started as begin
+use Rattle.schedule.proofs.started.Symbol as begin-def
+use Rattle.schedule.proofs.started.Symbol.{name as #schedule·started}
+use Rattle.schedule.proofs.started.Met as begin-thm
 use Rattle.channels.proofs.fill as lent
 use Rattle.channels.proofs.fill.Symbol as lent-def
 use Rattle.channels.proofs.fill.Symbol.{name as #channels·fill}
@@ -115,7 +116,7 @@ module _ {M : Type 1} (𝓤 : URA M) (H : Heap 𝓤) (A : Atoms 𝓤) (W : Given
     (κ₁ κ₂ κ₃ κ₄ : Lft) (q₁ q₂ q₃ q₄ : Share) (p : Plan) (ch : Channel) (ts ms bs : RefT (List ℕ)) (b′ o′ : ℕ) (γ′ : GName) (g : List ℕ)
     (is-p : Is P.the-row p (LL.vals P.the-type P′.the-laws p)) (is-ch : Is E.the-row ch (EL.vals E.the-type E′.the-laws ch))
     (is-ts : Is (ShrRef (named 0) κ₁ Elements) ts (ptr-vals ts)) (is-ms : Is (ShrRef (named 1) κ₂ Masks) ms (ptr-vals ms))
-    (is-bs : Is (ShrSlice (named 2) κ₃ u8) bs (slice-vals bs)) (room : Room u8 (length g)) (ok : ChannelIn p ch (now ts) (now ms) (now bs) g) where
+    (is-bs : Is (ShrSlice (named 2) κ₃ u8) bs (slice-vals bs)) (room : Room u8 (length g)) (ok : SequenceIn p ch (now ts) (now ms) (now bs) g) where
   abbrev sx : RefT (List ℕ)
   sx = record { ptr = (b′, o′); name = γ′; now = g }
 
@@ -193,7 +194,7 @@ module _ {M : Type 1} (𝓤 : URA M) (H : Heap 𝓤) (A : Atoms 𝓤) (W : Given
   goes-lent : (l ν : ℕ) (δ : GName) (r : Registers) → ent 𝓤 (⋆ 𝓤 H A ((‵ (flft (ν ∷ []) fullShare) ⊛ tokens) ∷ ‵ (own-at l ν δ r) ∷ ‵ rest-own ∷ [])) (Lent 𝓤 H A at-mem run .pre (to-lent l ν δ r))
   goes-lent l ν δ r = qed W ((‵ (flft (ν ∷ []) fullShare) ⊛ tokens) ∷ ‵ (own-at l ν δ r) ∷ ‵ rest-own ∷ []) ∵ says ! ok $ move ! (1 ∷ 2 ∷ []) $ fjoin ! $ move ! (1 ∷ 0 ∷ []) $ frame ! $ done !
 
-  module _ (C : Calls 𝓤 H) (Λ : Loops 𝓤 H) (fm : FmC 𝓤 H (W .laws) C) (known-begin : Triple 𝓤 (C #channels·started) (Begin 𝓤 H A at-mem run))
+  module _ (C : Calls 𝓤 H) (Λ : Loops 𝓤 H) (fm : FmC 𝓤 H (W .laws) C) (known-begin : Triple 𝓤 (C #schedule·started) (Begin 𝓤 H A at-mem run))
       (known-lent : Triple 𝓤 (C #channels·fill) (Lent 𝓤 H A at-mem run)) where
     walk : ent 𝓤 (onEntry 𝓤 H A f.signature (κ₁, (κ₂, (κ₃, (κ₄, tt)))) (q₁, (q₂, (q₃, (q₄, tt)))) x at)
         (WpFn 𝓤 H C Λ code.function (pv ∷ ev ∷ tv ∷ mv ∷ bv ∷ s ∷ []) Post)
@@ -254,7 +255,7 @@ module _ {M : Type 1} (𝓤 : URA M) (H : Heap 𝓤) (A : Atoms 𝓤) (W : Given
         keep ! (0 ∷ 1 ∷ []) $ by ! (exits (zs .1 .1 .1 .1 .1 .1 .0) (subst (λ (z : Registers). Says z (zs .1 .1 .1 .1 .1 .1 .0)) e₁ (e .0)) l))))))))))))))))))))))))))
 
 map-meets : {M : Type 1} (𝓤 : URA M) (H : Heap 𝓤) (A : Atoms 𝓤) (W : Given 𝓤 H A) (at-mem : Memory → SProp 𝓤) (run : Routine → Fun 𝓤) (𝓣 : Tables 𝓤 H)
-    → Triple 𝓤 (𝓣 .C #channels·started) (Begin 𝓤 H A at-mem run) → Triple 𝓤 (𝓣 .C #channels·fill) (Lent 𝓤 H A at-mem run)
+    → Triple 𝓤 (𝓣 .C #schedule·started) (Begin 𝓤 H A at-mem run) → Triple 𝓤 (𝓣 .C #channels·fill) (Lent 𝓤 H A at-mem run)
     → Meets 𝓤 H A f.signature (WpFn 𝓤 H (𝓣 .C) (𝓣 .Λ) code.function) (f.spec 𝓤 H A at-mem run)
 map-meets 𝓤 H A W at-mem run 𝓣 known-begin known-lent =
     walk-meets 𝓤 H A f.ended stayed W (
@@ -287,7 +288,7 @@ map-meets 𝓤 H A W at-mem run 𝓣 known-begin known-lent =
     let m = a .1 .1 in
     let z = m .1 .1 .1 .0 in
     let i = are .1 .1 in
-    needs 𝓤 (ChannelIn (a .0) (a .1 .0) (now (m .0)) (now (m .1 .0)) (now (m .1 .1 .0)) (now z)) _ (λ ok.
+    needs 𝓤 (SequenceIn (a .0) (a .1 .0) (now (m .0)) (now (m .1 .0)) (now (m .1 .1 .0)) (now z)) _ (λ ok.
     walk 𝓤 H A W at-mem run (κs .0) (κs .1 .0) (κs .1 .1 .0) (κs .1 .1 .1 .0) (qs .0) (qs .1 .0) (qs .1 .1 .0) (qs .1 .1 .1 .0)
     (a .0) (a .1 .0) (m .0) (m .1 .0) (m .1 .1 .0) (z .ptr .0) (z .ptr .1) (z .name) (z .now) (are .0) (are .1 .0) (i .0) (i .1 .0) (i .1 .1 .0) (i .1 .1 .1 .0 .0 .1) ok
     (𝓣 .C) (𝓣 .Λ) (fmOf 𝓤 H (W .laws) 𝓣) known-begin known-lent)))
@@ -298,5 +299,5 @@ map-spec 𝓤 H 𝓜 𝓖 𝓡 =
     entered 𝓤 H (tripleOf 𝓤 H (𝓖 .A) f.signature (f.spec 𝓤 H (𝓖 .A) (𝓜 .mem) (𝓡 .run)))
     (tables 𝓤 H 𝓜 𝓡 code.env .C) (tables 𝓤 H 𝓜 𝓡 code.env .Λ) #channels·map code.function (code.unfolded 𝓤 H 𝓜 𝓡)
     (map-meets 𝓤 H (𝓖 .A) (givenOf 𝓤 H 𝓜 𝓖) (𝓜 .mem) (𝓡 .run) (tablesOf 𝓤 H 𝓜 (tables 𝓤 H 𝓜 𝓡 code.env))
-    (cited 𝓤 H (Begin 𝓤 H (𝓖 .A) (𝓜 .mem) (𝓡 .run)) 𝓜 𝓡 code.env #channels·started begin-def.routine code.calls-channels·started (begin-thm.met 𝓤 H 𝓜 𝓖 𝓡))
+    (cited 𝓤 H (Begin 𝓤 H (𝓖 .A) (𝓜 .mem) (𝓡 .run)) 𝓜 𝓡 code.env #schedule·started begin-def.routine code.calls-schedule·started (begin-thm.met 𝓤 H 𝓜 𝓖 𝓡))
     (cited 𝓤 H (Lent 𝓤 H (𝓖 .A) (𝓜 .mem) (𝓡 .run)) 𝓜 𝓡 code.env #channels·fill lent-def.routine code.calls-channels·fill (lent-thm.met 𝓤 H 𝓜 𝓖 𝓡)))
