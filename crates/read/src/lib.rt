@@ -130,7 +130,7 @@ pub fn read(plan: &[u8], grid: &[u8], payload: &mut [u8]) -> ReadBack
     if payload.len() != payload::payload_length(plan, p) {
         return ReadBack::Refused(Refusal::PayloadLength);
     }
-    if !verify::is_made(plan, p, grid) {
+    if !verify::has_payload(plan, p, grid) {
         return ReadBack::Refused(Refusal::NoPayload);
     }
     read_sections(plan, p, grid, payload);

@@ -39,9 +39,9 @@ use Rattle.subframe.proofs.DataBuilds.{Sends}
 use Rattle.recovery.specs.Recovery.{wordOf, symbolIn, dataBit, payloadIn}
 use Rattle.recovery.proofs.Digits.{digits-same}
 use Rattle.recovery.proofs.Symbols.{own-turn, own-read}
-use Rattle.build.specs.Senders.{active, ownerSends}
-use Rattle.build.proofs.Some.{and-true}
-use Rattle.build.proofs.Numbered.{sends-port, placed-is, numbered, place-number, index-lt}
+use Rattle.schedule.specs.Senders.{active, ownerSends}
+use Rattle.schedule.proofs.Some.{and-true}
+use Rattle.schedule.proofs.Numbered.{sends-port, placed-is, numbered, place-number, index-lt}
 use Rattle.verify.specs.Made.{elementDue}
 
 -- ---- a word's bits with the scrambling taken off, scrambled again

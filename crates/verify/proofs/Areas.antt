@@ -41,9 +41,9 @@ use Rattle.areas.specs.declared.Area.{Area}
 use Rattle.areas.specs.Areas.{areaAt, areaCount, areaIndex, areaSends, pbchArea, userArea}
 use Rattle.areas.proofs.AreaOwners.{pbch-place, pbch-index, user-place, user-index, pbch-count, user-count as area-count}
 use Rattle.data_compare.specs.Symbols.{areaPlace, areaSymbol, areaSent, AreaHolds, AreaCompared}
-use Rattle.build.specs.Senders.{active, ownerSends}
-use Rattle.build.proofs.DataValues.{pbch-area, user-area}
-use Rattle.build.proofs.Numbered.{place-lt}
+use Rattle.schedule.specs.Senders.{active, ownerSends}
+use Rattle.schedule.proofs.Senders.{pbch-area, user-area}
+use Rattle.schedule.proofs.Numbered.{place-lt}
 use Rattle.verify.specs.Made.{elementDue}
 use Rattle.verify.proofs.Again.{sentBy, to-due, due-known, from-due}
 
@@ -131,12 +131,12 @@ module _ (w : List ℕ) (p : Plan) (ok : checkOf w ≡ accepted p) (g : List ℕ
 
     pub pbch-known : Holds (ownerSends w p Pbch) (elementDue w p g) g → (j : ℕ) → j < areaCount (pbchArea (p .cell) (p .frame)) → isSymbol 2 (areaSymbol (pbchArea (p .cell) (p .frame)) g j) ≡ true
     pbch-known h =
-        known-from w p g Pbch pbch 2 2 (pbch-count w p ok zero-th) pbch-symbols (λ e. pbch-area w p ok A A room zero-th e) pbch-area-sent
+        known-from w p g Pbch pbch 2 2 (pbch-count w p ok zero-th) pbch-symbols (λ e. pbch-area w p ok zero-th e) pbch-area-sent
         (due-known w p ok g room Pbch 2 2 pbchScrambling (omega arith) (pbch-occurs w p ok) pbch-sent pbch-bits pbch-turns h)
 
     pub pbch-seen : (r : Seen) → AreaCompared (pbchArea (p .cell) (p .frame)) 2 2 g r → Compared (ownerSends w p Pbch) (elementDue w p g) g r
     pbch-seen =
-        area-compared w p g Pbch pbch 2 2 (pbch-count w p ok zero-th) pbch-symbols (λ e. pbch-area w p ok A A room zero-th e) pbch-area-sent
+        area-compared w p g Pbch pbch 2 2 (pbch-count w p ok zero-th) pbch-symbols (λ e. pbch-area w p ok zero-th e) pbch-area-sent
         (to-due w p ok g room Pbch 2 2 pbchScrambling (omega arith) (pbch-occurs w p ok) pbch-sent pbch-bits pbch-turns)
         (due-known w p ok g room Pbch 2 2 pbchScrambling (omega arith) (pbch-occurs w p ok) pbch-sent pbch-bits pbch-turns)
         (from-due w p ok g room Pbch 2 2 pbchScrambling (omega arith) (pbch-occurs w p ok) pbch-sent pbch-bits pbch-turns)
@@ -193,14 +193,14 @@ module _ (w : List ℕ) (p : Plan) (ok : checkOf w ≡ accepted p) (g : List ℕ
         Holds (ownerSends w p (UserOf i)) (elementDue w p g) g → (j : ℕ) → j < areaCount (userArea (p .cell) (p .frame) (nthUser w p i))
         → isSymbol (nthUser w p i .order) (areaSymbol (userArea (p .cell) (p .frame) (nthUser w p i)) g j) ≡ true
     user-known h =
-        known-from w p g (UserOf i) area Q (unitOf Q) user-count user-symbols (λ e. user-area w p ok A A room i in-i e) user-area-sent
+        known-from w p g (UserOf i) area Q (unitOf Q) user-count user-symbols (λ e. user-area w p ok i in-i e) user-area-sent
         (due-known w p ok g room (UserOf i) Q (unitOf Q) scrambling (user-order w p ok i in-i) (user-occurs w p ok i in-i) user-sent user-bits user-turns h)
 
     pub user-seen :
         (r : Seen) → AreaCompared (userArea (p .cell) (p .frame) (nthUser w p i)) (nthUser w p i .order) (unitOf (nthUser w p i .order)) g r
         → Compared (ownerSends w p (UserOf i)) (elementDue w p g) g r
     user-seen =
-        area-compared w p g (UserOf i) area Q (unitOf Q) user-count user-symbols (λ e. user-area w p ok A A room i in-i e) user-area-sent
+        area-compared w p g (UserOf i) area Q (unitOf Q) user-count user-symbols (λ e. user-area w p ok i in-i e) user-area-sent
         (to-due w p ok g room (UserOf i) Q (unitOf Q) scrambling (user-order w p ok i in-i) (user-occurs w p ok i in-i) user-sent user-bits user-turns)
         (due-known w p ok g room (UserOf i) Q (unitOf Q) scrambling (user-order w p ok i in-i) (user-occurs w p ok i in-i) user-sent user-bits user-turns)
         (from-due w p ok g room (UserOf i) Q (unitOf Q) scrambling (user-order w p ok i in-i) (user-occurs w p ok i in-i) user-sent user-bits user-turns)

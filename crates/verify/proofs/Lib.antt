@@ -1,9 +1,8 @@
 -- Laws that the proofs cite. For the crates above: Known (the symbols of a grid that some payload makes). Elements: a grid by its elements;
--- Again, Areas: PBCH's and the users' symbols made again; Owners: no element compared twice; Whole: the answer; Turns: the loops.
+-- Again, Areas: PBCH's and the users' symbols made again; Channels: each channel compared, turn after turn; Whole: the answer.
 mod Elements
 mod Again
 mod Areas
-mod Owners
 mod Whole
 pub mod Known
-mod Turns
+mod Channels

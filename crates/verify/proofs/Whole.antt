@@ -17,11 +17,11 @@ use Rattle.compare.specs.Comparing.{Holds, nonzeros, Compared}
 use Rattle.compare.proofs.Comparing.{rest-silent, silent-rest}
 use Rattle.subframe.specs.Grid.{gridOf}
 use Rattle.recovery.specs.Recovery.{payloadIn}
-use Rattle.build.specs.Senders.{allSend}
-use Rattle.build.proofs.Quiet.{quiet}
+use Rattle.schedule.specs.Schedule.{allSend}
+use Rattle.schedule.proofs.Covers.{covers}
+use Rattle.schedule.proofs.Owners.{all-in}
 use Rattle.verify.specs.Made.{elementDue, Given, Made}
 use Rattle.verify.proofs.Elements.{made-element, made-grid}
-use Rattle.verify.proofs.Owners.{all-in}
 
 module _ (w : List ℕ) (p : Plan) (g : List ℕ) (given : Given w p g) where
   abbrev N : ℕ
@@ -44,13 +44,13 @@ module _ (w : List ℕ) (p : Plan) (g : List ℕ) (given : Given w p g) where
         by-test (allSend w p e) (c .found .0 .elements e)
         (λ k.
         rest-silent (allSend w p) g whole (sym (c .found .1) ∙ h) e (rw size l) k
-        ∙ sym (quiet w p (given .answer) (payloadIn w p g) e l k)))
+        ∙ sym (covers w p (given .answer) (payloadIn w p g) e l k)))
 
     made-weight : gridOf w p (payloadIn w p g) ≡ g → n ≡ nonzeros g
     made-weight m =
         c .found .1
         ∙ silent-rest (allSend w p) g whole
-        (λ e l k. let r : e < N = rw (← size) l in made-element w p g m e r ∙ quiet w p (given .answer) (payloadIn w p g) e r k)
+        (λ e l k. let r : e < N = rw (← size) l in made-element w p g m e r ∙ covers w p (given .answer) (payloadIn w p g) e r k)
 
   differs-made : Compared (allSend w p) (elementDue w p g) g Differs → gridOf w p (payloadIn w p g) ≡ g → ⊥
   differs-made c m = c .found (made-holds m)

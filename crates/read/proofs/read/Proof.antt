@@ -42,8 +42,8 @@ returns-3 c =
     way-payload (entry .args .plan .now) (entry .args .grid .now) (entry .args .payload .now) _ (sym (at-check .check .ensures) ∙ at-checked .checked .given .1)
     (at-if1 .if1 .left ∙ at-grid-length .grid-length .ensures) _ (c .before .payload-length .ensures) (c .if2 .taken)
 
-is-made-requires : tie.Need-is-made-requires
-is-made-requires c κs =
+has-payload-requires : tie.Need-has-payload-requires
+has-payload-requires c κs =
     let at-if1 = c .before .before in let at-grid-length = at-if1 .before in let at-checked = at-grid-length .before .before in
     let at-check = at-checked .before .before in let entry = at-check .before .before .before .before in
     way-given (entry .args .plan .now) (entry .args .grid .now) (entry .args .payload .now) _ (sym (at-check .check .ensures) ∙ at-checked .checked .given .1)
@@ -55,16 +55,16 @@ returns-4 c =
     let at-grid-length = at-if1 .before in let at-checked = at-grid-length .before .before in let at-check = at-checked .before .before in
     let entry = at-check .before .before .before .before in
     way-none (entry .args .plan .now) (entry .args .grid .now) (entry .args .payload .now) _ (sym (at-check .check .ensures) ∙ at-checked .checked .given .1)
-    (at-if1 .if1 .left ∙ at-grid-length .grid-length .ensures) (at-if2 .if2 .left ∙ at-payload-length .payload-length .ensures) _ (c .before .is-made .ensures)
+    (at-if1 .if1 .left ∙ at-grid-length .grid-length .ensures) (at-if2 .if2 .left ∙ at-payload-length .payload-length .ensures) _ (c .before .has-payload .ensures)
     (not-true _ (c .if3 .taken))
 
 read-sections-requires : tie.Need-read-sections-requires
 read-sections-requires c κs =
-    let at-is-made = c .before .before in let at-if2 = at-is-made .before in let at-payload-length = at-if2 .before in
+    let at-has-payload = c .before .before in let at-if2 = at-has-payload .before in let at-payload-length = at-if2 .before in
     let at-if1 = at-payload-length .before in let at-grid-length = at-if1 .before in let at-checked = at-grid-length .before .before in
     let at-check = at-checked .before .before in let entry = at-check .before .before .before .before in
     way-readable (entry .args .plan .now) (entry .args .grid .now) (entry .args .payload .now) _ (sym (at-check .check .ensures) ∙ at-checked .checked .given .1)
-    (at-if1 .if1 .left ∙ at-grid-length .grid-length .ensures) (at-if2 .if2 .left ∙ at-payload-length .payload-length .ensures) _ (at-is-made .is-made .ensures)
+    (at-if1 .if1 .left ∙ at-grid-length .grid-length .ensures) (at-if2 .if2 .left ∙ at-payload-length .payload-length .ensures) _ (at-has-payload .has-payload .ensures)
     (not-false _ (c .before .if3 .left))
 
 users-count-requires : tie.Need-users-count-requires
@@ -78,12 +78,12 @@ same-length c = search needs
 
 returns-5 : tie.Need-returns-5
 returns-5 c =
-    let at-read-sections = c .before .before .before in let at-if3 = at-read-sections .before .before in let at-is-made = at-if3 .before in
-    let at-if2 = at-is-made .before in let at-payload-length = at-if2 .before in let at-if1 = at-payload-length .before in
+    let at-read-sections = c .before .before .before in let at-if3 = at-read-sections .before .before in let at-has-payload = at-if3 .before in
+    let at-if2 = at-has-payload .before in let at-payload-length = at-if2 .before in let at-if1 = at-payload-length .before in
     let at-grid-length = at-if1 .before in let at-checked = at-grid-length .before .before in let at-check = at-checked .before .before in
     let entry = at-check .before .before .before .before in
     way-read (entry .args .plan .now) (entry .args .grid .now) (entry .args .payload .now) _ (sym (at-check .check .ensures) ∙ at-checked .checked .given .1)
-    (at-if1 .if1 .left ∙ at-grid-length .grid-length .ensures) (at-if2 .if2 .left ∙ at-payload-length .payload-length .ensures) _ (at-is-made .is-made .ensures)
+    (at-if1 .if1 .left ∙ at-grid-length .grid-length .ensures) (at-if2 .if2 .left ∙ at-payload-length .payload-length .ensures) _ (at-has-payload .has-payload .ensures)
     (not-false _ (at-if3 .if3 .left)) _ (c .users-count .ensures) _ (at-read-sections .read-sections .ensures)
 
 pub read-spec : {M : Type 1} → statement M
@@ -99,7 +99,7 @@ read-spec =
     returns-2
     payload-length-requires
     returns-3
-    is-made-requires
+    has-payload-requires
     returns-4
     read-sections-requires
     users-count-requires
