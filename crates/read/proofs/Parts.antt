@@ -1,11 +1,14 @@
--- The sections of the payload of a grid, each as the part of the payload that it is read into. Assumes nothing.
+-- The sections of the payload of a grid, each as the part of the payload that it is read into, and the bytes that are read so. Assumes nothing.
 use Prim.Native.Nat.{ℕ, suc, _+_, _-_, _≤_, _<_}
 use mathlib.Core.Path.{_≡_, refl, sym, ap, ap₂, _∙_}
 use mathlib.Core.List.{List, _++_}
 use native.Mathlib.Omega.{arith}
-use lib.ListN.{length, getD, take, drop}
-use lib.Seq.{length-take-le, take-length, take-append-add, take-add, take-at}
-use borrow.Rule.Slice.PartMut.{putMid, postOf, mid-len, same-len-mid}
+use borrow.Author.Tests.{ltb-true, ltb-false}
+use lib.Dec.{ltb}
+use lib.ListN.{length, getD, take, drop, List·getD-append}
+use lib.Seq.{length-take-le, getD-take, getD-drop, getD-append-add, ext-getD}
+use borrow.Rule.Slice.PartMut.{putMid, postOf, mid-len, same-len-mid, drop-put}
+use Rattle.base.proofs.Tests.{by-test}
 use Rattle.plan.specs.Rows.{usersOf, nthUser}
 use Rattle.plan.specs.declared.Plan.{Plan}
 use Rattle.payload.specs.Sections.{sectionBytes, bytesOf, startOf}
@@ -14,24 +17,33 @@ use Rattle.payload.proofs.Sections.{userStart, user-number}
 use Rattle.recovery.specs.Recovery.{pbchBit, ackBit, userBit, sectionOf, sectionBit, payloadIn}
 use Rattle.recovery.proofs.Sections.{sections-part}
 use Rattle.recovery.proofs.Payload.{size, user-section}
-use Rattle.read.specs.Reading.{ReadTo}
+use Rattle.read.specs.Reading.{BytesRead}
 
--- ---- lists
--- a list that begins as F does, with a part of F put after that
-put-more :
-    (s F ys : List ℕ) (a e : ℕ) → a ≤ e → e ≤ length s → e ≤ length F → take a s ≡ take a F → ys ≡ take (e - a) (drop a F)
-    → take e (putMid a (e - a) s ys) ≡ take e F
-put-more s F ys a e h l k begun part =
-    let ends : e ≡ a + (e - a) = omega arith in
-    let front : length (take a s) ≡ a = length-take-le a s (omega arith) in
-    let tail : List ℕ = postOf a (e - a) s in
-    ap (λ (n : ℕ). take n (putMid a (e - a) s ys)) (ends ∙ ap (λ (n : ℕ). n + (e - a)) (sym front))
-    ∙ take-append-add (take a s) (ys ++ tail) (e - a)
-    ∙ ap (λ (l : List ℕ). take a s ++ l) (take-at ys tail (e - a) (ap length part ∙ mid-len a e F k))
-    ∙ ap (λ (l : List ℕ). l ++ ys) begun
-    ∙ ap (λ (l : List ℕ). take a F ++ l) part
-    ∙ sym (take-add a (e - a) F)
-    ∙ ap (λ (n : ℕ). take n F) (sym ends)
+-- ---- lists: the numbers of one with ys put from number a on and below e
+module _ (s ys : List ℕ) (a e : ℕ) (h : a ≤ e) (l : e ≤ length s) (k : length ys ≡ e - a) where
+  put-before : (i : ℕ) → i < a → getD (putMid a (e - a) s ys) i 0 ≡ getD s i 0
+  put-before i m = List·getD-append (take a s) _ 0 i (omega (arith, length-take-le a s (omega arith))) ∙ getD-take a s i 0 m
+
+  put-at : (i : ℕ) → a ≤ i → i < e → getD (putMid a (e - a) s ys) i 0 ≡ getD ys (i - a) 0
+  put-at i m n =
+      let front : length (take a s) ≡ a = length-take-le a s (omega arith) in
+      let d : i ≡ length (take a s) + (i - a) = omega arith in
+      ap (λ (x : ℕ). getD (putMid a (e - a) s ys) x 0) d
+      ∙ getD-append-add (take a s) (ys ++ postOf a (e - a) s) (i - a) 0
+      ∙ List·getD-append ys (postOf a (e - a) s) 0 (i - a) (omega arith)
+
+  put-after : (i : ℕ) → e ≤ i → getD (putMid a (e - a) s ys) i 0 ≡ getD s i 0
+  put-after i m =
+      let d : i ≡ e + (i - e) = omega arith in
+      let from : (x : List ℕ) → getD x i 0 ≡ getD (drop e x) (i - e) 0 = λ x. ap (λ (n : ℕ). getD x n 0) d ∙ sym (getD-drop e x (i - e) 0) in
+      from (putMid a (e - a) s ys) ∙ ap (λ (x : List ℕ). getD x (i - e) 0) (drop-put a e s ys h l k) ∙ sym (from s)
+
+-- what a payload has once the bytes from number a on and below e are put in: these are read, and those before and after them stay so
+pub record Put (w : List ℕ) (p : Plan) (g : List ℕ) (a e : ℕ) (payload after : List ℕ) : Type 0 where
+  pub size : length after ≡ payloadLength w p
+  pub own : BytesRead w p g a e after
+  pub early : {b c : ℕ} → c ≤ a → BytesRead w p g b c payload → BytesRead w p g b c after
+  pub late : {b c : ℕ} → e ≤ b → BytesRead w p g b c payload → BytesRead w p g b c after
 
 module _ (w : List ℕ) (p : Plan) (g : List ℕ) where
   abbrev F : List ℕ
@@ -67,28 +79,32 @@ module _ (w : List ℕ) (p : Plan) (g : List ℕ) where
       section-part k start end (user-number w p i in-i) es (ee ∙ ap (λ (n : ℕ). start + sectionBytes n) (sym (user-section w p g i in-i)))
       ∙ ap₂ sectionOf (ap (sectionBit w p g) e) (user-section w p g i in-i)
 
-  -- ---- how far the payload is read
-  module _ {payload : List ℕ} (right : length payload ≡ payloadLength w p) where
-    pub read-none : ReadTo w p g 0 payload
-    read-none = record { size = right; done = refl }
+  -- ---- the bytes that are read when a part is put in
+  module _ (payload ys : List ℕ) (right : length payload ≡ payloadLength w p) (a e : ℕ) (h : a ≤ e) (l : e ≤ payloadLength w p)
+      (part : ys ≡ take (e - a) (drop a (payloadIn w p g))) where
+    count : length ys ≡ e - a
+    count = ap length part ∙ mid-len a e F (omega (arith, size w p g))
 
-  module _ {a : ℕ} {payload : List ℕ} (so : ReadTo w p g a payload) where
-    pub read-more :
-        (end : ℕ) (ys : List ℕ) → a ≤ end → end ≤ payloadLength w p → ys ≡ take (end - a) (drop a (payloadIn w p g))
-        → ReadTo w p g end (putMid a (end - a) payload ys)
-    read-more end ys h l part =
-        let room : end ≤ length payload = omega (arith, so .size) in
-        let room-F : end ≤ length F = omega (arith, size w p g) in
+    own : (i : ℕ) → a ≤ i → i < e → getD (putMid a (e - a) payload ys) i 0 ≡ getD F i 0
+    own i m n =
+        let d : a + (i - a) ≡ i = omega arith in
+        put-at payload ys a e h (omega arith) count i m n
+        ∙ ap (λ (x : List ℕ). getD x (i - a) 0) part
+        ∙ getD-take (e - a) (drop a F) (i - a) 0 (omega arith)
+        ∙ getD-drop a F (i - a) 0
+        ∙ ap (λ (x : ℕ). getD F x 0) d
+
+    pub put-in : Put w p g a e payload (putMid a (e - a) payload ys)
+    put-in =
         record {
-          size = same-len-mid a (end - a) payload ys (ap length part ∙ mid-len a end F room-F ∙ sym (mid-len a end payload room)) ∙ so .size;
-          done = put-more payload F ys a end h room room-F (so .done) part;
+          size = same-len-mid a (e - a) payload ys (count ∙ sym (mid-len a e payload (omega arith))) ∙ right;
+          own = record { byte = own };
+          early = λ k so. record { byte = λ i m n. put-before payload ys a e h (omega arith) count i (omega arith) ∙ so .byte i m n };
+          late = λ k so. record { byte = λ i m n. put-after payload ys a e h (omega arith) count i (omega arith) ∙ so .byte i m n };
         }
 
-    pub read-whole : a ≡ payloadLength w p → payload ≡ payloadIn w p g
-    read-whole e =
-        let f : a ≡ length F = e ∙ sym (size w p g) in
-        sym (take-length payload)
-        ∙ ap (λ (n : ℕ). take n payload) (so .size ∙ sym e)
-        ∙ so .done
-        ∙ ap (λ (n : ℕ). take n F) f
-        ∙ take-length F
+  pub bytes-joined : {payload : List ℕ} {a b c : ℕ} → BytesRead w p g a b payload → BytesRead w p g b c payload → BytesRead w p g a c payload
+  bytes-joined {b = b} x y = record { byte = λ i m n. by-test (ltb i b) (λ t. x .byte i m (ltb-true i b t)) (λ f. y .byte i (ltb-false i b f) n) }
+
+  pub bytes-all : {payload : List ℕ} → length payload ≡ payloadLength w p → BytesRead w p g 0 (payloadLength w p) payload → payload ≡ payloadIn w p g
+  bytes-all {payload} right so = ext-getD 0 payload F (right ∙ sym (size w p g)) (λ i l. so .byte i (omega arith) (omega arith))

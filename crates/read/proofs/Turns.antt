@@ -1,240 +1,294 @@
--- What the calls of the sections need, and how far each leaves the payload. Assumes nothing beyond what reading needs.
-use Prim.Native.Nat.{ℕ, _+_, _-_, _*_, _≤_, _<_}
-use mathlib.Core.Path.{_≡_, refl, sym, ap, ap₂, subst, _∙_}
-use mathlib.Core.Bool.{true}
-use mathlib.Core.List.{List, []}
+-- What the turns of the schedule need, and how far each leaves the payload. Assumes nothing beyond what reading needs.
+use Prim.Native.Nat.{ℕ, suc, _+_, _-_, _*_, _≤_, _<_}
+use mathlib.Core.Path.{_≡_, refl, sym, ap, subst, _∙_}
+use mathlib.Core.Bool.{true, false}
+use mathlib.Core.List.{List}
+use native.Mathlib.Nat.{mul-le-mul}
 use native.Mathlib.Omega.{arith}
-use lib.ListN.{length, take, drop}
-use borrow.Rule.Slice.PartMut.{putMid, mid-len}
+use borrow.Author.Tests.{eqb-true, eqb-false}
+use lib.ListN.{length, drop}
+use borrow.Rule.Slice.PartMut.{putMid, mid-len, put-same}
+use Rattle.base.proofs.Tests.{by-test, clash}
 use Rattle.gold.specs.declared.Registers.{Registers}
-use Rattle.gold.specs.Sequence.{pairAt}
 use Rattle.plan.specs.Check.{checkOf}
-use Rattle.plan.specs.Commands.{userOf}
-use Rattle.plan.specs.Rows.{nextOf, hisFrom, hisOf, usersOf, nthUser}
-use Rattle.plan.specs.Valid.{CellIn, FrameIn, UserIn}
+use Rattle.plan.specs.Rows.{hisFrom, hisOf, usersOf, nthUser}
+use Rattle.plan.specs.Valid.{CellIn, FrameIn}
 use Rattle.plan.specs.declared.User.{User}
 use Rattle.plan.specs.declared.Plan.{Plan}
 use Rattle.plan.specs.declared.Checked.the-variants.{Plan as accepted}
 use Rattle.plan.proofs.Valid.{valid}
-use Rattle.plan.proofs.Counts.{blocks-least, units-least}
+use Rattle.plan.proofs.Counts.{units-least, users-most}
+use Rattle.layout.specs.Owners.{symbols}
+use Rattle.layout.specs.declared.Mark.{Mark}
+use Rattle.layout.specs.declared.Mark.the-variants.{Primary, Secondary}
 use Rattle.payload.specs.Sections.{sectionBytes, bytesOf}
 use Rattle.payload.specs.Payload.{pbchBits, userBits, heads, payloadLength, usersStart}
-use Rattle.payload.specs.Loops.{computedBits}
 use Rattle.payload.proofs.Lengths.{pbch-none}
-use Rattle.payload.proofs.Sections.{userStart, user-start-first, user-start-end}
-use Rattle.subframe.specs.Elements.{userInit}
+use Rattle.payload.proofs.Sections.{userStart, user-start, user-start-end}
 use Rattle.subframe.proofs.OwnerBits.{pbch-size, user-order}
-use Rattle.recovery.specs.Recovery.{sectionOf, payloadIn}
+use Rattle.recovery.specs.Recovery.{sectionOf as recovered, payloadIn}
 use Rattle.recovery.proofs.Channels.{pbch-length}
-use Rattle.areas.specs.declared.Area.{Area}
-use Rattle.areas.specs.Areas.{areaCount, pbchArea, userArea}
+use Rattle.areas.specs.Areas.{pbchArea, userArea}
 use Rattle.areas.proofs.AreaOwners.{pbch-in, user-in, pbch-count, user-count}
-use Rattle.areas.specs.Tables.{RowMasks}
-use Rattle.constellation.specs.Axis.{Axis}
-use Rattle.data_read.specs.Reading.{areaBit, AreaReads}
 use Rattle.data_read.proofs.AreaBits.{pbch-section, user-section}
-use Rattle.control_read.specs.Reading.{ackFrom, ReadIn}
-use Rattle.control_read.proofs.ReadingOwners.{acks-are, read-in}
-use Rattle.channels.specs.declared.Channel.the-variants.{Pbch as PbchChannel, Phich as PhichChannel, User as UserChannel}
-use Rattle.channels.specs.Channels.{initOf, firstBit, Among}
-use Rattle.build.proofs.Slices.{From, from-first, from-user, from-next, start-room, user-valid, start-next, section-end, heads-room}
+use Rattle.control.specs.Reading.{ackFrom, ReadIn}
+use Rattle.control.proofs.ReadingOwners.{acks-are, read-in}
+use Rattle.schedule.specs.Schedule.{signalTurns, usersFirst, channelCount, channelAt, TurnOf, initOf, firstBit, startPair, Among, presentIn, sectionOf, partOf}
+use Rattle.schedule.specs.Cursor.{firstTurn, usersBefore, TurnIn, Due}
+use Rattle.schedule.specs.declared.Section.{Section}
+use Rattle.schedule.specs.declared.Turn.{Turn}
+use Rattle.schedule.specs.declared.Channel.{Channel}
+use Rattle.schedule.specs.declared.Channel.the-variants.{Crs, Sync, Pbch, Pcfich, Phich, User as UserOf}
+use Rattle.schedule.proofs.Owners as owners
+use Rattle.schedule.proofs.Slices.{section-end, start-next, heads-room}
+use Rattle.schedule.proofs.Turns.{turn-of, begins, first-in}
+use Rattle.schedule.proofs.Values.{section-room}
 use Rattle.verify.specs.Made.{Given}
 use Rattle.verify.proofs.Known.{pbch-known, pbch-even, user-known, user-even}
-use Rattle.read.specs.Reading.{Readable, ReadTo}
-use Rattle.read.proofs.Parts.{pbch-part, acks-part, user-part, read-none, read-more, read-whole}
+use Rattle.read.specs.Reading.{Readable, BytesRead, ReadBefore, PartIn, partRead, PartOf, ownPart, partAfter}
+use Rattle.read.proofs.Parts.{pbch-part, acks-part, user-part, put-in, bytes-joined, bytes-all}
 
--- the users before number i are read: number i's command is at position `at`, and its section starts at byte `from`
-pub record Going (w : List ℕ) (p : Plan) (g : List ℕ) (at from i : ℕ) (payload : List ℕ) : Type 0 where
-  pub most : i ≤ p .users .count
-  pub users : From w p at i
-  pub section : from ≡ userStart w p i
-  pub read : ReadTo w p g from payload
-
-module _ (w : List ℕ) (p : Plan) (g : List ℕ) where
-  pub users-first : {payload : List ℕ} (from : ℕ) → from ≡ usersStart p → ReadTo w p g (usersStart p) payload → Going w p g (p .users .at) from 0 payload
-  users-first {payload} from e so =
-      record {
-        most = omega arith;
-        users = from-first w p;
-        section = e ∙ sym (user-start-first w p);
-        read = subst (λ (n : ℕ). ReadTo w p g n payload) (sym e) so;
-      }
-
-module _ (w : List ℕ) (p : Plan) (g : List ℕ) {before : List ℕ} (start : Readable w p g before) where
+module _ {w : List ℕ} {p : Plan} {g before : List ℕ} (start : Readable w p g before) where
   ok : checkOf w ≡ accepted p
   ok = start .answer
 
   given : Given w p g
   given = record { answer = start .answer; room = start .room }
 
-  -- ---- PBCH
-  pub pbch-begins : CellIn (p .cell) × FrameIn (p .frame) × Among p PbchChannel
+  abbrev R : ℕ
+  R = signalTurns (p .cell)
+
+  -- the bytes of PBCH's section
+  abbrev H : ℕ
+  H = sectionBytes (pbchBits (p .cell) (p .frame))
+
+  -- ---- the HIs, before the first turn
+  pub acks-begin : CellIn (p .cell) × FrameIn (p .frame) × Among p (Phich 0)
   unfolding Among
-  pbch-begins = (valid w p ok .cell, valid w p ok .frame, tt)
+  acks-begin = (valid w p ok .cell, valid w p ok .frame, omega (arith, units-least (p .cell) (valid w p ok .cell)))
 
-  pub pbch-wide : 6 ≤ p .cell .blocks
-  pbch-wide = omega (arith, blocks-least (p .cell) (valid w p ok .cell))
+  module _ (x : Section) (ex : x ≡ sectionOf p 0 (Phich 0)) where
+    from-is : x .start ≡ sectionBytes (pbchBits (p .cell) (p .frame))
+    unfolding sectionOf
+    from-is = ap (λ (s : Section). s .start) ex
 
-  pub pbch-absent : (p .frame .subframe ≡ 0 → ⊥) → ReadTo w p g (sectionBytes (pbchBits (p .cell) (p .frame))) before
-  pbch-absent n =
-      let e : 0 ≡ sectionBytes (pbchBits (p .cell) (p .frame)) = omega (arith, pbch-none (p .cell) (p .frame) n) in
-      subst (λ (m : ℕ). ReadTo w p g m before) e (read-none w p g (start .size))
+    to-is : x .end ≡ usersStart p
+    unfolding sectionOf
+    to-is = ap (λ (s : Section). s .end) ex
 
-  module _ (end : ℕ) (ee : end ≡ sectionBytes (pbchBits (p .cell) (p .frame))) where
-    pub pbch-room : end ≤ length before
-    pbch-room = let h = heads-room w p ok before end (usersStart p) ee refl in omega (arith, h .0, h .1, start .size)
+    pub acks-room : (x .start ≤ x .end) × (x .end ≤ length before)
+    acks-room = let h = heads-room w p ok before (x .start) (x .end) from-is to-is in (h .0, omega (arith, h .1, start .size))
 
-    module _ (z : p .frame .subframe ≡ 0) (a : Area) (ea : a ≡ pbchArea (p .cell) (p .frame)) where
-      pbch-bits : 2 * areaCount (pbchArea (p .cell) (p .frame)) ≡ pbchBits (p .cell) (p .frame)
-      pbch-bits = ap (λ (n : ℕ). 2 * n) (pbch-count w p ok z) ∙ sym (pbch-size w p ok) ∙ pbch-length w p ok
-
-      pub pbch-section-in :
-          {d masks : List ℕ} → Axis 2 d → RowMasks (a .cell) (a .frame) (a .signals) (a .leaves) 14 masks
-          → AreaReads a 2 d masks g × (length (take (end - 0) (drop 0 before)) ≡ sectionBytes (2 * areaCount a))
-      pbch-section-in {d} {masks} axis =
-          subst
-          (λ (b : Area).
-          RowMasks (b .cell) (b .frame) (b .signals) (b .leaves) 14 masks
-          → AreaReads b 2 d masks g × (length (take (end - 0) (drop 0 before)) ≡ sectionBytes (2 * areaCount b)))
-          (sym ea) (λ bytes. (
-            record {
-              section =
-                  record {
-                    area = pbch-in w p ok 2 0 g (omega arith, omega arith, omega arith) (omega arith) (start .room);
-                    known = pbch-known w p g given (start .made) z;
-                    pairs = pbch-even w p g given z;
-                  };
-              signals = λ many. (omega arith, λ e. omega arith);
-              axis = axis;
-              bytes = bytes;
-            },
-            mid-len 0 end before pbch-room ∙ omega (arith, pbch-bits),
-          ))
-
-      pub pbch-read :
-          (r : Registers) → r ≡ pairAt (initOf p PbchChannel) (firstBit p PbchChannel) → (ys : List ℕ) → ys ≡ sectionOf (areaBit a 2 g r) (2 * areaCount a)
-          → ReadTo w p g (sectionBytes (pbchBits (p .cell) (p .frame))) (putMid 0 (end - 0) before ys)
-      unfolding initOf firstBit
-      pbch-read r er ys ey =
-          let room = heads-room w p ok before end (usersStart p) ee refl in
-          subst (λ (n : ℕ). ReadTo w p g n (putMid 0 (end - 0) before ys)) ee
-          (read-more w p g (read-none w p g (start .size)) end ys (omega arith) (omega (arith, room .0, room .1))
-          (ey
-          ∙ ap₂ (λ (b : Area) (x : Registers). sectionOf (areaBit b 2 g x) (2 * areaCount b)) ea er
-          ∙ pbch-section w p ok z g
-          ∙ sym (pbch-part w p g end ee)))
-
-  -- ---- the HIs
-  pub acks-begins : CellIn (p .cell) × FrameIn (p .frame) × Among p (PhichChannel 0)
-  unfolding Among
-  acks-begins = (valid w p ok .cell, valid w p ok .frame, omega (arith, units-least (p .cell) (valid w p ok .cell)))
-
-  module _ (from end : ℕ) (ef : from ≡ sectionBytes (pbchBits (p .cell) (p .frame))) (ee : end ≡ usersStart p) where
-    pub acks-room : (from ≤ end) × (end ≤ length before)
-    acks-room = let h = heads-room w p ok before from end ef ee in (h .0, omega (arith, h .1, start .size))
-
-    pub acks-in : ReadIn (p .cell) (p .his) w g (take (end - from) (drop from before))
+    pub acks-in : ReadIn (p .cell) (p .his) w g (partOf x before)
     unfolding usersStart heads bytesOf
-    acks-in = read-in w p ok (start .room) (mid-len from end before (acks-room .1) ∙ omega arith)
+    acks-in = read-in w p ok (start .room) (mid-len (x .start) (x .end) before (acks-room .1) ∙ omega (arith, from-is, to-is))
 
     pub acks-read :
-        ReadTo w p g (sectionBytes (pbchBits (p .cell) (p .frame))) before
-        → (r : Registers) → r ≡ pairAt (initOf p (PhichChannel 0)) (firstBit p (PhichChannel 0))
-        → (ys : List ℕ) → ys ≡ sectionOf (ackFrom (p .cell) r (hisFrom (drop (p .his .at) w) (p .his .count)) g) (p .his .count)
-        → ReadTo w p g (usersStart p) (putMid from (end - from) before ys)
-    unfolding initOf firstBit hisOf
-    acks-read so r er ys ey =
-        let room = heads-room w p ok before from end ef ee in
-        subst (λ (n : ℕ). ReadTo w p g n (putMid from (end - from) before ys)) ee
-        (read-more w p g (subst (λ (n : ℕ). ReadTo w p g n before) (sym ef) so) end ys (room .0) (room .1)
+        (r : Registers) → r ≡ startPair p (Phich 0) → (ys : List ℕ) → ys ≡ recovered (ackFrom (p .cell) r (hisFrom (drop (p .his .at) w) (p .his .count)) g) (p .his .count)
+        → (t : Turn) → t ≡ firstTurn p → TurnIn w p t × ReadBefore w p g t (putMid (x .start) (x .end - x .start) before ys)
+    unfolding initOf firstBit hisOf firstTurn
+    acks-read r er ys ey t et =
+        let room = heads-room w p ok before (x .start) (x .end) from-is to-is in
+        let put =
+        put-in w p g before ys (start .size) (x .start) (x .end) (room .0) (room .1)
         (ey
-        ∙ ap (λ (x : Registers). sectionOf (ackFrom (p .cell) x (hisOf w p) g) (p .his .count)) er
-        ∙ ap (λ (bit : ℕ → ℕ). sectionOf bit (p .his .count)) (λ t n. acks-are w p g n t)
-        ∙ sym (acks-part w p g from end ef ee)))
+        ∙ ap (λ (s : Registers). recovered (ackFrom (p .cell) s (hisOf w p) g) (p .his .count)) er
+        ∙ ap (λ (bit : ℕ → ℕ). recovered bit (p .his .count)) (λ t n. acks-are w p g n t)
+        ∙ sym (acks-part w p g (x .start) (x .end) from-is to-is))
+        in
+        rw et (
+          first-in w p,
+          record {
+            size = put .size;
+            pbch = λ l. absurd (omega arith);
+            others = record { byte = λ i a b. put .own .byte i (omega (arith, from-is)) (omega (arith, to-is)) };
+          },
+        )
 
-  -- ---- users
-  module _ {at from i : ℕ} {payload : List ℕ} (so : Going w p g at from i payload) (more : i < p .users .count) (u : User) (eu : u ≡ userOf (drop at w)) where
-    in-i : i < length (usersOf w p)
-    in-i = omega (arith, valid w p ok .users-count)
-
-    user-is : u ≡ nthUser w p i
-    user-is = eu ∙ from-user w p at i (so .users) in-i more
-
-    pub going-begins : CellIn (p .cell) × FrameIn (p .frame) × Among p (UserChannel u)
-    unfolding Among
-    going-begins = (valid w p ok .cell, valid w p ok .frame, subst (UserIn (p .cell)) (sym user-is) (user-valid w p ok [] i in-i))
-
-    pub going-order : (2 ≤ u .order) × (u .order ≤ 6)
-    going-order = let o = user-order w p ok i in-i in rw user-is (o .1, o .2)
-
-    module _ (end : ℕ) (ee : end ≡ from + sectionBytes (computedBits (p .cell) (p .frame) u)) where
-      ends : end ≡ from + sectionBytes (userBits w p i)
-      ends = section-end w p ok [] i in-i u from end user-is ee
-
-      end-is : end ≡ userStart w p (i + 1)
-      end-is = ends ∙ ap (λ (n : ℕ). n + sectionBytes (userBits w p i)) (so .section) ∙ sym (start-next w p ok [] i in-i)
-
-      end-room : end ≤ payloadLength w p
-      end-room = omega (arith, end-is, start-room w p ok [] (i + 1))
-
-      pub going-room : (from ≤ end) × (end ≤ length payload)
-      going-room = (omega arith, omega (arith, end-room, so .read .size))
-
-      module _ (a : Area) (ea : a ≡ userArea (p .cell) (p .frame) u) where
-        user-bits : nthUser w p i .order * areaCount (userArea (p .cell) (p .frame) (nthUser w p i)) ≡ userBits w p i
-        unfolding userBits nthUser
-        user-bits = ap (λ (n : ℕ). nthUser w p i .order * n) (user-count w p ok i in-i _)
-
-        area-is : a ≡ userArea (p .cell) (p .frame) (nthUser w p i)
-        area-is = ea ∙ ap (userArea (p .cell) (p .frame)) user-is
-
-        abbrev InUser : List ℕ → List ℕ → Area → User → Type 0
-        InUser d masks b v = AreaReads b (v .order) d masks g × (length (take (end - from) (drop from payload)) ≡ sectionBytes (v .order * areaCount b))
-
-        pub going-in : {d masks : List ℕ} → Axis (u .order) d → RowMasks (p .cell) (p .frame) (p .cell .ports) true 14 masks → InUser d masks a u
-        unfolding nthUser
-        going-in {d} {masks} axis bytes =
-            let U : User = nthUser w p i in
-            subst (λ (b : Area). InUser d masks b u) (sym area-is)
-            (subst (λ (v : User). InUser d masks (userArea (p .cell) (p .frame) U) v) (sym user-is) (
-              record {
-                section =
-                    record {
-                      area = user-in w p ok (U .order) 0 g (user-order w p ok i in-i) (omega arith) (start .room) i in-i (record { rnti = 0; order = 0; first = 0; count = 0 });
-                      known = user-known w p g given (start .made) i in-i;
-                      pairs = user-even w p g given i in-i;
-                    };
-                signals = λ many. (many, start .room .not-three);
-                axis = subst (λ (v : User). Axis (v .order) d) user-is axis;
-                bytes = bytes;
-              },
-              mid-len from end payload (going-room .1) ∙ (omega (arith, ends) ∙ ap sectionBytes (sym user-bits)),
-            ))
-
-        pub going-next :
-            (r : Registers) → r ≡ pairAt (initOf p (UserChannel u)) (firstBit p (UserChannel u)) → (ys : List ℕ) → ys ≡ sectionOf (areaBit a (u .order) g r) (u .order * areaCount a)
-            → (to : ℕ) → to ≡ nextOf w at → Going w p g to end (i + 1) (putMid from (end - from) payload ys)
-        unfolding initOf firstBit
-        going-next r er ys ey to et =
+  -- ---- what PBCH and the users need
+  pbch-needs :
+      (n : ℕ) → TurnOf w p n Pbch → p .frame .subframe ≡ 0 → (part : List ℕ) → length part ≡ sectionBytes (pbchBits (p .cell) (p .frame))
+      → PartIn p Pbch (pbchArea (p .cell) (p .frame)) 2 g part
+  pbch-needs n y z part size =
+      record {
+        begins = begins w p ok n Pbch tt y;
+        section =
             record {
-              most = omega arith;
-              users = subst (λ (n : ℕ). From w p n (i + 1)) (sym et) (from-next w p at i (so .users) in-i more);
-              section = end-is;
-              read =
-                  read-more w p g (so .read) end ys (going-room .0) end-room
-                  (ey
-                  ∙ ap₂ (λ (b : Area) (x : Registers). sectionOf (areaBit b (u .order) g x) (u .order * areaCount b)) ea er
-                  ∙ ap (λ (v : User). sectionOf (areaBit (userArea (p .cell) (p .frame) v) (v .order) g (pairAt (userInit (p .cell) (p .frame) v) 0))
-                  (v .order * areaCount (userArea (p .cell) (p .frame) v))) user-is
-                  ∙ user-section w p ok i in-i g
-                  ∙ sym (user-part w p g i in-i from end (so .section) ends));
+              area = pbch-in w p ok 2 0 g (omega arith, omega arith, omega arith) (omega arith) (start .room);
+              known = pbch-known w p g given (start .made) z;
+              pairs = pbch-even w p g given z;
+            };
+        signals = λ many. (omega arith, λ e. omega arith);
+        size = size ∙ ap sectionBytes (sym (ap (λ (n : ℕ). 2 * n) (pbch-count w p ok z) ∙ sym (pbch-size w p ok) ∙ pbch-length w p ok));
+      }
+
+  module _ (n : ℕ) (u : User) (y : TurnOf w p n (UserOf u)) where
+    abbrev i : ℕ
+    i = n - usersFirst p
+
+    in-i : n - usersFirst p < length (usersOf w p)
+    unfolding TurnOf
+    in-i = owners.user-in w p ok (start .room) n (y .0) (y .1)
+
+    user-is : u ≡ nthUser w p (n - usersFirst p)
+    unfolding TurnOf
+    user-is = y .2
+
+    user-needs : (part : List ℕ) → length part ≡ sectionBytes (userBits w p (n - usersFirst p)) → PartIn p (UserOf u) (userArea (p .cell) (p .frame) u) (u .order) g part
+    unfolding nthUser userBits
+    user-needs part size =
+        subst (λ (v : User). PartIn p (UserOf u) (userArea (p .cell) (p .frame) v) (v .order) g part) (sym user-is)
+        (record {
+          begins = begins w p ok n (UserOf u) tt y;
+          section =
+              record {
+                area = user-in w p ok (nthUser w p i .order) 0 g (user-order w p ok i in-i) (omega arith) (start .room) i in-i (record { rnti = 0; order = 0; first = 0; count = 0 });
+                known = user-known w p g given (start .made) i in-i;
+                pairs = user-even w p g given i in-i;
+              };
+          signals = λ many. (many, start .room .not-three);
+          size = size ∙ ap (λ (m : ℕ). sectionBytes (nthUser w p i .order * m)) (sym (user-count w p ok i in-i _));
+        })
+
+  -- ---- a turn
+  module _ {t : Turn} (so : TurnIn w p t) (payload : List ℕ) (right : length payload ≡ payloadLength w p) where
+    abbrev Part : Channel → List ℕ
+    Part ch = partOf (sectionOf p (t .start) ch) payload
+
+    user-ends : (u : User) → TurnOf w p (t .number) (UserOf u) → sectionOf p (t .start) (UserOf u) .end ≡ t .start + sectionBytes (userBits w p (t .number - usersFirst p))
+    unfolding sectionOf
+    user-ends u y = section-end w p ok before (t .number - usersFirst p) (in-i (t .number) u y) u (t .start) _ (user-is (t .number) u y) refl
+
+    part-size : (ch : Channel) → TurnOf w p (t .number) ch → length (Part ch) ≡ sectionOf p (t .start) ch .end - sectionOf p (t .start) ch .start
+    part-size ch y = mid-len (sectionOf p (t .start) ch .start) (sectionOf p (t .start) ch .end) payload (omega (arith, section-room w p ok before (start .room) t so ch y))
+
+    turn-needs : (ch : Channel) → TurnOf w p (t .number) ch → presentIn p ch ≡ true → PartOf p ch g (partOf (sectionOf p (t .start) ch) payload)
+    unfolding PartOf presentIn sectionOf
+    turn-needs (Crs s q) y h = tt
+    turn-needs (Sync m) y h = tt
+    turn-needs Pbch y h = pbch-needs (t .number) y (eqb-true (p .frame .subframe) 0 h) (Part Pbch) (part-size Pbch y ∙ omega arith)
+    turn-needs Pcfich y h = tt
+    turn-needs (Phich m) y h = tt
+    turn-needs (UserOf u) y h = user-needs (t .number) u y (Part (UserOf u)) (part-size (UserOf u) y ∙ omega (arith, user-ends u y))
+
+    -- ---- how far it leaves the payload
+    module _ {r : Turn} (to : TurnIn w p r) (one : r .number ≡ t .number + 1) (had : ReadBefore w p g t payload) where
+      -- a turn that is no user's, and one that is not PBCH's besides
+      same-start : t .number < usersFirst p → r .start ≡ t .start
+      same-start l = let e : usersBefore p (r .number) ≡ usersBefore p (t .number) = omega arith in to .section ∙ ap (userStart w p) e ∙ sym (so .section)
+
+      others-kept : t .number < usersFirst p → BytesRead w p g H (r .start) payload
+      others-kept l = subst (λ (n : ℕ). BytesRead w p g H n payload) (sym (same-start l)) (had .others)
+
+      pass : t .number < usersFirst p → (R + 2 < t .number + 1 → R + 2 < t .number) → ReadBefore w p g r payload
+      pass l k = record { size = right; pbch = λ m. had .pbch (k (omega arith)); others = others-kept l }
+
+      crs-pass : (s q : ℕ) → TurnOf w p (t .number) (Crs s q) → ReadBefore w p g r payload
+      unfolding TurnOf
+      crs-pass s q y =
+          let l : t .number < R = omega (arith, y .2, mul-le-mul {n₁ = suc s} {m₁ = p .cell .ports} {n₂ = symbols (p .cell)} {m₂ = p .cell .ports} (y .0) (omega arith), y .1) in
+          pass (omega arith) (λ k. omega arith)
+
+      sync-pass : (m : Mark) → TurnOf w p (t .number) (Sync m) → ReadBefore w p g r payload
+      unfolding TurnOf
+      sync-pass Primary y = pass (omega arith) (λ k. omega arith)
+      sync-pass Secondary y = pass (omega arith) (λ k. omega arith)
+
+      -- the subframe does not have the channel
+      absent-read : (ch : Channel) → TurnOf w p (t .number) ch → presentIn p ch ≡ false → ReadBefore w p g r payload
+      unfolding TurnOf presentIn
+      absent-read (Crs s q) y h = crs-pass s q y
+      absent-read (Sync m) y h = sync-pass m y
+      absent-read Pbch y h =
+          record {
+            size = right;
+            pbch = λ m. record { byte = λ i a b. absurd (omega (arith, pbch-none (p .cell) (p .frame) (eqb-false (p .frame .subframe) 0 h))) };
+            others = others-kept (omega arith);
+          }
+      absent-read Pcfich y h = clash refl h
+      absent-read (Phich m) y h = clash refl h
+      absent-read (UserOf u) y h = clash refl h
+
+      -- it has it
+      module _ (ys : List ℕ) where
+        abbrev After : Channel → List ℕ
+        After ch = putMid (sectionOf p (t .start) ch .start) (sectionOf p (t .start) ch .end - sectionOf p (t .start) ch .start) payload ys
+
+        -- nothing is read
+        same-read : (ch : Channel) → ys ≡ Part ch → ReadBefore w p g r payload → ReadBefore w p g r (After ch)
+        same-read ch e so =
+            let x = sectionOf p (t .start) ch in
+            subst (λ (l : List ℕ). ReadBefore w p g r l) (sym (ap (putMid (x .start) (x .end - x .start) payload) e ∙ put-same (x .start) (x .end - x .start) payload)) so
+
+        pbch-read : TurnOf w p (t .number) Pbch → presentIn p Pbch ≡ true → ys ≡ ownPart p Pbch g (Part Pbch) → ReadBefore w p g r (After Pbch)
+        unfolding TurnOf presentIn ownPart sectionOf initOf firstBit
+        pbch-read y h e =
+            let room = section-room w p ok before (start .room) t so Pbch y in
+            let x = put-in w p g payload ys right 0 H (room .0) (room .1) (e ∙ pbch-section w p ok (eqb-true (p .frame .subframe) 0 h) g ∙ sym (pbch-part w p g H refl)) in
+            record { size = x .size; pbch = λ m. x .own; others = x .late (omega arith) (others-kept (omega arith)) }
+
+        user-read : (u : User) → TurnOf w p (t .number) (UserOf u) → ys ≡ ownPart p (UserOf u) g (Part (UserOf u)) → ReadBefore w p g r (After (UserOf u))
+        unfolding TurnOf ownPart initOf firstBit sectionOf
+        user-read u y e =
+            let n = t .number in let i = t .number - usersFirst p in let end = sectionOf p (t .start) (UserOf u) .end in
+            let room = section-room w p ok before (start .room) t so (UserOf u) y in
+            let ends = user-ends u y in
+            let x =
+            put-in w p g payload ys right (t .start) end (room .0) (room .1)
+            (e
+            ∙ ap (λ (v : User). partRead p (UserOf v) (userArea (p .cell) (p .frame) v) (v .order) g) (user-is n u y)
+            ∙ user-section w p ok i (in-i n u y) g
+            ∙ sym (user-part w p g i (in-i n u y) (t .start) end (so .section) ends))
+            in
+            let after : i + 1 ≡ usersBefore p (r .number) = omega (arith, y .0) in
+            let next : end ≡ r .start = omega (arith, ends, so .section, start-next w p ok before i (in-i n u y), ap (userStart w p) after, to .section) in
+            let first : H ≤ t .start = omega (arith, so .section, user-start w p i, heads-room w p ok before H (usersStart p) refl refl .0) in
+            record {
+              size = x .size;
+              pbch = λ m. x .early first (had .pbch (omega (arith, y .0)));
+              others = subst (λ (m : ℕ). BytesRead w p g H m (After (UserOf u))) next (bytes-joined w p g (x .early (omega arith) (had .others)) (x .own));
             }
 
-  pub users-end : {at from i : ℕ} {payload : List ℕ} → Going w p g at from i payload → p .users .count ≤ i → payload ≡ payloadIn w p g
-  users-end {i = i} so h =
-      let e : i ≡ length (usersOf w p) = omega (arith, so .most, valid w p ok .users-count) in
-      read-whole w p g (so .read) (so .section ∙ ap (userStart w p) e ∙ user-start-end w p)
+        present-read : (ch : Channel) → TurnOf w p (t .number) ch → presentIn p ch ≡ true → ys ≡ ownPart p ch g (Part ch) → ReadBefore w p g r (After ch)
+        unfolding TurnOf ownPart
+        present-read (Crs s q) y h e = same-read (Crs s q) e (crs-pass s q y)
+        present-read (Sync m) y h e = same-read (Sync m) e (sync-pass m y)
+        present-read Pbch y h e = pbch-read y h e
+        present-read Pcfich y h e = same-read Pcfich e (pass (omega arith) (λ k. omega arith))
+        present-read (Phich m) y h e = same-read (Phich m) e (pass (omega arith) (λ k. omega arith))
+        present-read (UserOf u) y h e = user-read u y e
 
--- ---- the sections one after the other
-pub readable-kept : {w : List ℕ} {p : Plan} {g before : List ℕ} → Readable w p g before → {n : ℕ} {after : List ℕ} → ReadTo w p g n after → Readable w p g after
-readable-kept start so = record { answer = start .answer; room = start .room; made = start .made; size = so .size }
+        turn-read : (ch : Channel) → TurnOf w p (t .number) ch → ys ≡ partAfter p ch g (partOf (sectionOf p (t .start) ch) payload) → ReadBefore w p g r (After ch)
+        turn-read ch y e =
+            by-test (presentIn p ch) (λ h. present-read ch y h (e ∙ rw h refl)) (λ h. same-read ch (e ∙ rw h refl) (absent-read ch y h))
+
+  -- ---- as the loop has it: the count of turns, the channel and its section by their equations
+  pub count-in : CellIn (p .cell) × (p .users .count ≤ 100)
+  count-in = (valid w p ok .cell, users-most w p ok)
+
+  module _ {t : Turn} (so : TurnIn w p t) {n : ℕ} (all : n ≡ channelCount p) (l : t .number < n) where
+    pub due : Due w p t
+    due = record { answer = ok; turn = so; more = omega arith }
+
+    module _ {ch : Channel} (is : ch ≡ channelAt w p (t .number)) {payload : List ℕ} (had : ReadBefore w p g t payload) (x : Section) (ex : x ≡ sectionOf p (t .start) ch) where
+      turn : TurnOf w p (t .number) ch
+      turn = subst (TurnOf w p (t .number)) (sym is) (turn-of w p (start .room .some) (t .number) (due .more))
+
+      pub loop-room : (x .start ≤ x .end) × (x .end ≤ length payload)
+      loop-room = rw (ex, had .size) (section-room w p ok before (start .room) t so ch turn)
+
+      pub loop-needs : presentIn p ch ≡ true → PartOf p ch g (partOf x payload)
+      loop-needs = rw ex (turn-needs so payload (had .size) ch turn)
+
+      pub loop-read :
+          (r : Turn) → TurnIn w p r × (r .number ≡ t .number + 1) → (ys : List ℕ) → ys ≡ partAfter p ch g (partOf x payload)
+          → ReadBefore w p g r (putMid (x .start) (x .end - x .start) payload ys)
+      loop-read r to ys = rw ex (turn-read so payload (had .size) (to .0) (to .1) had ys ch turn)
+
+  -- all turns are over
+  pub all-read : {t : Turn} → TurnIn w p t → {n : ℕ} → n ≡ channelCount p → n ≤ t .number → {payload : List ℕ} → ReadBefore w p g t payload → payload ≡ payloadIn w p g
+  unfolding channelCount
+  all-read {t} so all l {payload} had =
+      let n : usersBefore p (t .number) ≡ length (usersOf w p) = omega (arith, so .most, valid w p ok .users-count) in
+      let e : t .start ≡ payloadLength w p = so .section ∙ ap (userStart w p) n ∙ user-start-end w p in
+      bytes-all w p g (had .size) (subst (λ (m : ℕ). BytesRead w p g 0 m payload) e (bytes-joined w p g (had .pbch (omega arith)) (had .others)))
