@@ -28,9 +28,7 @@ use Rattle.grid.proofs.Writing.{none, same, over, whole}
 use Rattle.subframe.specs.Grid.{elementNumbered, gridOf}
 use Rattle.subframe.proofs.Bytes.{length-by-port}
 use Rattle.data_write.specs.Sent.{TableOf}
-use Rattle.control.proofs.ControlOwners.{part-levels}
-use Rattle.control.proofs.Reading.{his-in}
-use Rattle.control.proofs.ReadingOwners.{his-read}
+use Rattle.control.proofs.ControlOwners.{part-levels, his-known}
 use Rattle.schedule.specs.Schedule.{TurnOf, channelCount, channelAt, Among, startPair, presentIn, sendsOf, sentOf, sentBelow, allSend, sectionOf, SumsOf, partOf, lentTo}
 use Rattle.schedule.specs.Cursor.{TurnIn, Due, firstTurn}
 use Rattle.schedule.specs.declared.Section.{Section}
@@ -203,7 +201,7 @@ module _ (w : List ℕ) (p : Plan) (payload : List ℕ) (ok : checkOf w ≡ acce
   room = plan-room w p ok (table (gridLength p) (λ (i : ℕ). 0)) (table-length (gridLength p) (λ (i : ℕ). 0))
 
   pub his-ready : {l : ℕ} → l ≡ spreadLength (p .cell) → HisIn l w (p .his .at) (p .his .count)
-  his-ready e = his-in (his-read w p ok room) e
+  his-ready e = his-known w p ok e
 
   module _ {n from end : ℕ} (en : n ≡ pbchBits (p .cell) (p .frame)) (ef : from ≡ sectionBytes n) (ee : end ≡ usersStart p) where
     pub heads-in : (from ≤ end) × (end ≤ length payload)

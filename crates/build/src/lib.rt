@@ -135,7 +135,7 @@ pub fn build(plan: &[u8], payload: &[u8], grid: &mut [u8]) -> Built
 {
     let checked = plan::check(plan);
     let Checked::Plan(p) = checked else {
-        return Built::Refused(layout::refusal(checked));
+        return Built::Refused(plan::refusal_in(checked));
     };
     if grid.len() != payload::grid_length(p) {
         return Built::Refused(Refusal::GridLength);

@@ -30,7 +30,7 @@ fn filled(
     let cell = p.cell;
     let frame = p.frame;
     match ch {
-        Channel::Crs(s, port) => signals::fill_crs(r, cell, base::wide(s), port, grid),
+        Channel::Crs(s, port) => signals_write::fill_crs(r, cell, base::wide(s), port, grid),
         Channel::Sync(_) => r,
         Channel::Pbch => {
             let mut own: [u8; 14] = [0; 14];
@@ -38,8 +38,8 @@ fn filled(
             let area = areas::pbch_area(cell, frame);
             data_write::fill_by_tables(r, area, 2, t, &own, bits, grid)
         }
-        Channel::Pcfich => control::fill_pcfich(r, cell, frame.cfi, grid),
-        Channel::Phich(m) => control::fill_phich(r, cell, base::wide(m), bits, grid),
+        Channel::Pcfich => control_write::fill_pcfich(r, cell, frame.cfi, grid),
+        Channel::Phich(m) => control_write::fill_phich(r, cell, base::wide(m), bits, grid),
         Channel::User(u) => {
             let area = areas::user_area(cell, frame, u);
             data_write::fill_by_tables(r, area, u.order as u32, t, masks, bits, grid)
@@ -79,8 +79,8 @@ fn write_mark(p: Plan, m: Mark, grid: &mut [u8])
     ensures { λ _. ⌜ Written (markSends (p .cell) (markRow m)) (markSent p m) (now (grid .entry)) (now (grid .exit)) ⌝ }
 {
     match m {
-        Mark::Primary => signals::fill_pss(p.cell, grid),
-        Mark::Secondary => signals::fill_sss(p.cell, p.frame, grid),
+        Mark::Primary => signals_write::fill_pss(p.cell, grid),
+        Mark::Secondary => signals_write::fill_sss(p.cell, p.frame, grid),
     }
 }
 

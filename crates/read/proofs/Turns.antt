@@ -31,8 +31,8 @@ use Rattle.recovery.proofs.Channels.{pbch-length}
 use Rattle.areas.specs.Areas.{pbchArea, userArea}
 use Rattle.areas.proofs.AreaOwners.{pbch-in, user-in, pbch-count, user-count}
 use Rattle.data_read.proofs.AreaBits.{pbch-section, user-section}
-use Rattle.control.specs.Reading.{ackFrom, ReadIn}
-use Rattle.control.proofs.ReadingOwners.{acks-are, read-in}
+use Rattle.control_read.specs.Reading.{ackFrom, ReadIn}
+use Rattle.control_read.proofs.ReadingOwners.{acks-are, read-in}
 use Rattle.schedule.specs.Schedule.{signalTurns, usersFirst, channelCount, channelAt, TurnOf, initOf, firstBit, startPair, Among, presentIn, sectionOf, partOf}
 use Rattle.schedule.specs.Cursor.{firstTurn, usersBefore, TurnIn, Due}
 use Rattle.schedule.specs.declared.Section.{Section}

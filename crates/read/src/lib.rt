@@ -88,7 +88,7 @@ fn read_sections(plan: &[u8], p: Plan, grid: &[u8], payload: &mut [u8])
     let from = acks.start;
     let to = acks.end;
     let r = started(p, Channel::Phich(0));
-    control::read_his(r, p.cell, p.his, plan, grid, &mut payload[from..to]);
+    control_read::read_his(r, p.cell, p.his, plan, grid, &mut payload[from..to]);
     let mut masks: [u8; 14] = [0; 14];
     areas::row_masks(p.cell, p.frame, p.cell.ports, true, &mut masks);
     let mut d: [u8; 32] = [0; 32];
@@ -115,7 +115,7 @@ pub fn read(plan: &[u8], grid: &[u8], payload: &mut [u8]) -> ReadBack
 {
     let checked = plan::check(plan);
     let Checked::Plan(p) = checked else {
-        return ReadBack::Refused(layout::refusal(checked));
+        return ReadBack::Refused(plan::refusal_in(checked));
     };
     if grid.len() != payload::grid_length(p) {
         return ReadBack::Refused(Refusal::GridLength);
@@ -123,7 +123,7 @@ pub fn read(plan: &[u8], grid: &[u8], payload: &mut [u8]) -> ReadBack
     if payload.len() != payload::payload_length(plan, p) {
         return ReadBack::Refused(Refusal::PayloadLength);
     }
-    if !verify::is_made(plan, p, grid) {
+    if !verify::has_payload(plan, p, grid) {
         return ReadBack::Refused(Refusal::NoPayload);
     }
     read_sections(plan, p, grid, payload);

@@ -43,9 +43,9 @@ use Rattle.signals.specs.Signals.{crsSends, crsSent, markSends, pssSent, sssSen
 use Rattle.signals.specs.Rows.{MarkIn, SignalIn}
 use Rattle.control.specs.Control.{pcfichSends, pcfichSent, phichSends, phichSent}
 use Rattle.control.specs.Filling.{PcfichIn, PhichIn}
-use Rattle.control.specs.Reading.{HisRead, ackFrom}
+use Rattle.control_read.specs.Reading.{HisRead, ackFrom}
 use Rattle.control.proofs.ControlOwners.{pcfich-in, phich-in, part-levels}
-use Rattle.control.proofs.ReadingOwners.{acks-are, his-read}
+use Rattle.control_read.proofs.ReadingOwners.{acks-are, his-read}
 use Rattle.schedule.specs.declared.Channel.{Channel}
 use Rattle.schedule.specs.declared.Channel.the-variants.{Crs, Sync, Pbch, Pcfich, Phich, User as UserOf}
 use Rattle.schedule.specs.Schedule.{
