@@ -24,6 +24,7 @@ use Rattle.places.specs.Places.{placesOf}
 use Rattle.payload.specs.Sections.{sectionBytes}
 use Rattle.payload.specs.Payload.{pbchBits, gridLength, payloadLength, usersStart}
 use Rattle.grid.specs.Writing.{Written, Room}
+use Rattle.grid.proofs.Accumulating.{writing}
 use Rattle.grid.proofs.Writing.{none, same, over, whole}
 use Rattle.subframe.specs.Grid.{elementNumbered, gridOf}
 use Rattle.subframe.proofs.Bytes.{length-by-port}
@@ -35,7 +36,7 @@ use Rattle.schedule.specs.declared.Section.{Section}
 use Rattle.schedule.specs.declared.Turn.{Turn}
 use Rattle.schedule.specs.declared.Channel.{Channel}
 use Rattle.schedule.specs.declared.Channel.the-variants.{Crs, Sync, Pbch, Pcfich, Phich, User}
-use Rattle.schedule.proofs.Accumulating.{Accumulates, turn-none, turn-more, turn-all}
+use Rattle.schedule.proofs.TurnByTurn.{turn-none, turn-more, turn-all}
 use Rattle.schedule.proofs.Covers.{covers}
 use Rattle.schedule.proofs.Senders.{absent-sends}
 use Rattle.schedule.proofs.Slices.{heads-room}
@@ -113,15 +114,6 @@ module _ {w : List ℕ} {p : Plan} {payload g₀ : List ℕ} (start : Ready w p 
   abbrev E : ℕ → Element
   E = elementNumbered w p payload
 
-  -- writing accumulates
-  writes : Accumulates (List ℕ) g₀ (λ (D : ℕ → Bool) (h : List ℕ). Written D E g₀ h) (λ (D : ℕ → Bool) (g h : List ℕ). Written D E g h)
-  writes =
-      record {
-        nothing = none E g₀;
-        same = λ d so. same d (λ e h. refl) so;
-        more = λ two so s. over so s (λ e k. refl) (λ e. refl);
-      }
-
   pub turns-in : CellIn (p .cell) × (p .users .count ≤ 100)
   turns-in = (valid w p ok .cell, users-most w p ok)
 
@@ -132,7 +124,7 @@ module _ {w : List ℕ} {p : Plan} {payload g₀ : List ℕ} (start : Ready w p 
 
   pub going-first : {t : Turn} → t ≡ firstTurn p → Going t g₀
   unfolding firstTurn
-  going-first e = rw e (record { turn = first-in w p; written = turn-none writes w p })
+  going-first e = rw e (record { turn = first-in w p; written = turn-none (writing g₀) E w p })
 
   module _ {t : Turn} {g : List ℕ} (so : Going t g) {n : ℕ} (en : n ≡ channelCount p) (more : t .number < n) where
     pub going-due : Due w p t
@@ -189,11 +181,11 @@ module _ {w : List ℕ} {p : Plan} {payload g₀ : List ℕ} (start : Ready w p 
                 turn = next .0;
                 written =
                     rw (next .1)
-                    (turn-more writes w p ok (start .room) (t .number) (going-due .more) (so .written) (subst (λ (c : Channel). Written (sendsOf p c) E g h) is z));
+                    (turn-more (writing g₀) E w p ok (start .room) (t .number) (going-due .more) (so .written) (subst (λ (c : Channel). Written (sendsOf p c) E g h) is z));
               }
 
   pub going-end : {t : Turn} {g : List ℕ} {n : ℕ} → Going t g → n ≡ channelCount p → n ≤ t .number → Written (allSend w p) E g₀ g
-  going-end {t = t} so en l = turn-all writes w p (t .number) (so .turn .most) (omega arith) (so .written)
+  going-end {t = t} so en l = turn-all (writing g₀) E w p (t .number) (so .turn .most) (omega arith) (so .written)
 
 -- ---- the sums of all units
 module _ (w : List ℕ) (p : Plan) (payload : List ℕ) (ok : checkOf w ≡ accepted p) (size : length payload ≡ payloadLength w p) where

@@ -30,7 +30,8 @@ use Rattle.layout.specs.declared.Mark.the-variants.{Primary, Secondary}
 use Rattle.compare.specs.declared.Seen.{Seen}
 use Rattle.compare.specs.declared.Seen.the-variants.{Weight, Differs}
 use Rattle.compare.specs.Comparing.{Compared, bothOf, Few}
-use Rattle.compare.proofs.Comparing.{none, same, over, few}
+use Rattle.compare.proofs.Accumulating.{also, comparing}
+use Rattle.compare.proofs.Comparing.{none, same, few}
 use Rattle.subframe.proofs.OwnerBits.{user-order}
 use Rattle.recovery.specs.Recovery.{payloadIn}
 use Rattle.recovery.proofs.Payload.{hi-bit}
@@ -73,7 +74,7 @@ use Rattle.schedule.proofs.Turns.{turn-of, begins, first-in}
 use Rattle.schedule.proofs.Senders.{present-sends, absent-sends, pbch-sends, user-sends}
 use Rattle.schedule.proofs.Owners.{user-in}
 use Rattle.schedule.proofs.Values.{value}
-use Rattle.schedule.proofs.Accumulating as turns
+use Rattle.schedule.proofs.TurnByTurn.{turn-none, turn-more, turn-all}
 use Rattle.verify.specs.Made.{elementDue, Given, Planned, Shared, SentSeen, ChannelSeen}
 use Rattle.verify.proofs.Areas.{pbch-seen, user-seen}
 use Rattle.verify.proofs.Known.{pbch-even, user-even}
@@ -270,17 +271,6 @@ module _ (w : List ℕ) (p : Plan) {g : List ℕ} (given : Given w p g) where
     channel-due (UserOf u) t h c = user-due u t c
 
 -- ---- TURN AFTER TURN
-abbrev One : (ℕ → Element) → List ℕ → (ℕ → Bool) → Seen → Seen → Type 0
-One E g D x y = (s : Seen) × (y ≡ bothOf x s) × Compared D E g s
-
-accumulates : (E : ℕ → Element) (g : List ℕ) → turns.Accumulates Seen (Weight 0) (λ (D : ℕ → Bool) (x : Seen). Compared D E g x) (One E g)
-accumulates E g =
-    record {
-      nothing = none E g;
-      same = λ d c. same d (λ e k. refl) c;
-      more = λ {D} {D₂} a c o. subst (Compared (λ (e : ℕ). D₂ e || D e) E g) (sym (o .1)) (over a c (o .2) (λ e k. refl) (λ e. refl));
-    }
-
 both-none : (x : Seen) → x ≡ bothOf x (Weight 0)
 both-none (Weight n) = let e : n ≡ n + 0 = omega arith in ap Weight e
 both-none Differs = refl
@@ -306,7 +296,7 @@ module _ (w : List ℕ) (p : Plan) {g : List ℕ} (given : Given w p g) {r : Reg
         shape-is = es;
         count-is = ec;
         turn = rw et (first-in w p);
-        compared = rw et (turns.turn-none (accumulates (elementDue w p g) g) w p);
+        compared = rw et (turn-none (comparing g) (elementDue w p g) w p);
       }
 
 module _ {w : List ℕ} {p : Plan} {g : List ℕ} {r : Registers} {sums masks : List ℕ} {shape : Shape} {count : ℕ} {t : Turn} {x : Seen}
@@ -345,8 +335,8 @@ module _ {w : List ℕ} {p : Plan} {g : List ℕ} {r : Registers} {sums masks : 
               turn = en .0;
               compared =
                   subst (λ (m : ℕ). Compared (sentBelow w p m) (elementDue w p g) g y) (sym (en .1))
-                  (turns.turn-more (accumulates (elementDue w p g) g) w p (so .given .answer) (so .given .room) (t .number) less (so .compared)
-                  (s, ey, subst (λ (d : Channel). Compared (sendsOf p d) (elementDue w p g) g s) is c));
+                  (turn-more (comparing g) (elementDue w p g) w p (so .given .answer) (so .given .room) (t .number) less (so .compared)
+                  (also (subst (λ (d : Channel). Compared (sendsOf p d) (elementDue w p g) g s) is c) ey));
             }
 
         pub going-more : {y : Seen} → presentIn p ch ≡ true → (s : Seen) → ChannelSeen p ch sums g s → y ≡ bothOf x s → Going w p g r sums masks shape count n y
@@ -356,4 +346,4 @@ module _ {w : List ℕ} {p : Plan} {g : List ℕ} {r : Registers} {sums masks : 
         going-pass h = step (Weight 0) (both-none x) (same (λ e. sym (absent-sends p ch h e)) (λ e k. refl) (none (elementDue w p g) g))
 
   pub going-end : count ≤ t .number → Compared (allSend w p) (elementDue w p g) g x
-  going-end l = turns.turn-all (accumulates (elementDue w p g) g) w p (t .number) (so .turn .most) (omega (arith, so .count-is)) (so .compared)
+  going-end l = turn-all (comparing g) (elementDue w p g) w p (t .number) (so .turn .most) (omega (arith, so .count-is)) (so .compared)
