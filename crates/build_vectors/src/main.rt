@@ -20,7 +20,7 @@ fn call(number: usize, plan: &[u8], payload: &[u8], grid: &mut [u8]) {
     print::space();
     answer(b);
     print::space();
-    records::show(records::added(records::begun(), grid));
+    records::show(records::added(records::empty(), grid));
     print::line();
 }
 

@@ -55,7 +55,7 @@ fn nonzero_of(b: u8) -> usize
 }
 
 // One element compared with the value that is due.
-fn beside(a: Element, b: Element) -> Seen
+fn compare_element(a: Element, b: Element) -> Seen
     ensures { λ r. ⌜ r ≡ seenOf a b ⌝ }
 {
     if a.unit == b.unit && a.i == b.i && a.j == b.j {
@@ -65,15 +65,15 @@ fn beside(a: Element, b: Element) -> Seen
 }
 
 // The element with a number, beside its value. Callers number the elements of a grid whose length they have compared.
-pub fn look(grid: &[u8], e: usize, el: Element) -> Seen
+pub fn compare_at(grid: &[u8], e: usize, el: Element) -> Seen
     requires { ⌜ 3 * e + 2 < length (now grid) ⌝ }
     ensures { λ r. ⌜ r ≡ seenOf (elementIn (now (grid .entry)) e) el ⌝ }
 {
-    beside(grid::get(grid, e), el)
+    compare_element(grid::get(grid, e), el)
 }
 
 // Both of two comparisons. Callers compare elements of one grid, so that the numbers are small.
-pub fn both(a: Seen, b: Seen) -> Seen
+pub fn together(a: Seen, b: Seen) -> Seen
     requires { ⌜ Few a × Few b ⌝ }
     ensures { λ r. ⌜ r ≡ bothOf a b ⌝ }
 {
@@ -88,7 +88,7 @@ pub fn both(a: Seen, b: Seen) -> Seen
 
 // What transmit diversity sends at place t, on the ports with a term, as `grid::put_place` writes it. Callers have compared the
 // grid's length, and take units and levels from the modulation tables or PHICH's sums.
-pub fn look_place(
+pub fn compare_place(
     grid: &[u8],
     ports: u8,
     places: usize,
@@ -104,13 +104,13 @@ pub fn look_place(
 {
     let u = precoding::unit_on(ports, unit);
     let own = base::wide(precoding::own_port(ports, turn)) * places + t;
-    let seen = look(grid, own, base::element_of(u, d));
+    let seen = compare_at(grid, own, base::element_of(u, d));
     if ports == 1 {
         return seen;
     }
     let other = base::wide(precoding::other_port(ports, turn)) * places + t;
-    both(
+    together(
         seen,
-        look(grid, other, base::element_of(u, precoding::partner(odd, e))),
+        compare_at(grid, other, base::element_of(u, precoding::partner(odd, e))),
     )
 }

@@ -152,7 +152,7 @@ fn aparts(f: Form, grid: &[u8], ports: u8, places: usize, j: usize, start: usize
 }
 
 // A run on two ports or four, from the channel's index j on.
-fn see_pairs(f: Form, grid: &[u8], run: Run, j: usize, ports: u8, places: usize) -> u64
+fn compare_pairs(f: Form, grid: &[u8], run: Run, j: usize, ports: u8, places: usize) -> u64
     requires { ⌜ RunIn ports places j run (now grid) ⌝ }
     ensures { λ r. ⌜ RunSeen ports places j run f (now (grid .entry)) r ⌝ }
 {
@@ -224,7 +224,7 @@ fn between(f: Form, grid: &[u8], first: usize, lead: usize, each: usize, total: 
 }
 
 // A run on one port.
-fn see_single(f: Form, grid: &[u8], run: Run, j: usize, places: usize) -> u64
+fn compare_single(f: Form, grid: &[u8], run: Run, j: usize, places: usize) -> u64
     requires { ⌜ RunOpen 1 places j run (now grid) ⌝ }
     ensures { λ r. ⌜ RunSeen 1 places j run f (now (grid .entry)) r ⌝ }
 {
@@ -238,14 +238,14 @@ fn see_single(f: Form, grid: &[u8], run: Run, j: usize, places: usize) -> u64
 }
 
 // A run of half blocks, from the channel's index j on.
-fn see_run(f: Form, grid: &[u8], run: Run, j: usize, ports: u8, places: usize) -> u64
+fn compare_run(f: Form, grid: &[u8], run: Run, j: usize, ports: u8, places: usize) -> u64
     requires { ⌜ RunOpen ports places j run (now grid) ⌝ }
     ensures { λ r. ⌜ RunSeen ports places j run f (now (grid .entry)) r ⌝ }
 {
     if ports == 1 {
-        return see_single(f, grid, run, j, places);
+        return compare_single(f, grid, run, j, places);
     }
-    see_pairs(f, grid, run, j, ports, places)
+    compare_pairs(f, grid, run, j, ports, places)
 }
 
 // How many places a run has.
@@ -264,7 +264,7 @@ struct Sum {
 }
 
 // All runs of an area, by its tables.
-fn see_runs(f: Form, grid: &[u8], a: Area, rows: &[u8; 45], spans: &[u8; 512]) -> Sum
+fn compare_runs(f: Form, grid: &[u8], a: Area, rows: &[u8; 45], spans: &[u8; 512]) -> Sum
     requires { ⌜ AreaRuns a (now rows) (now spans) (now grid) ⌝ }
     ensures { λ r. ⌜ Through a f (now (grid .entry)) (r .j) (r .bad) ⌝ }
 {
@@ -276,7 +276,7 @@ fn see_runs(f: Form, grid: &[u8], a: Area, rows: &[u8; 45], spans: &[u8; 512]) -
     let mut bad: u64 = 0;
     while c.s < symbols {
         let run = walk::run_at(c, carriers, rows, spans);
-        bad = bad | see_run(f, grid, run, j, a.cell.ports, places);
+        bad = bad | compare_run(f, grid, run, j, a.cell.ports, places);
         j += places_of(run);
         c = walk::next(c, rows);
     }
@@ -301,7 +301,7 @@ pub fn compare_area(a: Area, q: u32, unit: u8, masks: &[u8; 14], grid: &[u8]) ->
     let mut spans: [u8; 512] = [0; 512];
     areas::set_tables(a, masks, &mut rows, &mut spans);
     let f = form_of(q, precoding::unit_on(a.cell.ports, unit));
-    let w = see_runs(f, grid, a, &rows, &spans);
+    let w = compare_runs(f, grid, a, &rows, &spans);
     if w.bad == 0 {
         return Seen::Weight(weight_of(a.cell.ports, w.j));
     }

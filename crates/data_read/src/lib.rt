@@ -24,7 +24,7 @@ ghost use Rattle.data_read.specs.Runs.{bothOf, Table, Reading, ReadOn, p
 ghost use Rattle.data_read.specs.Areas.{symbolElement, RunsIn};
 
 // The bits of two symbols, whose elements are one number.
-fn both(d: &[u8; 32], q: u64, v: u64) -> u64
+fn two_symbols(d: &[u8; 32], q: u64, v: u64) -> u64
     requires { ⌜ Table q (now d) ⌝ }
     ensures { λ w. ⌜ (w ≡ bothOf q (now (d .entry)) v) × (w < 2 ^ (2 * q)) ⌝ }
 {
@@ -36,7 +36,7 @@ fn four(d: &[u8; 32], q: u64, x: u64, y: u64) -> u64
     requires { ⌜ Table q (now d) ⌝ }
     ensures { λ w. ⌜ (w ≡ bothOf q (now (d .entry)) x * 2 ^ (2 * q) + bothOf q (now (d .entry)) y) × (w < 2 ^ (4 * q)) ⌝ }
 {
-    (both(d, q, x) << (2 * q)) + both(d, q, y)
+    (two_symbols(d, q, x) << (2 * q)) + two_symbols(d, q, y)
 }
 
 // Twice n pairs of places side by side: pair i at `start` + `step` × i.
@@ -118,7 +118,7 @@ fn pair(
 {
     let p = port_offsets(ports, places, j);
     let x = six_at(grid, 3 * (p.own + start));
-    give(st, 2 * q, both(d, q, x), part);
+    give(st, 2 * q, two_symbols(d, q, x), part);
 }
 
 // Half blocks with all six places open: where their number is odd, one pair is left after those read two by two.
@@ -233,7 +233,7 @@ fn doubles(
     let mut i: usize = 0;
     while i < n {
         let x = six_at(grid, at);
-        give(st, 2 * q, both(d, q, x), part);
+        give(st, 2 * q, two_symbols(d, q, x), part);
         at += 6;
         i += 1;
     }

@@ -52,7 +52,7 @@ fn call(number: usize, plan: &[u8], grid: &[u8], out: &mut [u8]) {
     print::space();
     answer(r);
     print::space();
-    records::show(records::added(records::begun(), out));
+    records::show(records::added(records::empty(), out));
     print::line();
 }
 
@@ -191,7 +191,7 @@ fn sweep(plan: &[u8], grid: &mut [u8], again: &mut [u8], out: &mut [u8]) -> Tall
         refused: 0,
         read: 0,
         built: 0,
-        digest: records::begun(),
+        digest: records::empty(),
     };
     let n = grid.len();
     let mut i: usize = 0;

@@ -9,7 +9,7 @@ pub struct Digest {
     pub b: u64,
 }
 
-pub fn begun() -> Digest {
+pub fn empty() -> Digest {
     Digest { a: 1, b: 7 }
 }
 

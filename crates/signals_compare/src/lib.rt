@@ -80,7 +80,7 @@ fn compare_phases(identity: u16, first: usize, grid: &[u8]) -> Seen
     let mut i: usize = 0;
     while i < 62 {
         let el = signals::phase_element(identity, i);
-        seen = compare::both(seen, compare::look(grid, first + i, el));
+        seen = compare::together(seen, compare::compare_at(grid, first + i, el));
         i += 1;
     }
     seen
@@ -95,7 +95,7 @@ fn compare_levels(d: Sss, first: usize, grid: &[u8]) -> Seen
     let mut i: usize = 0;
     while i < 62 {
         let el = signals::level_element(d, i);
-        seen = compare::both(seen, compare::look(grid, first + i, el));
+        seen = compare::together(seen, compare::compare_at(grid, first + i, el));
         i += 1;
     }
     seen

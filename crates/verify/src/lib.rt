@@ -1,7 +1,7 @@
 // Whether some accepted payload makes a grid, found in place: every channel's elements are compared with what the payload read from
 // them would give, and the bytes that are not 0 are counted: by their number every other element is silent (document 01, refusal 13).
 use compare::Seen;
-use compare::both;
+use compare::together;
 use gold::Registers;
 use layout::Mark;
 use plan::Plan;
@@ -82,7 +82,7 @@ fn compare_all(plan: &[u8], p: Plan, grid: &[u8]) -> Seen
     while turn.number < turns {
         let ch = schedule::channel_at(plan, p, turn);
         if schedule::present(p, ch) {
-            seen = both(seen, compare_channel(p, ch, control, &sums, &masks, grid));
+            seen = together(seen, compare_channel(p, ch, control, &sums, &masks, grid));
         }
         turn = schedule::next(plan, p, shape, turn, ch);
     }

@@ -15,8 +15,8 @@ mul-quad-place c = search needs
 quad-place-requires : tie.Need-quad-place-requires
 quad-place-requires c κs = search needs
 
-look-place-requires : tie.Need-look-place-requires
-look-place-requires c κs =
+compare-place-requires : tie.Need-compare-place-requires
+compare-place-requires c κs =
     let at-places = c .before .before in let entry = at-places .before .before in
     first-ok (entry .pre .0) (entry .pre .1) (at-places .places .ensures) (c .quad-place .ensures)
 
@@ -29,22 +29,22 @@ add-quad-place c = search needs
 quad-place-requires-2 : tie.Need-quad-place-requires-2
 quad-place-requires-2 c κs = search needs
 
-look-place-requires-2 : tie.Need-look-place-requires-2
-look-place-requires-2 c κs =
+compare-place-requires-2 : tie.Need-compare-place-requires-2
+compare-place-requires-2 c κs =
     let at-places = c .before .before .before .before .before in let entry = at-places .before .before in
     second-ok (entry .pre .0) (entry .pre .1) (at-places .places .ensures) (c .quad-place2 .ensures)
 
-both-requires : tie.Need-both-requires
-both-requires c κs =
-    let at-look-place = c .before .before .before in let entry = at-look-place .before .before .before .before .before in
-    both-few (widest (entry .pre .1)) (at-look-place .look-place .ensures) (c .look-place2 .ensures)
+together-requires : tie.Need-together-requires
+together-requires c κs =
+    let at-compare-place = c .before .before .before in let entry = at-compare-place .before .before .before .before .before in
+    both-few (widest (entry .pre .1)) (at-compare-place .compare-place .ensures) (c .compare-place2 .ensures)
 
 returns : tie.Need-returns
 returns c =
-    let at-quad-place2 = c .before .before in let at-look-place = at-quad-place2 .before .before in let at-quad-place = at-look-place .before in
+    let at-quad-place2 = c .before .before in let at-compare-place = at-quad-place2 .before .before in let at-quad-place = at-compare-place .before in
     let at-places = at-quad-place .before .before in let entry = at-places .before .before in
     pair-done (entry .pre .0) (comparing (entry .args .grid .now)) (at-places .places .ensures) (at-quad-place .quad-place .ensures)
-    (at-quad-place2 .quad-place2 .ensures) (at-look-place .look-place .ensures) (also (c .before .look-place2 .ensures) (c .both .ensures))
+    (at-quad-place2 .quad-place2 .ensures) (at-compare-place .compare-place .ensures) (also (c .before .compare-place2 .ensures) (c .together .ensures))
 
 pub compare-pair-spec : {M : Type 1} → statement M
 compare-pair-spec =
@@ -53,10 +53,10 @@ compare-pair-spec =
     places-requires
     mul-quad-place
     quad-place-requires
-    look-place-requires
+    compare-place-requires
     mul-quad-place-2
     add-quad-place
     quad-place-requires-2
-    look-place-requires-2
-    both-requires
+    compare-place-requires-2
+    together-requires
     returns)

@@ -26,8 +26,8 @@ compare-pair-requires c κs =
     let entry = c .before .before .before .before in
     (c .pcfich-pair .ensures .1, entry .pre .room)
 
-both-requires : tie.Need-both-requires Inv-loop μ-loop
-both-requires c κs =
+together-requires : tie.Need-together-requires Inv-loop μ-loop
+together-requires c κs =
     let at-loop = c .before .before .before in let entry = at-loop .before .before in
     both-few (widest (entry .pre .room)) (at-loop .loop .inv .done) (c .compare-pair .ensures)
 
@@ -45,7 +45,7 @@ loop-again c =
     let at-compare-pair = c .before .before in let at-pcfich-pair = at-compare-pair .before in let at-loop-test = at-pcfich-pair .before in
     let at-loop = at-loop-test .before in let entry = at-loop .before .before in
     pcfich-next (comparing (entry .args .grid .now)) (entry .pre .cell) (entry .args .cfi) (entry .args .r) (at-loop .loop .inv)
-    (at-loop-test .loop-test .taken) (at-pcfich-pair .pcfich-pair .ensures) (also (at-compare-pair .compare-pair .ensures) (c .before .both .ensures))
+    (at-loop-test .loop-test .taken) (at-pcfich-pair .pcfich-pair .ensures) (also (at-compare-pair .compare-pair .ensures) (c .before .together .ensures))
     (c .advance .ensures)
 
 returns : tie.Need-returns Inv-loop μ-loop
@@ -62,7 +62,7 @@ compare-pcfich-spec =
     loop-holds
     pcfich-pair-requires
     compare-pair-requires
-    both-requires
+    together-requires
     advance-requires
     add-n
     loop-less

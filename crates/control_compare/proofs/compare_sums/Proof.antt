@@ -34,8 +34,8 @@ compare-pair-requires c κs =
     let at-loop-test = c .before .before in let at-loop = at-loop-test .before in let entry = at-loop .before .before in
     (pair-asked (entry .pre .0) (at-loop-test .loop-test .taken) (2 * at-loop .loop .n) (c .before .unit-group .ensures) (omega arith) (c .unit-pair .ensures), entry .pre .1)
 
-both-requires : tie.Need-both-requires Inv-loop μ-loop
-both-requires c κs =
+together-requires : tie.Need-together-requires Inv-loop μ-loop
+together-requires c κs =
     let at-loop = c .before .before .before .before in let entry = at-loop .before .before in
     both-few (widest (entry .pre .1)) (at-loop .loop .inv .done) (c .compare-pair .ensures)
 
@@ -56,14 +56,14 @@ compare-pair-requires-2 c κs =
     let entry = at-loop .before .before in
     (pair-asked (entry .pre .0) (at-loop-test .loop-test .taken) (2 * at-loop .loop .n + 1) (at-unit-group .unit-group .ensures) (omega arith) (c .unit-pair2 .ensures), entry .pre .1)
 
-both-requires-2 : tie.Need-both-requires-2 Inv-loop μ-loop
-both-requires-2 c κs =
-    let at-both = c .before .before in let at-compare-pair = at-both .before in let at-unit-pair = at-compare-pair .before in
+together-requires-2 : tie.Need-together-requires-2 Inv-loop μ-loop
+together-requires-2 c κs =
+    let at-together = c .before .before in let at-compare-pair = at-together .before in let at-unit-pair = at-compare-pair .before in
     let at-unit-group = at-unit-pair .before in let at-loop-test = at-unit-group .before in let at-loop = at-loop-test .before in
     let entry = at-loop .before .before in
     both-few (widest (entry .pre .1)) (half-next (comparing (entry .args .grid .now)) (entry .pre .0) (at-loop-test .loop-test .taken)
     (at-unit-group .unit-group .ensures) (at-loop .loop .inv) (at-unit-pair .unit-pair .ensures)
-    (also (at-compare-pair .compare-pair .ensures) (at-both .both .ensures)) .done) (c .compare-pair2 .ensures)
+    (also (at-compare-pair .compare-pair .ensures) (at-together .together .ensures)) .done) (c .compare-pair2 .ensures)
 
 add-n : tie.Need-add-n Inv-loop μ-loop
 add-n c = omega arith
@@ -73,12 +73,12 @@ loop-less c = omega arith
 
 loop-again : tie.Need-loop-again Inv-loop μ-loop
 loop-again c =
-    let at-unit-pair2 = c .before .before in let at-both = at-unit-pair2 .before in let at-compare-pair = at-both .before in
+    let at-unit-pair2 = c .before .before in let at-together = at-unit-pair2 .before in let at-compare-pair = at-together .before in
     let at-unit-pair = at-compare-pair .before in let at-unit-group = at-unit-pair .before in let at-loop-test = at-unit-group .before in
     let at-loop = at-loop-test .before in let entry = at-loop .before .before in
     quad-next (comparing (entry .args .grid .now)) (entry .pre .0) (at-loop-test .loop-test .taken) (at-unit-group .unit-group .ensures) (at-loop .loop .inv)
-    (at-unit-pair .unit-pair .ensures) (also (at-compare-pair .compare-pair .ensures) (at-both .both .ensures)) (at-unit-pair2 .unit-pair2 .ensures)
-    (also (c .before .compare-pair2 .ensures) (c .both2 .ensures))
+    (at-unit-pair .unit-pair .ensures) (also (at-compare-pair .compare-pair .ensures) (at-together .together .ensures)) (at-unit-pair2 .unit-pair2 .ensures)
+    (also (c .before .compare-pair2 .ensures) (c .together2 .ensures))
 
 returns : tie.Need-returns Inv-loop μ-loop
 returns c =
@@ -96,12 +96,12 @@ compare-sums-spec =
     mul-unit-pair
     unit-pair-requires
     compare-pair-requires
-    both-requires
+    together-requires
     mul-unit-pair-2
     add-unit-pair
     unit-pair-requires-2
     compare-pair-requires-2
-    both-requires-2
+    together-requires-2
     add-n
     loop-less
     loop-again

@@ -26,8 +26,8 @@ six-at-requires c κs = omega arith
 mul-give : tie.Need-mul-give Inv-loop μ-loop
 mul-give c = omega (arith, c .before .before .before .before .before .before .pre .1 .table .order)
 
-both-requires : tie.Need-both-requires Inv-loop μ-loop
-both-requires c κs = c .before .before .before .before .before .before .pre .1 .table
+two-symbols-requires : tie.Need-two-symbols-requires Inv-loop μ-loop
+two-symbols-requires c κs = c .before .before .before .before .before .before .pre .1 .table
 
 give-requires : tie.Need-give-requires Inv-loop μ-loop
 give-requires c κs =
@@ -35,7 +35,7 @@ give-requires c κs =
     let b = a .before .before .before in
     let d = b .before in
     let e = d .before .before .before in
-    double-gives (e .args .start) (e .args .n) (e .pre .1) (d .loop .inv .2) (d .loop .inv .0) (b .loop-test .taken) (a .both .ensures .1)
+    double-gives (e .args .start) (e .args .n) (e .pre .1) (d .loop .inv .2) (d .loop .inv .0) (b .loop-test .taken) (a .two-symbols .ensures .1)
 
 add-at : tie.Need-add-at Inv-loop μ-loop
 add-at c = omega arith
@@ -56,7 +56,7 @@ loop-again c =
     let g = f .before .before .before in (
       omega (arith, f .loop .inv .0),
       omega arith,
-      double-on (g .args .start) (g .args .n) (g .pre .1) (f .loop .inv .2) (f .loop .inv .0) (e .loop-test .taken) (d .six-at .ensures) (b .both .ensures .0) (a .give .ensures),
+      double-on (g .args .start) (g .args .n) (g .pre .1) (f .loop .inv .2) (f .loop .inv .0) (e .loop-test .taken) (d .six-at .ensures) (b .two-symbols .ensures .0) (a .give .ensures),
     )
 
 same-length : tie.Need-same-length Inv-loop μ-loop
@@ -67,5 +67,5 @@ returns c = all-read (omega (arith, c .before .loop .inv .1)) (omega (arith, c .
 
 pub doubles-spec : {M : Type 1} → statement M
 doubles-spec =
-    tie.close (tie.spec Inv-loop μ-loop mul-at loop-holds six-at-requires mul-give both-requires give-requires add-at add-i loop-less loop-again
+    tie.close (tie.spec Inv-loop μ-loop mul-at loop-holds six-at-requires mul-give two-symbols-requires give-requires add-at add-i loop-less loop-again
     same-length returns)

@@ -21,15 +21,15 @@ six-at-requires c κs = omega (arith, one-fits (c .before .before .before .befor
 mul-give : tie.Need-mul-give
 mul-give c = omega (arith, c .before .before .before .before .before .before .pre .1 .table .order)
 
-both-requires : tie.Need-both-requires
-both-requires c κs = c .before .before .before .before .before .before .pre .1 .table
+two-symbols-requires : tie.Need-two-symbols-requires
+two-symbols-requires c κs = c .before .before .before .before .before .before .pre .1 .table
 
 give-requires : tie.Need-give-requires
 give-requires c κs =
     let a = c .before in
     let b = a .before .before .before .before in
     let d = b .before .before .before in
-    one-gives (d .pre .0) (d .pre .1) (b .port-offsets .ensures) (a .both .ensures .1)
+    one-gives (d .pre .0) (d .pre .1) (b .port-offsets .ensures) (a .two-symbols .ensures .1)
 
 same-length : tie.Need-same-length
 same-length c = search needs
@@ -41,8 +41,8 @@ returns c =
     let d = b .before .before in
     let e = d .before .before in
     let f = e .before .before .before in
-    one-on (f .pre .0) (f .pre .1) (e .port-offsets .ensures) (d .six-at .ensures) (b .both .ensures .0) (a .give .ensures)
+    one-on (f .pre .0) (f .pre .1) (e .port-offsets .ensures) (d .six-at .ensures) (b .two-symbols .ensures .0) (a .give .ensures)
 
 pub pair-spec : {M : Type 1} → statement M
 pair-spec =
-    tie.close (tie.spec port-offsets-requires add-six-at mul-six-at six-at-requires mul-give both-requires give-requires same-length returns)
+    tie.close (tie.spec port-offsets-requires add-six-at mul-six-at six-at-requires mul-give two-symbols-requires give-requires same-length returns)

@@ -12,8 +12,8 @@ Inv-loop plan grid₀ again₀ out₀ t₀ n i₀ grid again out t i = (length g
 abbrev μ-loop : tie.MeasureT-loop
 μ-loop plan grid₀ again₀ out₀ t₀ n i₀ grid again out t i = n - i
 
-begun-requires : tie.Need-begun-requires Inv-loop μ-loop
-begun-requires c κs = search needs
+empty-requires : tie.Need-empty-requires Inv-loop μ-loop
+empty-requires c κs = search needs
 
 loop-holds : tie.Need-loop-holds Inv-loop μ-loop
 loop-holds c = search needs
@@ -48,7 +48,7 @@ sweep-spec =
     (tie.spec
     Inv-loop
     μ-loop
-    begun-requires
+    empty-requires
     loop-holds
     changes-of-requires
     add-i

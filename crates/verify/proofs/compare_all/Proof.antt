@@ -56,8 +56,8 @@ compare-channel-requires c κs =
     let at-loop = at-test .before .before in
     (_, planned (at-loop .loop .inv) (at-test .if1 .taken) (at-channel .channel-at .ensures) (sym (at-present .present .ensures) ∙ at-if2 .if2 .taken), at-loop .loop .inv .shared)
 
-both-requires : tie.Need-both-requires Inv-loop μ-loop
-both-requires c κs =
+together-requires : tie.Need-together-requires Inv-loop μ-loop
+together-requires c κs =
     let at-if2 = c .before .before .before in let at-present = at-if2 .before in let at-channel = at-present .before in let at-test = at-channel .before in
     let at-loop = at-test .before .before in
     few-both (at-loop .loop .inv) (at-test .if1 .taken) (at-channel .channel-at .ensures) (sym (at-present .present .ensures) ∙ at-if2 .if2 .taken) _ (c .compare-channel .ensures)
@@ -96,7 +96,7 @@ compare-all-spec =
     channel-at-requires
     present-requires
     compare-channel-requires
-    both-requires
+    together-requires
     next-requires
     loop-less
     loop-again

@@ -1,11 +1,11 @@
--- `data_read::both` meets its contract. Assumes nothing.
+-- `data_read::two_symbols` meets its contract. Assumes nothing.
 use native.Mathlib.Omega.{arith}
 use mathlib.Core.Path.{refl}
 use Rattle.element_pairs.specs.Numbers.{upper}
 use Rattle.data_read.proofs.Words.{word-few, joined}
 use borrow.Author.Needs.{needs}
-use Rattle.data_read.proofs.both.Statement.{statement}
-use Rattle.data_read.proofs.both.Tie as tie
+use Rattle.data_read.proofs.two-symbols.Statement.{statement}
+use Rattle.data_read.proofs.two-symbols.Tie as tie
 
 symbol-of-requires : tie.Need-symbol-of-requires
 symbol-of-requires c κs = search needs
@@ -32,6 +32,6 @@ returns c =
     (word-few (b .pre) (b .args .v)) (word-few (b .pre) (upper (b .args .v))) in
     (l .0, l .1)
 
-pub both-spec : {M : Type 1} → statement M
-both-spec =
+pub two-symbols-spec : {M : Type 1} → statement M
+two-symbols-spec =
     tie.close (tie.spec symbol-of-requires shl-result symbol-of-requires-2 add-result returns)

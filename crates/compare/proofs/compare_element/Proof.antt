@@ -1,10 +1,10 @@
--- `compare::beside` meets its contract: byte after byte. Assumes nothing.
+-- `compare::compare_element` meets its contract: byte after byte. Assumes nothing.
 use native.Mathlib.Omega.{arith}
 use mathlib.Core.Logic.{⊎-elim}
 use borrow.Author.Tests.{eqb-true, eqb-false}
 use Rattle.compare.proofs.Answers.{mark-few, all-same, other-unit, other-i, other-j}
-use Rattle.compare.proofs.beside.Statement.{statement}
-use Rattle.compare.proofs.beside.Tie as tie
+use Rattle.compare.proofs.compare-element.Statement.{statement}
+use Rattle.compare.proofs.compare-element.Tie as tie
 
 nonzero-of-requires : tie.Need-nonzero-of-requires
 nonzero-of-requires c κs = tt
@@ -33,8 +33,8 @@ returns-2 c =
     ⊎-elim (λ x. other-j (c3 .args .a) (c3 .args .b) (x .0 .taken) (eqb-true _ _ (x .3 .taken)) (eqb-false _ _ (x .6 .left)))
     (⊎-elim (λ x. other-i (c3 .args .a) (c3 .args .b) (x .0 .taken) (eqb-false _ _ (x .3 .left))) (λ x. other-unit (c3 .args .a) (c3 .args .b) (x .left))) (c .if1 .came)
 
-pub beside-spec : {M : Type 1} → statement M
-beside-spec =
+pub compare-element-spec : {M : Type 1} → statement M
+compare-element-spec =
     tie.close
     (tie.spec
     nonzero-of-requires

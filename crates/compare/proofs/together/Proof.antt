@@ -1,9 +1,9 @@
--- `compare::both` meets its contract: by the answers' cases. Assumes nothing.
+-- `compare::together` meets its contract: by the answers' cases. Assumes nothing.
 use native.Mathlib.Omega.{arith}
 use Rattle.compare.proofs.Answers.{both-few, both-weights}
 use borrow.Author.Needs.{needs}
-use Rattle.compare.proofs.both.Statement.{statement}
-use Rattle.compare.proofs.both.Tie as tie
+use Rattle.compare.proofs.together.Statement.{statement}
+use Rattle.compare.proofs.together.Tie as tie
 
 enum-known-a : tie.Need-enum-known-a
 enum-known-a c = search needs
@@ -31,7 +31,7 @@ returns-2 c = search needs
 returns-3 : tie.Need-returns-3
 returns-3 c = search needs
 
-pub both-spec : {M : Type 1} → statement M
-both-spec =
+pub together-spec : {M : Type 1} → statement M
+together-spec =
     tie.close
     (tie.spec enum-known-a enum-known-b add-t7 enum-told enum-told-2 returns returns-2 returns-3)

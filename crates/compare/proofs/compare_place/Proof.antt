@@ -1,11 +1,11 @@
--- `compare::look_place` meets its contract: the own port, and with more ports the other one. Assumes nothing.
+-- `compare::compare_place` meets its contract: the own port, and with more ports the other one. Assumes nothing.
 use native.Mathlib.Omega.{arith}
 use mathlib.Core.Path.{_∙_}
 use Rattle.grid.proofs.Sending.{own-fits, other-fits}
 use Rattle.compare.proofs.Comparing.{few}
 use Rattle.compare.proofs.Sending.{own-looked, other-looked, one-look, two-looks}
-use Rattle.compare.proofs.look_place.Statement.{statement}
-use Rattle.compare.proofs.look_place.Tie as tie
+use Rattle.compare.proofs.compare_place.Statement.{statement}
+use Rattle.compare.proofs.compare_place.Tie as tie
 
 unit-on-requires : tie.Need-unit-on-requires
 unit-on-requires c κs = c .before .pre .3
@@ -29,8 +29,8 @@ add-own c =
 element-of-requires : tie.Need-element-of-requires
 element-of-requires c κs = tt
 
-look-requires : tie.Need-look-requires
-look-requires c κs =
+compare-at-requires : tie.Need-compare-at-requires
+compare-at-requires c κs =
     let c2 = c .before .before in let c5 = c2 .before .before .before in
     own-fits (c5 .pre .0) (c5 .args .turn) _ (c5 .args .t) (c .before .wide .ensures ∙ c2 .own-port .ensures) (c5 .pre .1) .2
 
@@ -38,7 +38,7 @@ returns : tie.Need-returns
 returns c =
     let c2 = c .before .before in let c3 = c2 .before in let c4 = c3 .before in let c5 = c4 .before in let c7 = c5 .before .before in
     one-look (c7 .pre .0) (c7 .args .turn) (c7 .args .unit) (c7 .args .odd) (c7 .args .t) (c7 .args .d) (c7 .args .e) (c7 .pre .1) (c5 .unit-on .ensures) (c .if1 .taken)
-    (c2 .element-of .ensures) (own-looked (c7 .pre .0) (c7 .args .turn) (c7 .args .t) (c7 .pre .1) (c3 .wide .ensures ∙ c4 .own-port .ensures) (c .before .look .ensures))
+    (c2 .element-of .ensures) (own-looked (c7 .pre .0) (c7 .args .turn) (c7 .args .t) (c7 .pre .1) (c3 .wide .ensures ∙ c4 .own-port .ensures) (c .before .compare-at .ensures))
 
 other-port-requires : tie.Need-other-port-requires
 other-port-requires c κs = tt
@@ -62,17 +62,17 @@ partner-requires c κs = c .before .before .before .before .before .before .befo
 element-of-requires-2 : tie.Need-element-of-requires-2
 element-of-requires-2 c κs = tt
 
-look-requires-2 : tie.Need-look-requires-2
-look-requires-2 c κs =
+compare-at-requires-2 : tie.Need-compare-at-requires-2
+compare-at-requires-2 c κs =
     let c2 = c .before .before in let c3 = c2 .before in let c11 = c3 .before .before .before .before .before .before .before .before in
     other-fits (c11 .pre .0) (c11 .args .turn) _ (c11 .args .t) (c2 .wide2 .ensures ∙ c3 .other-port .ensures) (c11 .pre .1) .2
 
-both-requires : tie.Need-both-requires
-both-requires c κs =
+together-requires : tie.Need-together-requires
+together-requires c κs =
     let c3 = c .before .before .before in let c4 = c3 .before in let c6 = c4 .before .before in let c8 = c6 .before .before in let c9 = c8 .before in
     let c12 = c9 .before .before .before in (
-      few (c12 .pre .0) (own-looked (c12 .pre .0) (c12 .args .turn) (c12 .args .t) (c12 .pre .1) (c8 .wide .ensures ∙ c9 .own-port .ensures) (c6 .look .ensures)),
-      few (c12 .pre .0) (other-looked (c12 .pre .0) (c12 .args .turn) (c12 .args .t) (c12 .pre .1) (c3 .wide2 .ensures ∙ c4 .other-port .ensures) (c .look2 .ensures)),
+      few (c12 .pre .0) (own-looked (c12 .pre .0) (c12 .args .turn) (c12 .args .t) (c12 .pre .1) (c8 .wide .ensures ∙ c9 .own-port .ensures) (c6 .compare-at .ensures)),
+      few (c12 .pre .0) (other-looked (c12 .pre .0) (c12 .args .turn) (c12 .args .t) (c12 .pre .1) (c3 .wide2 .ensures ∙ c4 .other-port .ensures) (c .compare-at2 .ensures)),
     )
 
 returns-2 : tie.Need-returns-2
@@ -81,11 +81,11 @@ returns-2 c =
     let c9 = c8 .before in let c10 = c9 .before in let c11 = c10 .before in let c13 = c11 .before .before in
     two-looks (c13 .pre .0) (c13 .args .turn) (c13 .args .unit) (c13 .args .odd) (c13 .args .t) (c13 .args .d) (c13 .args .e) (c13 .pre .1) (c11 .unit-on .ensures) (c6 .if1 .left)
     (c3 .partner .ensures) (c8 .element-of .ensures) (c2 .element-of2 .ensures)
-    (own-looked (c13 .pre .0) (c13 .args .turn) (c13 .args .t) (c13 .pre .1) (c9 .wide .ensures ∙ c10 .own-port .ensures) (c7 .look .ensures))
-    (other-looked (c13 .pre .0) (c13 .args .turn) (c13 .args .t) (c13 .pre .1) (c4 .wide2 .ensures ∙ c5 .other-port .ensures) (c .before .look2 .ensures)) (c .both .ensures)
+    (own-looked (c13 .pre .0) (c13 .args .turn) (c13 .args .t) (c13 .pre .1) (c9 .wide .ensures ∙ c10 .own-port .ensures) (c7 .compare-at .ensures))
+    (other-looked (c13 .pre .0) (c13 .args .turn) (c13 .args .t) (c13 .pre .1) (c4 .wide2 .ensures ∙ c5 .other-port .ensures) (c .before .compare-at2 .ensures)) (c .together .ensures)
 
-pub look-place-spec : {M : Type 1} → statement M
-look-place-spec =
+pub compare-place-spec : {M : Type 1} → statement M
+compare-place-spec =
     tie.close
     (tie.spec
     unit-on-requires
@@ -94,7 +94,7 @@ look-place-spec =
     mul-own
     add-own
     element-of-requires
-    look-requires
+    compare-at-requires
     returns
     other-port-requires
     wide-requires-2
@@ -102,6 +102,6 @@ look-place-spec =
     add-other
     partner-requires
     element-of-requires-2
-    look-requires-2
-    both-requires
+    compare-at-requires-2
+    together-requires
     returns-2)

@@ -1,10 +1,10 @@
--- `data_compare::see_pairs` meets its contract: the pairs of each form. Assumes nothing.
+-- `data_compare::compare_pairs` meets its contract: the pairs of each form. Assumes nothing.
 use native.Mathlib.Omega.{arith}
 use Rattle.walk.proofs.Addresses.{six-run, left-run, right-run, apart-run, run-in, run-small}
 use Rattle.walk.proofs.Forms.{form-last}
 use Rattle.data_compare.proofs.Pairs.{run-seen}
-use Rattle.data_compare.proofs.see_pairs.Statement.{statement}
-use Rattle.data_compare.proofs.see_pairs.Tie as tie
+use Rattle.data_compare.proofs.compare_pairs.Statement.{statement}
+use Rattle.data_compare.proofs.compare_pairs.Tie as tie
 
 mul-sides : tie.Need-mul-sides
 mul-sides c = omega (arith, run-small (c .before .before .pre))
@@ -49,5 +49,5 @@ returns-4 c =
     let a = c .before .before in let b = a .before in let d = b .before .before in
     run-seen (d .pre) (apart-run (d .args .run) (form-last (d .pre .form) (b .if1 .left) (a .if2 .left) (c .before .if3 .left))) (c .aparts .ensures)
 
-pub see-pairs-spec : {M : Type 1} → statement M
-see-pairs-spec = tie.close (tie.spec mul-sides sides-requires returns mul-sides-2 sides-requires-2 returns-2 add-sides mul-sides-3 sides-requires-3 returns-3 mul-aparts aparts-requires returns-4)
+pub compare-pairs-spec : {M : Type 1} → statement M
+compare-pairs-spec = tie.close (tie.spec mul-sides sides-requires returns mul-sides-2 sides-requires-2 returns-2 add-sides mul-sides-3 sides-requires-3 returns-3 mul-aparts aparts-requires returns-4)

@@ -1,9 +1,9 @@
--- `data_compare::see_single` meets its contract. Assumes nothing.
+-- `data_compare::compare_single` meets its contract. Assumes nothing.
 use native.Mathlib.Omega.{arith}
 use Rattle.walk.proofs.Singles.{holes-total, holed-at, holes-in, six-at, six-total, doubles-in}
 use Rattle.data_compare.proofs.OnePort.{one-seen}
-use Rattle.data_compare.proofs.see_single.Statement.{statement}
-use Rattle.data_compare.proofs.see_single.Tie as tie
+use Rattle.data_compare.proofs.compare_single.Statement.{statement}
+use Rattle.data_compare.proofs.compare_single.Tie as tie
 
 holes-of-requires : tie.Need-holes-of-requires
 holes-of-requires c κs = c .before .pre .single
@@ -31,5 +31,5 @@ returns-2 c =
     let a = c .before .before .before .before in let b = a .before .before in
     one-seen (holes-total (b .args .run) (a .holes-of .ensures) (b .pre .short) .0) (holed-at (b .pre) (a .holes-of .ensures) (c .before .before .if1 .left)) (c .between .ensures)
 
-pub see-single-spec : {M : Type 1} → statement M
-see-single-spec = tie.close (tie.spec holes-of-requires mul-doubles doubles-requires returns mul-between between-requires returns-2)
+pub compare-single-spec : {M : Type 1} → statement M
+compare-single-spec = tie.close (tie.spec holes-of-requires mul-doubles doubles-requires returns mul-between between-requires returns-2)

@@ -1,12 +1,12 @@
--- `data_compare::see_runs` meets its contract. Invariant: the runs before the cursor are compared. Assumes nothing.
+-- `data_compare::compare_runs` meets its contract. Invariant: the runs before the cursor are compared. Assumes nothing.
 use mathlib.Core.Path.{refl}
 use native.Mathlib.Omega.{arith}
 use Rattle.walk.proofs.Cursors.{less, measure}
 use Rattle.areas.proofs.Runs.{extent, cursor-in, area-open}
 use Rattle.data_compare.specs.Places.{Going}
 use Rattle.data_compare.proofs.Areas.{area-begins, area-on, area-ends}
-use Rattle.data_compare.proofs.see_runs.Statement.{statement}
-use Rattle.data_compare.proofs.see_runs.Tie as tie
+use Rattle.data_compare.proofs.compare_runs.Statement.{statement}
+use Rattle.data_compare.proofs.compare_runs.Tie as tie
 
 abbrev Inv-loop : tie.InvT-loop
 Inv-loop f grid a rows spans symbols carriers places c₀ j₀ bad₀ c j bad = Going a rows spans f grid c j bad
@@ -40,8 +40,8 @@ run-at-requires c κs =
     let a = c .before .before in let b = a .before .before in let d = b .before in let e = d .before .before in
     cursor-in (e .pre) (d .slot-length .ensures) (b .wide .ensures) (a .loop .inv .cursor) (c .if1 .taken)
 
-see-run-requires : tie.Need-see-run-requires Inv-loop μ-loop
-see-run-requires c κs =
+compare-run-requires : tie.Need-compare-run-requires Inv-loop μ-loop
+compare-run-requires c κs =
     let a = c .before .before .before in let b = a .before .before in let d = b .before in let e = d .before .before in
     area-open (e .pre) (d .slot-length .ensures) (b .wide .ensures) (a .loop .inv .cursor) (c .before .if1 .taken) (c .run-at .ensures .0) (c .run-at .ensures .1)
 
@@ -70,14 +70,14 @@ loop-again : tie.Need-loop-again Inv-loop μ-loop
 loop-again c =
     let a = c .before .before in let b = a .before in let d = b .before in let e = d .before .before in let f = e .before .before in let g = f .before in let h = g .before .before in
     area-on (h .pre) (g .slot-length .ensures) (f .wide .ensures) (e .loop .inv) (d .if1 .taken) (b .run-at .ensures .0) (c .next .ensures .0) (c .before .places-of .ensures)
-    (a .see-run .ensures)
+    (a .compare-run .ensures)
 
 returns : tie.Need-returns Inv-loop μ-loop
 returns c =
     let a = c .before .before in let b = a .before .before in let d = b .before in let e = d .before .before in
     area-ends (e .pre) (d .slot-length .ensures) (b .wide .ensures) (a .loop .inv) (c .if1 .left)
 
-pub see-runs-spec : {M : Type 1} → statement M
-see-runs-spec =
-    tie.close (tie.spec Inv-loop μ-loop slot-length-requires mul-symbols wide-requires mul-carriers mul-places start-requires loop-holds run-at-requires see-run-requires places-of-requires
+pub compare-runs-spec : {M : Type 1} → statement M
+compare-runs-spec =
+    tie.close (tie.spec Inv-loop μ-loop slot-length-requires mul-symbols wide-requires mul-carriers mul-places start-requires loop-holds run-at-requires compare-run-requires places-of-requires
     add-j next-requires loop-less loop-again returns)
