@@ -24,7 +24,7 @@ use Rattle.layout.specs.Owners.{symbols, carriers, controlSymbols, blocksHave, 
 use Rattle.layout.specs.declared.Owner.the-variants.{Pbch, User as UserOf}
 use Rattle.layout.proofs.Pilot.{slot-length}
 use Rattle.counts.specs.Counts.{countOf}
-use Rattle.places.specs.Places.{symbolAt, carrierAt, placesOf, ownsAt, orderOf, indexBy, indexOf}
+use Rattle.places.specs.Places.{symbolAt, carrierAt, placesOf, ownsAt, placeOrder, indexBy, indexOf}
 use Rattle.places.proofs.Elements.{count-is}
 use Rattle.places.specs.Halves.{openPlace, openOfFour, inPbch, takenHalf, openTo}
 use Rattle.base.proofs.Counts.{cnt-same}
@@ -121,7 +121,7 @@ module _ (w : List ℕ) (p : Plan) (ok : checkOf w ≡ accepted p) where
   pbch-place z t = pbch-at z (symbolAt (p .cell) t) (carrierAt (p .cell) t)
 
   pub pbch-index : p .frame .subframe ≡ 0 → (t : ℕ) → areaIndex (pbchArea (p .cell) (p .frame)) t ≡ indexOf w p Pbch t
-  unfolding areaIndex indexOf indexBy orderOf
+  unfolding areaIndex indexOf indexBy placeOrder
   pbch-index z t = cnt-same (areaAt (pbchArea (p .cell) (p .frame))) (ownsAt w p Pbch) t (λ x l. pbch-place z x)
 
   pub user-place :
@@ -133,7 +133,7 @@ module _ (w : List ℕ) (p : Plan) (ok : checkOf w ≡ accepted p) where
   pub user-index :
       (i : ℕ) → i < length (usersOf w p) → (d : User) (t : ℕ) → t ≤ placesOf (p .cell)
       → areaIndex (userArea (p .cell) (p .frame) (getD (usersOf w p) i d)) t ≡ indexOf w p (UserOf i) t
-  unfolding areaIndex indexOf indexBy orderOf
+  unfolding areaIndex indexOf indexBy placeOrder
   user-index i in-i d t l =
       cnt-same (areaAt (userArea (p .cell) (p .frame) (getD (usersOf w p) i d))) (ownsAt w p (UserOf i)) t (λ x k. user-place i in-i d x (omega arith))
 

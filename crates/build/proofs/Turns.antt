@@ -22,7 +22,7 @@ use Rattle.plan.proofs.Counts.{users-most}
 use Rattle.plan.proofs.Valid.{valid}
 use Rattle.places.specs.Places.{placesOf}
 use Rattle.payload.specs.Sections.{sectionBytes}
-use Rattle.payload.specs.Payload.{pbchBits, gridLength, payloadLength, usersStart}
+use Rattle.payload.specs.Payload.{pbchBitCount, gridLength, payloadLength, usersStart}
 use Rattle.grid.specs.Writing.{Written, Room}
 use Rattle.grid.proofs.Accumulating.{writing}
 use Rattle.grid.proofs.Writing.{none, same, over, whole}
@@ -43,8 +43,8 @@ use Rattle.schedule.proofs.Slices.{heads-room}
 use Rattle.schedule.proofs.Turns.{turn-of, first-in, begins}
 use Rattle.schedule.proofs.Steps.{some-ports, start-few}
 use Rattle.schedule.proofs.Values.{value, sums-of, section-room, bits-of}
-use Rattle.channels.specs.Channels.{LevelsIn, TableFor, ChannelIn}
-use Rattle.channels.proofs.Filling.{order-ok}
+use Rattle.channel_write.specs.Channels.{LevelsIn, TableFor, ChannelIn}
+use Rattle.channel_write.proofs.Filling.{order-ok}
 use Rattle.build.specs.Filling.{Ready, Shared, Having, OrderOr, orderFor, FillIn}
 use Rattle.build.proofs.Answers.{plan-room}
 
@@ -195,7 +195,7 @@ module _ (w : List ℕ) (p : Plan) (payload : List ℕ) (ok : checkOf w ≡ acce
   pub his-ready : {l : ℕ} → l ≡ spreadLength (p .cell) → HisIn l w (p .his .at) (p .his .count)
   his-ready e = his-known w p ok e
 
-  module _ {n from end : ℕ} (en : n ≡ pbchBits (p .cell) (p .frame)) (ef : from ≡ sectionBytes n) (ee : end ≡ usersStart p) where
+  module _ {n from end : ℕ} (en : n ≡ pbchBitCount (p .cell) (p .frame)) (ef : from ≡ sectionBytes n) (ee : end ≡ usersStart p) where
     pub heads-in : (from ≤ end) × (end ≤ length payload)
     heads-in = rw size (heads-room w p ok payload from end (ef ∙ ap sectionBytes en) ee)
 

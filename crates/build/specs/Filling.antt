@@ -16,7 +16,7 @@ use Rattle.data_write.specs.Sent.{TableOf}
 use Rattle.schedule.specs.Schedule.{TurnOf, lentTo, SumsOf}
 use Rattle.schedule.specs.declared.Channel.{Channel}
 use Rattle.schedule.specs.declared.Channel.the-variants.{Crs, Sync, Pbch, Pcfich, Phich, User}
-use Rattle.channels.specs.Channels.{LevelsIn}
+use Rattle.channel_write.specs.Channels.{LevelsIn}
 
 -- an accepted plan, an accepted payload, and a grid of the plan's length
 pub record Ready (w : List ℕ) (p : Plan) (payload grid : List ℕ) : Type 0 where

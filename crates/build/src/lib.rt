@@ -69,7 +69,7 @@ fn fill_turn(
     }
     let order = order_for(ch, have);
     renew(t, have, order, p.cell.ports);
-    channels::write(p, ch, t, masks, sums, bits, grid);
+    channel_write::write(p, ch, t, masks, sums, bits, grid);
     order
 }
 

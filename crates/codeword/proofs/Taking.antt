@@ -17,7 +17,7 @@ use Rattle.modulation.specs.Symbols.{symbolOf}
 use Rattle.codeword.specs.declared.Rest.{Rest}
 use Rattle.codeword.specs.Codewords.{dataSymbol}
 use Rattle.codeword.specs.Streams.{outputs, symbolsOf}
-use Rattle.codeword.specs.Bits48.{scrambledBits, Next48, Ready, Standing, Groups, CanTake, Takes, withRest, TakesRest}
+use Rattle.codeword.specs.Bits48.{scrambledBits, Next48, WordReady, Standing, Groups, CanTake, Takes, withRest, TakesRest}
 use Rattle.codeword.proofs.Streams.{symbol-low}
 use Rattle.codeword.proofs.Laws.{scrambled-lt}
 
@@ -83,7 +83,7 @@ unfolding symbolsOf dataSymbol
 symbol-is bits r q j z h = sym (symbol-low q z) ∙ ap (symbolOf q) h
 
 -- ---- the word and the state
-module _ {bits : List ℕ} {r : Registers} {n word left : ℕ} {st : List ℕ} (y : Ready bits r n st word left) where
+module _ {bits : List ℕ} {r : Registers} {n word left : ℕ} {st : List ℕ} (y : WordReady bits r n st word left) where
   bit : (i : ℕ) → scrambledBits bits r i < 2
   bit = scrambled-lt (bitAt bits) (outputs r)
 
@@ -91,7 +91,7 @@ module _ {bits : List ℕ} {r : Registers} {n word left : ℕ} {st : List ℕ} (
   pub taken-bits : (m : ℕ) → m ≤ left → Holds (scrambledBits bits r) n m (word / 2 ^ (left - m))
   taken-bits m le = first-held (scrambledBits bits r) bit n left word m le (y .held)
 
-  pub ready-less : (m : ℕ) → m ≤ left → Ready bits r (n + m) st word (left - m)
+  pub ready-less : (m : ℕ) → m ≤ left → WordReady bits r (n + m) st word (left - m)
   ready-less m le = record {
     number = y .number;
     due = y .due;
@@ -100,7 +100,7 @@ module _ {bits : List ℕ} {r : Registers} {n word left : ℕ} {st : List ℕ} (
   }
 
   -- 48 more
-  pub ready-more : (v : ℕ) (st′ : List ℕ) → left ≤ 16 → Next48 bits st v st′ → Ready bits r n st′ (word % 2 ^ 16 * 2 ^ 48 + v) (left + 48)
+  pub ready-more : (v : ℕ) (st′ : List ℕ) → left ≤ 16 → Next48 bits st v st′ → WordReady bits r n st′ (word % 2 ^ 16 * 2 ^ 48 + v) (left + 48)
   ready-more v st′ few next =
       let g = next .goes r (y .number) (y .due) in
       record {
@@ -128,7 +128,7 @@ module _ (st : List ℕ) (h : Rest) (size : length st ≡ 8) where
 
 ready-same :
     {bits : List ℕ} {r : Registers} {n word left : ℕ} {st st′ : List ℕ} → length st′ ≡ 8
-    → ((i : ℕ) → (i ≡ 3 → ⊥) → (i ≡ 4 → ⊥) → getD st′ i 0 ≡ getD st i 0) → Ready bits r n st word left → Ready bits r n st′ word left
+    → ((i : ℕ) → (i ≡ 3 → ⊥) → (i ≡ 4 → ⊥) → getD st′ i 0 ≡ getD st i 0) → WordReady bits r n st word left → WordReady bits r n st′ word left
 ready-same size same y =
     let d = y .due in
     record {
@@ -145,12 +145,12 @@ ready-same size same y =
     }
 
 module _ (st : List ℕ) (h : Rest) {bits : List ℕ} {r : Registers} {k : ℕ} where
-  rest-in : Ready bits r k st (h .word) (h .left) → Ready bits r k (withRest st h) (getD (withRest st h) 3 0) (getD (withRest st h) 4 0)
+  rest-in : WordReady bits r k st (h .word) (h .left) → WordReady bits r k (withRest st h) (getD (withRest st h) 3 0) (getD (withRest st h) 4 0)
   rest-in y =
       let size = y .due .size in
       rw (rest-word st h size, rest-left st h size) (ready-same (simp length-set size) (rest-other st h size) y)
 
-  rest-out : {u : ℕ} → Standing u bits r k (withRest st h) → Ready bits r k st (h .word) (h .left)
+  rest-out : {u : ℕ} → Standing u bits r k (withRest st h) → WordReady bits r k st (h .word) (h .left)
   rest-out s =
       let size : length st ≡ 8 = simp length-set at (s .ready .due .size) in
       rw (rest-word st h size, rest-left st h size) at (ready-same {st′ = st} size (λ i a b. sym (rest-other st h size i a b)) (s .ready))
@@ -158,7 +158,7 @@ module _ (st : List ℕ) (h : Rest) {bits : List ℕ} {r : Registers} {k : ℕ} 
 -- n bits out of m
 takes-of :
     {n m w : ℕ} {bits st′ : List ℕ} (st : List ℕ) (h : Rest) → n ≤ m → m ≤ n + 48
-    → ((u : ℕ) (r : Registers) (k : ℕ) → Groups u n → Standing u bits r k (withRest st h) → Ready bits r k st′ w m)
+    → ((u : ℕ) (r : Registers) (k : ℕ) → Groups u n → Standing u bits r k (withRest st h) → WordReady bits r k st′ w m)
     → TakesRest n bits st h st′ (record { word = w; left = m - n })
 takes-of {n} {m} {w} {st′ = st′} st h enough most f =
     let x : Rest = record { word = w; left = m - n } in
@@ -181,7 +181,7 @@ takes-of {n} {m} {w} {st′ = st′} st h enough most f =
 
 -- ---- what the code does
 module _ (st : List ℕ) (h : Rest) {n : ℕ} {bits : List ℕ} (q : CanTake n bits (withRest st h)) where
-  begun : Ready bits (q .pair) (q .taken) st (h .word) (h .left)
+  begun : WordReady bits (q .pair) (q .taken) st (h .word) (h .left)
   begun = rest-out st h (q .standing)
 
   few-held : h .left ≤ 48
@@ -205,9 +205,9 @@ module _ (st : List ℕ) (h : Rest) {n : ℕ} {bits : List ℕ} (q : CanTake n b
       → TakesRest n bits st h mid (record { word = w; left = h .left + 48 - n })
   takes-more {v} {w} {mid} less next ew = takes-of st h (omega (arith, q .step .most)) (omega arith) (λ u r k g s. all u r k g s)
     where
-      all : (u : ℕ) (r : Registers) (k : ℕ) → Groups u n → Standing u bits r k (withRest st h) → Ready bits r k mid w (h .left + 48)
+      all : (u : ℕ) (r : Registers) (k : ℕ) → Groups u n → Standing u bits r k (withRest st h) → WordReady bits r k mid w (h .left + 48)
       all u r k g s =
-          let y : Ready bits r k st (h .word) (h .left) = rest-out st h s in
+          let y : WordReady bits r k st (h .word) (h .left) = rest-out st h s in
           let e : u * s .groups + h .left ≡ 48 * (y .number + 1) = omega (arith, s .whole, y .taken) in
           let b : h .left < u * (g .before + 1) = omega (arith, g .size) in
           let few : h .left ≤ 16 = omega (arith, few-left u (g .words) (s .groups) (y .number) (h .left) (g .before) (g .divides) e b, g .few) in

@@ -44,7 +44,7 @@ pub record Next48 (bits st : List ℕ) (v : ℕ) (st′ : List ℕ) : Type 0 whe
   pub goes : (r : Registers) (k : ℕ) → Due bits r k st → (v ≡ binary (scrambledBits bits r) (48 * (k + 1)) 48) × Due bits r (k + 1) st′
 
 -- ---- n bits were taken, the word's lowest `left` come next, and then those that the state gives
-pub record Ready (bits : List ℕ) (r : Registers) (n : ℕ) (st : List ℕ) (word left : ℕ) : Type 0 where
+pub record WordReady (bits : List ℕ) (r : Registers) (n : ℕ) (st : List ℕ) (word left : ℕ) : Type 0 where
   pub number : ℕ
   pub due : Due bits r number st
   pub taken : n + left ≡ 48 * (number + 1)
@@ -52,12 +52,12 @@ pub record Ready (bits : List ℕ) (r : Registers) (n : ℕ) (st : List ℕ) (wo
 
 -- what `begin` gives
 pub record Begins48 (bits : List ℕ) (r : Registers) (st : List ℕ) : Type 0 where
-  pub ready : Ready bits r 0 st (getD st 3 0) (getD st 4 0)
+  pub ready : WordReady bits r 0 st (getD st 3 0) (getD st 4 0)
   pub full : getD st 4 0 ≡ 48
 
 -- k bits were taken, whole groups of u bits, and the word and the count of its bits that are left are in the array
 pub record Standing (u : ℕ) (bits : List ℕ) (r : Registers) (k : ℕ) (st : List ℕ) : Type 0 where
-  pub ready : Ready bits r k st (getD st 3 0) (getD st 4 0)
+  pub ready : WordReady bits r k st (getD st 3 0) (getD st 4 0)
   pub most : getD st 4 0 ≤ 48
   pub groups : ℕ
   pub whole : k ≡ u * groups
@@ -97,4 +97,4 @@ pub record TakesRest (n : ℕ) (bits st : List ℕ) (h : Rest) (st′ : List ℕ
 
 -- what `end` gives
 pub record Ends (r : Registers) (st : List ℕ) (x : Registers) : Type 0 where
-  pub exact : (bits : List ℕ) (n : ℕ) → Ready bits r n st (getD st 3 0) (getD st 4 0) → x ≡ after r n
+  pub exact : (bits : List ℕ) (n : ℕ) → WordReady bits r n st (getD st 3 0) (getD st 4 0) → x ≡ after r n

@@ -24,7 +24,7 @@ use Rattle.phich.proofs.Scrambled.{unit-levels, unit-scrambled}
 use Rattle.phich.proofs.Units.{same-sums, length-ok, hi-unit}
 use Rattle.phich.specs.Spreading.{spreadLength}
 use Rattle.plan.specs.Check.{checkOf}
-use Rattle.plan.specs.Fields.{unitsOf}
+use Rattle.plan.specs.Fields.{mappingUnits}
 use Rattle.plan.specs.Rows.{hisOf}
 use Rattle.plan.specs.Valid.{CellIn, HiIn}
 use Rattle.plan.specs.declared.Plan.{Plan}
@@ -35,7 +35,7 @@ use Rattle.plan.proofs.Valid.{valid}
 use Rattle.layout.specs.Rules.{pcfich, phich}
 use Rattle.layout.specs.Owners.{fixedRule, owns}
 use Rattle.layout.specs.declared.Owner.the-variants.{Pcfich, Phich}
-use Rattle.places.specs.Places.{placeNumber, symbolAt, carrierAt, placesOf, ownsAt, orderOf, indexBy, indexOf}
+use Rattle.places.specs.Places.{placeNumber, symbolAt, carrierAt, placesOf, ownsAt, placeOrder, indexBy, indexOf}
 use Rattle.places.proofs.Numbers.{place-both}
 use Rattle.grid.specs.Writing.{sends, Room}
 use Rattle.subframe.specs.Elements.{controlInit, pcfichSymbol, hiBit, phichSum, elementFor}
@@ -54,7 +54,7 @@ module _ (w : List ℕ) (p : Plan) (ok : checkOf w ≡ accepted p) where
   pub pcfich-in : {grid : List ℕ} → Room (p .cell .ports) (placesOf (p .cell)) grid → PcfichIn (p .cell) (p .frame .cfi) grid
   pcfich-in r = record { cell = cell-ok; some = valid w p ok .frame .some; most = valid w p ok .frame .most; room = r }
 
-  pub phich-in : (m : ℕ) → m < unitsOf (p .cell) → {part grid : List ℕ} → Room (p .cell .ports) (placesOf (p .cell)) grid → Levels 8 part → PhichIn (p .cell) m part grid
+  pub phich-in : (m : ℕ) → m < mappingUnits (p .cell) → {part grid : List ℕ} → Room (p .cell .ports) (placesOf (p .cell)) grid → Levels 8 part → PhichIn (p .cell) m part grid
   phich-in m h r l = record { cell = cell-ok; unit = h; room = r; levels = l }
 
   pub cell-his : CellHis (p .cell) (p .his) w
@@ -74,11 +74,11 @@ module _ (w : List ℕ) (p : Plan) (ok : checkOf w ≡ accepted p) where
 
   -- ---- places
   pub pcfich-index : (t : ℕ) → pcfichIndex (p .cell) t ≡ indexOf w p Pcfich t
-  unfolding pcfichIndex indexOf indexBy orderOf
+  unfolding pcfichIndex indexOf indexBy placeOrder
   pcfich-index t = refl
 
   pub phich-index : (m t : ℕ) → phichIndex (p .cell) m t ≡ indexOf w p (Phich m) t
-  unfolding phichIndex indexOf indexBy orderOf
+  unfolding phichIndex indexOf indexBy placeOrder
   phich-index m t = refl
 
   pub pcfich-owns : (t : ℕ) → pcfich (p .cell) (symbolAt (p .cell) t) (carrierAt (p .cell) t) ≡ ownsAt w p Pcfich t
@@ -100,7 +100,7 @@ module _ (w : List ℕ) (p : Plan) (ok : checkOf w ≡ accepted p) where
       pcfich-listed (p .cell) cell-ok .below t (mod-lt e some)
       (and-left (pcfich (p .cell) (symbolAt (p .cell) t) (carrierAt (p .cell) t)) (sends (p .cell .ports) (pcfichIndex (p .cell) t / 2 % 2) (e / placesOf (p .cell))) h)
 
-  phich-below : (m : ℕ) → m < unitsOf (p .cell) → (e : ℕ) → phichSends (p .cell) m e ≡ true → phichIndex (p .cell) m (e % placesOf (p .cell)) < 12
+  phich-below : (m : ℕ) → m < mappingUnits (p .cell) → (e : ℕ) → phichSends (p .cell) m e ≡ true → phichIndex (p .cell) m (e % placesOf (p .cell)) < 12
   unfolding phichSends
   phich-below m in-m e h =
       let t = e % placesOf (p .cell) in
@@ -127,7 +127,7 @@ module _ (w : List ℕ) (p : Plan) (ok : checkOf w ≡ accepted p) where
 
   -- the symbols of a unit's sums stand where its owner's do
   phich-placed :
-      (payload : List ℕ) (m : ℕ) → m < unitsOf (p .cell) → (e : ℕ) → phichSends (p .cell) m e ≡ true → e / placesOf (p .cell) < p .cell .ports
+      (payload : List ℕ) (m : ℕ) → m < mappingUnits (p .cell) → (e : ℕ) → phichSends (p .cell) m e ≡ true → e / placesOf (p .cell) < p .cell .ports
       → placed (p .cell .ports) ((phichIndex (p .cell) m (e % placesOf (p .cell)) / 4 + m) % 2) 2 (phichSum w p payload m) (phichIndex (p .cell) m (e % placesOf (p .cell))) (e / placesOf (p .cell))
       ≡ elementFor w p payload (Phich m) (e / placesOf (p .cell)) (symbolAt (p .cell) (e % placesOf (p .cell))) (carrierAt (p .cell) (e % placesOf (p .cell)))
   unfolding elementFor
@@ -143,7 +143,7 @@ module _ (w : List ℕ) (p : Plan) (ok : checkOf w ≡ accepted p) where
       ∙ ap (λ (y : ℕ). phichPrecoded P m 2 (phichSum w p payload m) (y / 4) (y % 4) (e / placesOf (p .cell))) (sym at)
 
   -- ---- the bytes of unit m, of sums over the plan's HIs, whose bits are the payload's
-  module _ {bit : ℕ → ℕ} {s : List ℕ} (q : QuadSums (spreadLength (p .cell)) bit (hisOf w p) s) (m : ℕ) (in-m : m < unitsOf (p .cell)) where
+  module _ {bit : ℕ → ℕ} {s : List ℕ} (q : QuadSums (spreadLength (p .cell)) bit (hisOf w p) s) (m : ℕ) (in-m : m < mappingUnits (p .cell)) where
     few-units : m < 25
     few-units = omega (arith, units-most (p .cell) cell-ok)
 

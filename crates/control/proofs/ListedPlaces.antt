@@ -11,7 +11,7 @@ use Rattle.base.proofs.Tests.{by-test}
 use Rattle.base.specs.declared.Pair.{Pair}
 use Rattle.base.specs.declared.Element.{Element}
 use Rattle.base.specs.Counts.{Listed}
-use Rattle.precoding.specs.Places.{onPort, beside, placed}
+use Rattle.precoding.specs.Places.{onPort, partnerIndex, placed}
 use Rattle.plan.proofs.Listed.{and-left}
 use Rattle.grid.specs.Writing.{sends, sentAt}
 
@@ -86,7 +86,7 @@ module _ (P T : ℕ) {m : ℕ} {own : ℕ → Bool} {at index : ℕ → ℕ} (po
         there h = rw h (kept (own (e % T)) (sends P (ports (index (e % T))) (e / T)) (ltb (index (e % T)) (j + 1)) (ltb (index (e % T)) j) (other h))
 
     -- the value of place j's element
-    pub value-at : (odd : ℕ) (x y : Pair) → odd ≡ j % 2 → x ≡ d j → y ≡ d (beside j) → (e : ℕ) → sentAt P T (ports j) (at j) e ≡ true
+    pub value-at : (odd : ℕ) (x y : Pair) → odd ≡ j % 2 → x ≡ d j → y ≡ d (partnerIndex j) → (e : ℕ) → sentAt P T (ports j) (at j) e ≡ true
         → onPort P (ports j) 2 odd x y (e / T) ≡ valueBy P T index ports d e
     unfolding sentAt
     value-at odd x y o p q e h =

@@ -3,11 +3,11 @@ use Prim.Native.Nat.{ℕ, _+_, _*_, _≤_, _<_}
 use mathlib.Core.Path.{_≡_, sym, ap, _∙_}
 use native.Mathlib.Nat.{zero-mul}
 use native.Mathlib.Omega.{arith}
-use Rattle.plan.specs.Fields.{unitsOf}
+use Rattle.plan.specs.Fields.{mappingUnits}
 use Rattle.plan.specs.Valid.{CellIn}
 use Rattle.plan.specs.declared.Cell.{Cell}
 use Rattle.plan.proofs.Counts.{blocks-least, sixths-most, units-most}
-use Rattle.layout.specs.Rules.{unitGroup, formatGroup, isFormat, pcfich, unitHas, phich}
+use Rattle.layout.specs.Rules.{quadGroup, formatGroup, isFormat, pcfich, mappingUnitHas, phich}
 use Rattle.layout.specs.Owners.{carriers}
 use Rattle.layout.proofs.Units.{units-fit}
 use Rattle.base.specs.Counts.{Listed}
@@ -49,18 +49,18 @@ module _ (c : Cell) (ok : CellIn c) where
       by-quads c 4 (formatGroup c) (isFormat c) some-carriers pcfich-groups
       (λ (t : ℕ). pcfich c (symbolAt c t) (carrierAt c t)) (λ t. pcfich-is c (symbolAt c t) (carrierAt c t))
 
-  module _ (m : ℕ) (in-m : m < unitsOf c) where
+  module _ (m : ℕ) (in-m : m < mappingUnits c) where
     pub unit-few : m < 256
     unit-few = omega (arith, units-most c ok)
 
-    pub phich-groups : Groups 3 (2 * c .blocks) (unitGroup c m) (unitHas c m 0)
+    pub phich-groups : Groups 3 (2 * c .blocks) (quadGroup c m) (mappingUnitHas c m 0)
     phich-groups = unit-groups c six m (omega (arith, units-fit c (sixths-most c ok) six))
 
     pub phich-listed :
         Listed (λ (t : ℕ). phich c m (symbolAt c t) (carrierAt c t)) (placesOf c) 12
-        (λ (j : ℕ). placeNumber c 0 (quadsPlace c (unitGroup c m) j)) (phichIndex c m)
+        (λ (j : ℕ). placeNumber c 0 (quadsPlace c (quadGroup c m) j)) (phichIndex c m)
     unfolding phichIndex
     phich-listed =
-        by-quads c 3 (unitGroup c m) (unitHas c m 0) some-carriers phich-groups
+        by-quads c 3 (quadGroup c m) (mappingUnitHas c m 0) some-carriers phich-groups
         (λ (t : ℕ). phich c m (symbolAt c t) (carrierAt c t))
         (λ t. phich-is c m (symbolAt c t) (carrierAt c t) in-m)

@@ -20,7 +20,7 @@ use Rattle.codeword.specs.Codewords.{dataSymbol, cfiBit}
 use Rattle.codeword.specs.Streams.{outputs}
 use Rattle.plan.specs.Valid.{CellIn}
 use Rattle.plan.specs.declared.Cell.{Cell}
-use Rattle.layout.specs.Rules.{unitGroup, formatGroup, pcfich, phich}
+use Rattle.layout.specs.Rules.{quadGroup, formatGroup, pcfich, phich}
 use Rattle.places.specs.Quads.{quadsPlace}
 use Rattle.places.specs.Places.{symbolAt, carrierAt, placeNumber, placesOf}
 use Rattle.grid.proofs.Accumulating.{Deed, Step, Accumulates}
@@ -125,7 +125,7 @@ module _ {c : Cell} {m : ℕ} {sums : List Pair} (ok : UnitIn c m sums) {n : ℕ
   pub group-asked : (6 ≤ c .blocks) × (m < 256) × (n < 3)
   group-asked = (six c (ok .cell), unit-few c (ok .cell) m (ok .unit), in-n)
 
-  pub pair-asked : (k : ℕ) {g : ℕ} {p : PairAt} → g ≡ unitGroup c m n → k / 2 ≡ n → p ≡ unitPair m g sums k → PairIn c p
+  pub pair-asked : (k : ℕ) {g : ℕ} {p : PairAt} → g ≡ quadGroup c m n → k / 2 ≡ n → p ≡ unitPair m g sums k → PairIn c p
   pair-asked k eg ek ep =
       rw ep
       (record {
@@ -154,7 +154,7 @@ pub record UnitDone {X : Type 0} (Done : Deed X) (c : Cell) (m : ℕ) (sums : Li
 
 unit-stands :
     (c : Cell) (m : ℕ) (sums : List Pair) (n k : ℕ) → k / 2 ≡ n
-    → Stands c (λ (j : ℕ). placeNumber c 0 (quadsPlace c (unitGroup c m) j)) (byQuad m) (λ (i : ℕ). getD sums i nil) k (unitPair m (unitGroup c m n) sums k)
+    → Stands c (λ (j : ℕ). placeNumber c 0 (quadsPlace c (quadGroup c m) j)) (byQuad m) (λ (i : ℕ). getD sums i nil) k (unitPair m (quadGroup c m n) sums k)
 unit-stands c m sums n k e =
     let i : ℕ = 2 * (k % 2) in
     let u : 2 * k / 4 ≡ k / 2 = omega arith in
@@ -162,8 +162,8 @@ unit-stands c m sums n k e =
     record {
       ports-one = ap (λ (z : ℕ). (z + m) % 2) u;
       ports-two = ap (λ (z : ℕ). (z + m) % 2) v;
-      one = place-at c (unitGroup c m) (2 * k) n i (omega arith) (omega arith);
-      two = place-at c (unitGroup c m) (2 * k + 1) n (i + 1) (omega arith) (omega arith);
+      one = place-at c (quadGroup c m) (2 * k) n i (omega arith) (omega arith);
+      two = place-at c (quadGroup c m) (2 * k + 1) n (i + 1) (omega arith) (omega arith);
       first = refl;
       second = refl;
     }
@@ -176,7 +176,7 @@ module _ {X : Type 0} {Done : Deed X} {Also : Step X} {none : X} (A : Accumulate
         done = start c (byQuad m) (λ (i : ℕ). getD sums i nil) (some-places c (ok .cell)) (phich-listed c (ok .cell) m (ok .unit)) A;
       }
 
-  module _ {n g : ℕ} (in-n : n < 3) (eg : g ≡ unitGroup c m n) where
+  module _ {n g : ℕ} (in-n : n < 3) (eg : g ≡ quadGroup c m n) where
     pair-next :
         {k : ℕ} {p : PairAt} {x y : X} → k / 2 ≡ n → UnitDone Done c m sums k x → p ≡ unitPair m g sums k → Also (pairSends c p) (pairSent c p) x y → UnitDone Done c m sums (k + 1) y
     pair-next {k = k} ek t ep a =

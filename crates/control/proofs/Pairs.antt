@@ -10,7 +10,7 @@ use borrow.Author.Tests.{eqb-true, ne-eqb, ltb-true}
 use Rattle.base.specs.declared.Pair.{Pair}
 use Rattle.base.specs.Pairs.{Small}
 use Rattle.base.specs.Counts.{Listed}
-use Rattle.precoding.specs.Places.{onPort, beside}
+use Rattle.precoding.specs.Places.{onPort, partnerIndex}
 use Rattle.plan.specs.declared.Cell.{Cell}
 use Rattle.plan.proofs.Listed.{and-left, and-right}
 use Rattle.places.specs.Places.{placesOf}
@@ -134,8 +134,8 @@ module _ (c : Cell) {m : ℕ} {own : ℕ → Bool} {at index : ℕ → ℕ} (por
     value e =
         let l : 0 ≡ 2 * n % 2 = omega arith in
         let o : 1 ≡ (2 * n + 1) % 2 = omega arith in
-        let i : 2 * n + 1 ≡ beside (2 * n) = omega arith in
-        let j : 2 * n ≡ beside (2 * n + 1) = omega arith in
+        let i : 2 * n + 1 ≡ partnerIndex (2 * n) = omega arith in
+        let j : 2 * n ≡ partnerIndex (2 * n + 1) = omega arith in
         let u = x .first in
         let v = x .second in
         either (Second e) (First e)

@@ -8,7 +8,7 @@ use Rattle.phich.specs.His.{hiNumber}
 use Rattle.phich.specs.Loops.{Levels}
 use Rattle.phich.specs.Spreading.{spreadLength}
 use Rattle.phich.specs.Units.{mappingUnit, Within}
-use Rattle.plan.specs.Fields.{unitsOf}
+use Rattle.plan.specs.Fields.{mappingUnits}
 use Rattle.plan.specs.Rows.{hisFrom}
 use Rattle.plan.specs.Valid.{CellIn}
 use Rattle.plan.specs.declared.Cell.{Cell}
@@ -26,18 +26,18 @@ pub record PcfichIn (c : Cell) (cfi : ℕ) (grid : List ℕ) : Type 0 where
 -- a unit of the cell, the bytes of its quad's sums, at most eight either way, and a grid of the cell
 pub record PhichIn (c : Cell) (m : ℕ) (part grid : List ℕ) : Type 0 where
   pub cell : CellIn c
-  pub unit : m < unitsOf c
+  pub unit : m < mappingUnits c
   pub room : Room (c .ports) (placesOf c) grid
   pub levels : Levels 8 part
 
 -- a unit of the cell with its twelve sums, at most eight either way
 pub record UnitIn (c : Cell) (m : ℕ) (sums : List Pair) : Type 0 where
   pub cell : CellIn c
-  pub unit : m < unitsOf c
+  pub unit : m < mappingUnits c
   pub small : (i : ℕ) → i < 12 → Small 8 (getD sums i nil)
 
 -- HIs of the cell, each with a sequence and a unit of it
 pub record CellHis (c : Cell) (his : Row) (plan : List ℕ) : Type 0 where
   pub cell : CellIn c
   pub known : Within (spreadLength c) (hisFrom (drop (his .at) plan) (his .count))
-  pub units : (n : ℕ) → n < his .count → mappingUnit (spreadLength c) (hiNumber (hisFrom (drop (his .at) plan) (his .count)) n) < unitsOf c
+  pub units : (n : ℕ) → n < his .count → mappingUnit (spreadLength c) (hiNumber (hisFrom (drop (his .at) plan) (his .count)) n) < mappingUnits c

@@ -29,14 +29,14 @@ use Rattle.phich.specs.Loops.{HiIn, levelsAt, quadOf}
 use Rattle.phich.proofs.Adding.{set-even, set-odd, set-others}
 use Rattle.phich.proofs.Along.{along-same}
 use Rattle.phich.proofs.Chips.{bit-chips}
-use Rattle.phich.proofs.Turns.{At, at-start, here, at-next, here-in}
+use Rattle.phich.proofs.HisLeft.{At, at-start, here, at-next, here-in}
 use Rattle.phich.proofs.Units.{length-ok}
 use Rattle.plan.specs.Commands.{hiOf}
 use Rattle.plan.specs.Rows.{hisFrom, nextOf}
 use Rattle.plan.specs.declared.Cell.{Cell}
 use Rattle.plan.specs.declared.Hi.{Hi}
 use Rattle.plan.specs.declared.Row.{Row}
-use Rattle.plan.specs.Fields.{unitsOf}
+use Rattle.plan.specs.Fields.{mappingUnits}
 use Rattle.plan.proofs.Counts.{units-most}
 use Rattle.places.specs.Places.{placesOf}
 use Rattle.places.specs.Quads.{quadPlace}
@@ -47,14 +47,14 @@ use Rattle.control.proofs.His.{his-in}
 use Rattle.control.proofs.Listings.{place-inside, phich-groups}
 use Rattle.control_read.proofs.Packing.{Packed, push-ok, push-more, pushed-length, packed-none, packed-all}
 use Rattle.control.proofs.Words.{word-bits}
-use Rattle.layout.specs.Rules.{unitGroup}
+use Rattle.layout.specs.Rules.{quadGroup}
 
 -- ---- the first quads
 turn-odd : (P x : ℕ) → ownPort P (x % 2) ≡ ownPort P x
 unfolding ownPort
 turn-odd P x = let e : x % 2 % 2 ≡ x % 2 = omega arith in ap (λ (y : ℕ). cond (eqb P 4) y 0) e
 
-module _ {c : Cell} {m : ℕ} {grid : List ℕ} (ok : UnitRead c m grid) {i : ℕ} (in-i : i < 4) {g : ℕ} (eg : g ≡ unitGroup c m 0) where
+module _ {c : Cell} {m : ℕ} {grid : List ℕ} (ok : UnitRead c m grid) {i : ℕ} (in-i : i < 4) {g : ℕ} (eg : g ≡ quadGroup c m 0) where
   pub group-in : g < 2 * c .blocks
   group-in = rw eg (phich-groups c (ok .cell) m (ok .unit) .small 0 (omega arith))
 
@@ -72,7 +72,7 @@ module _ {c : Cell} {m : ℕ} {grid : List ℕ} (ok : UnitRead c m grid) {i : �
         let k : i ≡ i % 4 = omega arith in
         ap₂ (λ (x y : ℕ). x * y + t) (eq ∙ ep ∙ turn-odd (c .ports) m) eT
         ∙ ap (λ (x : ℕ). ownPort (c .ports) m * placesOf c + x) (et ∙ ap (λ (x : ℕ). quadPlace c 0 x i) eg)
-        ∙ ap₂ (λ (x y : ℕ). ownPort (c .ports) x * placesOf c + y) o (ap₂ (λ (x y : ℕ). quadPlace c 0 (unitGroup c m x) y) z k)
+        ∙ ap₂ (λ (x y : ℕ). ownPort (c .ports) x * placesOf c + y) o (ap₂ (λ (x y : ℕ). quadPlace c 0 (quadGroup c m x) y) z k)
         ∙ ap₂ (ownElement c) u v
 
     -- one more place is read
@@ -107,12 +107,12 @@ pub first-to : {c : Cell} {grid first : List ℕ} (n : ℕ) {k : ℕ} → n ≤ 
 first-to n e f = record { size = f .size; read = λ y r. f .read y (omega arith) }
 
 -- what `read_quad` requires
-pub unit-read : {c : Cell} {grid first : List ℕ} → QuadsIn c grid first → {m n : ℕ} → m < n → n ≡ unitsOf c → UnitRead c m grid
+pub unit-read : {c : Cell} {grid first : List ℕ} → QuadsIn c grid first → {m n : ℕ} → m < n → n ≡ mappingUnits c → UnitRead c m grid
 unit-read ok r e = record { cell = ok .cell; unit = omega arith; room = ok .room }
 
 -- ---- the bits that they give
-module _ {c : Cell} {grid first : List ℕ} (f : FirstRead c grid (4 * unitsOf c) first) where
-  levels-read : (m i : ℕ) → m < unitsOf c → i < 4 → levelsAt first (4 * m + i) ≡ sumRead c m grid i
+module _ {c : Cell} {grid first : List ℕ} (f : FirstRead c grid (4 * mappingUnits c) first) where
+  levels-read : (m i : ℕ) → m < mappingUnits c → i < 4 → levelsAt first (4 * m + i) ≡ sumRead c m grid i
   unfolding sumRead pairOf
   levels-read m i r k =
       let u : (4 * m + i) / 4 ≡ m = omega arith in
@@ -122,7 +122,7 @@ module _ {c : Cell} {grid first : List ℕ} (f : FirstRead c grid (4 * unitsOf c
       pair-of (ap signedOf (x .0 ∙ ap (λ (z : Element). z .i) e)) (ap signedOf (x .1 ∙ ap (λ (z : Element). z .j) e))
 
   -- THE LAW: they are those of all the sums in the grid
-  quad-bit : (l : ℕ) (x : ℕ → ℕ) (h : Hi) → mappingUnit l h < unitsOf c → bitIn l x h (quadOf first (mappingUnit l h)) ≡ bitIn l x h (sumsOf c (mappingUnit l h) grid)
+  quad-bit : (l : ℕ) (x : ℕ → ℕ) (h : Hi) → mappingUnit l h < mappingUnits c → bitIn l x h (quadOf first (mappingUnit l h)) ≡ bitIn l x h (sumsOf c (mappingUnit l h) grid)
   unfolding bitIn quadOf sumsOf
   quad-bit l x h r =
       ap below
@@ -133,8 +133,8 @@ module _ {c : Cell} {grid first : List ℕ} (f : FirstRead c grid (4 * unitsOf c
 
 -- by the word's bits or the pair's
 pub quad-ack :
-    {c : Cell} {grid first : List ℕ} → FirstRead c grid (4 * unitsOf c) first → (r : Registers) (w l : ℕ) → w ≡ wordOf r 12 → l ≡ spreadLength c → (hs : List Hi) (n : ℕ)
-    → mappingUnit (spreadLength c) (hiNumber hs n) < unitsOf c → {h : Hi} → h ≡ hiNumber hs n → bitIn l (wordBit w) h (quadOf first (mappingUnit l h)) ≡ ackFrom c r hs grid n
+    {c : Cell} {grid first : List ℕ} → FirstRead c grid (4 * mappingUnits c) first → (r : Registers) (w l : ℕ) → w ≡ wordOf r 12 → l ≡ spreadLength c → (hs : List Hi) (n : ℕ)
+    → mappingUnit (spreadLength c) (hiNumber hs n) < mappingUnits c → {h : Hi} → h ≡ hiNumber hs n → bitIn l (wordBit w) h (quadOf first (mappingUnit l h)) ≡ ackFrom c r hs grid n
 unfolding ackFrom
 quad-ack {c = c} {grid = grid} {first = first} f r w l ew el hs n in-u eh =
     rw (el, eh)
@@ -178,7 +178,7 @@ module _ {c : Cell} {his : Row} {plan grid part₀ : List ℕ} (ok : ReadIn c hi
     pub hi-read : {l : ℕ} {h : Hi} → l ≡ spreadLength c → h ≡ hiOf (drop at plan) → HiIn l h
     hi-read el eh = here-in (t .where-at) more (his-in (ok .each .cell-his) el) eh
 
-    module _ {first : List ℕ} (f : FirstRead c grid (4 * unitsOf c) first) {w l b : ℕ} (ew : w ≡ wordOf r 12) (el : l ≡ spreadLength c) {h : Hi} (eh : h ≡ hiOf (drop at plan))
+    module _ {first : List ℕ} (f : FirstRead c grid (4 * mappingUnits c) first) {w l b : ℕ} (ew : w ≡ wordOf r 12) (el : l ≡ spreadLength c) {h : Hi} (eh : h ≡ hiOf (drop at plan))
         (eb : b ≡ bitIn l (wordBit w) h (quadOf first (mappingUnit l h))) where
       bit-is : b ≡ bit n
       bit-is = eb ∙ quad-ack f r w l ew el hs n (ok .each .cell-his .units n more) (eh ∙ here (t .where-at) more)

@@ -23,7 +23,7 @@ use Rattle.plan.specs.declared.Plan.{Plan}
 use Rattle.plan.specs.declared.Checked.the-variants.{Plan as accepted}
 use Rattle.layout.specs.Owners.{carriers}
 use Rattle.layout.specs.declared.Owner.the-variants.{Phich}
-use Rattle.layout.specs.Rules.{unitGroup}
+use Rattle.layout.specs.Rules.{quadGroup}
 use Rattle.places.specs.Places.{placesOf, placeOf}
 use Rattle.places.specs.Quads.{quadPlace}
 use Rattle.places.proofs.Listing.{phich-place}
@@ -34,10 +34,10 @@ use Rattle.control.proofs.ControlOwners.{cell-his}
 use Rattle.control_read.specs.Reading.{ownElement, sumRead, sumsOf, ackFrom, HisRead, ReadIn}
 
 module _ (w : List ℕ) (p : Plan) (g : List ℕ) where
-  place-is : (m i : ℕ) → quadPlace (p .cell) 0 (unitGroup (p .cell) m (i / 4)) (i % 4) ≡ placeOf w p (Phich m) i
+  place-is : (m i : ℕ) → quadPlace (p .cell) 0 (quadGroup (p .cell) m (i / 4)) (i % 4) ≡ placeOf w p (Phich m) i
   place-is m i =
       let e : 4 * (i / 4) + i % 4 ≡ i = omega arith in
-      let h : placeOf w p (Phich m) i ≡ 0 * carriers (p .cell) + quadPlace (p .cell) 0 (unitGroup (p .cell) m (i / 4)) (i % 4) =
+      let h : placeOf w p (Phich m) i ≡ 0 * carriers (p .cell) + quadPlace (p .cell) 0 (quadGroup (p .cell) m (i / 4)) (i % 4) =
       ap (placeOf w p (Phich m)) (sym e) ∙ phich-place w p m (i / 4) (i % 4) (omega arith) in
       omega (arith, zero-mul (carriers (p .cell)))
 

@@ -18,7 +18,7 @@ use Rattle.phich.specs.His.{hiNumber}
 use Rattle.phich.specs.Units.{mappingUnit}
 use Rattle.phich.specs.Recovery.{bitIn}
 use Rattle.phich.specs.Spreading.{spreadLength}
-use Rattle.plan.specs.Fields.{unitsOf}
+use Rattle.plan.specs.Fields.{mappingUnits}
 use Rattle.plan.specs.Valid.{CellIn}
 use Rattle.plan.specs.declared.Cell.{Cell}
 use Rattle.plan.specs.declared.Hi.{Hi}
@@ -26,12 +26,12 @@ use Rattle.plan.specs.declared.Row.{Row}
 use Rattle.places.specs.Places.{placesOf}
 use Rattle.places.specs.Quads.{quadPlace}
 use Rattle.payload.specs.Sections.{sectionBytes}
-use Rattle.layout.specs.Rules.{unitGroup}
+use Rattle.layout.specs.Rules.{quadGroup}
 use Rattle.control.specs.Filling.{CellHis}
 
 -- the number of the element at place i of unit m, on the port that sends the sum itself: quad i / 4 uses one port or the other by i / 4 + m
 unfoldable pub ownElement : Cell → ℕ → ℕ → ℕ
-ownElement c m i = ownPort (c .ports) (i / 4 + m) * placesOf c + quadPlace c 0 (unitGroup c m (i / 4)) (i % 4)
+ownElement c m i = ownPort (c .ports) (i / 4 + m) * placesOf c + quadPlace c 0 (quadGroup c m (i / 4)) (i % 4)
 
 -- the sum at place i of unit m in a grid, and all twelve
 unfoldable pub sumRead : Cell → ℕ → List ℕ → ℕ → Pair
@@ -47,7 +47,7 @@ ackFrom c r hs g n = bitIn (spreadLength c) (outputs r) (hiNumber hs n) (sumsOf 
 -- a unit of the cell and a grid of the cell
 pub record UnitRead (c : Cell) (m : ℕ) (grid : List ℕ) : Type 0 where
   pub cell : CellIn c
-  pub unit : m < unitsOf c
+  pub unit : m < mappingUnits c
   pub room : Room (c .ports) (placesOf c) grid
 
 -- the levels of the first n places of the units' first quads are read: place y is place y % 4 of unit y / 4

@@ -6,7 +6,7 @@ ghost use mathlib.Core.Path.{_≡_};
 ghost use Prim.Native.Nat.{_+_, _*_};
 ghost use lib.ListN.{drop};
 ghost use Rattle.gold.specs.Steps.{after};
-ghost use Rattle.plan.specs.Fields.{unitsOf};
+ghost use Rattle.plan.specs.Fields.{mappingUnits};
 ghost use Rattle.plan.specs.Rows.{hisFrom};
 ghost use Rattle.phich.specs.Spreading.{spreadLength};
 ghost use Rattle.recovery.specs.Recovery.{sectionOf};
@@ -33,7 +33,7 @@ fn read_quad(cell: Cell, m: usize, grid: &[u8], first: &mut [u8; 200])
 // The first quads of all units. Callers pass a cell and a grid of an accepted plan.
 pub fn first_sums(cell: Cell, grid: &[u8], first: &mut [u8; 200])
     requires { ⌜ QuadsIn cell (now grid) (now first) ⌝ }
-    ensures { λ _. ⌜ FirstRead cell (now (grid .entry)) (4 * unitsOf cell) (now (first .exit)) ⌝ }
+    ensures { λ _. ⌜ FirstRead cell (now (grid .entry)) (4 * mappingUnits cell) (now (first .exit)) ⌝ }
 {
     let units = plan::units(cell);
     let mut m: usize = 0;

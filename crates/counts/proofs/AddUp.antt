@@ -10,7 +10,7 @@ use lib.Dec.{eqb}
 use lib.ListN.{length}
 use Rattle.base.proofs.Tests.{by-test, is-false}
 use Rattle.base.specs.Tables.{table}
-use Rattle.plan.specs.Fields.{unitsOf}
+use Rattle.plan.specs.Fields.{mappingUnits}
 use Rattle.plan.specs.Check.{checkOf}
 use Rattle.plan.specs.Rows.{usersOf}
 use Rattle.plan.specs.Valid.{Valid}
@@ -80,7 +80,7 @@ rises w p ok = (
                   omega arith,
                   (
                     omega arith,
-                    rise-units (unitsOf (p .cell)) 10 10 1010 Phich (table (length (usersOf w p)) UserOf) (λ i. refl) (omega arith)
+                    rise-units (mappingUnits (p .cell)) 10 10 1010 Phich (table (length (usersOf w p)) UserOf) (λ i. refl) (omega arith)
                         (omega (arith, few-units (p .cell) (ok .cell .sixths) (big (p .cell .blocks) (ok .cell .blocks) .1)))
                         (λ d l. rise-users (length (usersOf w p)) 1010 d UserOf (λ i. refl) l),
                   ),

@@ -10,14 +10,14 @@ use lib.Dec.{T, leb, ltb, eqb, eqb→eq}
 use borrow.Author.Tests.{ne-eqb, lt-ltb}
 use Rattle.base.proofs.Tests.{by-test}
 use Rattle.base.proofs.Computed.{allBelow, below-at}
-use Rattle.plan.specs.Fields.{unitsOf}
+use Rattle.plan.specs.Fields.{mappingUnits}
 use Rattle.plan.specs.Check.{checkOf}
 use Rattle.plan.specs.declared.Plan.{Plan}
 use Rattle.plan.specs.declared.Checked.the-variants.{Plan as accepted}
 use Rattle.base.specs.Choice.{if_then_else_, one}
 use Rattle.plan.specs.declared.Cell.{Cell}
 use Rattle.plan.specs.declared.Frame.{Frame}
-use Rattle.layout.specs.Rules.{slotLength, inSlot, crsSymbol, crsBelow, centre, inPbchArea, pbch, groupOf, inGroup, isFormat, pcfich, unitHas, phich}
+use Rattle.layout.specs.Rules.{slotLength, inSlot, crsSymbol, crsBelow, centre, inPbchArea, pbch, elementGroup, inGroup, isFormat, pcfich, mappingUnitHas, phich}
 use Rattle.layout.specs.Owners.{symbols, carriers, fixedRule, owns}
 use Rattle.layout.proofs.Few.{blocks-least, sixths-most}
 use Rattle.layout.proofs.Pilot.{slot-length, hits}
@@ -57,8 +57,8 @@ first-only (suc zero) f l h = omega arith
 first-only (suc (suc n)) f l h = omega (arith, first-only (suc n) f (omega arith) h, h (suc n) (omega arith))
 
 -- what has some groups of symbol 0 has four places of each
-group-places : (c : Cell) (G : ℕ → Bool) → sumTo (symbols c) (λ s. sumTo (carriers c) (λ k. one (inGroup c s k && G (groupOf c s k)))) ≡ sumTo (2 * c .blocks) (λ t. one (G t)) * 4
-unfolding inGroup groupOf
+group-places : (c : Cell) (G : ℕ → Bool) → sumTo (symbols c) (λ s. sumTo (carriers c) (λ k. one (inGroup c s k && G (elementGroup c s k)))) ≡ sumTo (2 * c .blocks) (λ t. one (G t)) * 4
+unfolding inGroup elementGroup
 group-places c G =
     let z : carriers c ≡ 6 * (2 * c .blocks) = omega arith in
     first-only (symbols c) _ (omega (arith, slot-length c)) (λ s m. sum-none (carriers c) _ (λ k n. rw (ne-eqb s 0 (λ e. omega arith)) refl))
@@ -108,11 +108,11 @@ module _ (w : List ℕ) (p : Plan) (e : checkOf w ≡ accepted p) where
   unfolding countOf owns fixedRule pcfich
   pcfich-count = group-places (p .cell) (isFormat (p .cell)) ∙ rw (four-formats (p .cell) wide) refl
 
-  pub phich-count : (m : ℕ) → m < unitsOf (p .cell) → countOf w p (Phich m) ≡ 12
-  unfolding countOf owns fixedRule phich unitHas
+  pub phich-count : (m : ℕ) → m < mappingUnits (p .cell) → countOf w p (Phich m) ≡ 12
+  unfolding countOf owns fixedRule phich mappingUnitHas
   phich-count m l =
       let third = units-fit (p .cell) (sixths-most w p e) wide in
-      rw (lt-ltb m (unitsOf (p .cell)) l) (group-places (p .cell) (unitHas (p .cell) m 0) ∙ rw (three-groups (p .cell) wide m 0 (omega arith)) refl)
+      rw (lt-ltb m (mappingUnits (p .cell)) l) (group-places (p .cell) (mappingUnitHas (p .cell) m 0) ∙ rw (three-groups (p .cell) wide m 0 (omega arith)) refl)
 
   pub pbch-count : countOf w p Pbch ≡ (if eqb (p .frame .subframe) 0 then (if eqb (p .cell .prefix) 1 then 216 else 240) else 0)
   unfolding countOf owns fixedRule

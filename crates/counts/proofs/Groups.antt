@@ -8,7 +8,7 @@ use borrow.Author.Tests.{ne-eqb, lt-ltb, le-ltb, eqb-true, eqb-false, ltb-true, 
 use Rattle.base.proofs.Tests.{by-test}
 use Rattle.plan.specs.declared.Cell.{Cell}
 use Rattle.base.specs.Choice.{one}
-use Rattle.layout.specs.Rules.{formatGroup, isFormat, groupsLeft, unitGroup, unitHas}
+use Rattle.layout.specs.Rules.{formatGroup, isFormat, groupsLeft, quadGroup, mappingUnitHas}
 use Rattle.layout.proofs.Groups.{format-small, format-apart}
 use Rattle.layout.proofs.Units.{unit-small, unit-apart}
 use Rattle.counts.specs.Sums.{sumTo}
@@ -65,10 +65,10 @@ module _ (c : Cell) (big : 6 ≤ c .blocks) where
       (apart 0 1 (omega arith) (omega arith)) (apart 0 2 (omega arith) (omega arith)) (apart 1 2 (omega arith) (omega arith))
       (g 3) (small 3) (apart 0 3 (omega arith) (omega arith)) (apart 1 3 (omega arith) (omega arith)) (apart 2 3 (omega arith) (omega arith))
 
-  pub three-groups : (m s : ℕ) → m < groupsLeft c / 3 → sumTo (2 * c .blocks) (λ t. one (unitHas c m s t)) ≡ 3
-  unfolding unitHas
+  pub three-groups : (m s : ℕ) → m < groupsLeft c / 3 → sumTo (2 * c .blocks) (λ t. one (mappingUnitHas c m s t)) ≡ 3
+  unfolding mappingUnitHas
   three-groups m s third =
-      let g = unitGroup c m in
+      let g = quadGroup c m in
       let small = unit-small c big m in
       let apart = unit-apart c big m third in
       three-hits (2 * c .blocks) (g 0) (g 1) (g 2) (small 0) (small 1) (small 2)

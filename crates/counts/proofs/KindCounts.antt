@@ -14,7 +14,7 @@ use Rattle.base.proofs.Tests.{by-test, clash, both, same-test}
 use Rattle.base.specs.Tables.{table}
 use Rattle.base.proofs.Computed.{allBelow, below-at}
 use Rattle.plan.specs.Lists.{Among}
-use Rattle.plan.specs.Fields.{unitsOf, portCounts}
+use Rattle.plan.specs.Fields.{mappingUnits, portCounts}
 use Rattle.plan.specs.Check.{checkOf}
 use Rattle.plan.specs.Rows.{usersOf}
 use Rattle.plan.specs.declared.Plan.{Plan}
@@ -216,7 +216,7 @@ module _ (w : List ℕ) (p : Plan) where
   part j o = if eqb (kindOf o) j then countOf w p o else 0
 
   abbrev units : ℕ → ℕ
-  units j = sumOf (table (unitsOf (p .cell)) Phich) (part j)
+  units j = sumOf (table (mappingUnits (p .cell)) Phich) (part j)
 
   abbrev users : ℕ → ℕ
   users j = sumOf (table (length (usersOf w p)) UserOf) (part j)
@@ -226,13 +226,13 @@ module _ (w : List ℕ) (p : Plan) where
       ≡ part j Idle + (part j (Crs 0) + (part j (Crs 1) + (part j (Crs 2) + (part j (Crs 3) + (part j (Sync Primary) + (part j (Sync Secondary)
       + (part j Pbch + (part j Pcfich + (part j Held + (units j + users j))))))))))
   unfolding kindCount owners above sumOf
-  parts j = rw (list-append (table (unitsOf (p .cell)) Phich) (table (length (usersOf w p)) UserOf) (part j)) refl
+  parts j = rw (list-append (table (mappingUnits (p .cell)) Phich) (table (length (usersOf w p)) UserOf) (part j)) refl
 
   none : (j : ℕ) → eqb 5 j ≡ false → eqb 6 j ≡ false → units j + users j ≡ 0
   none j x y =
       omega (
         arith,
-        table-const (part j) (unitsOf (p .cell)) Phich 0 (λ i l. rw x refl),
+        table-const (part j) (mappingUnits (p .cell)) Phich 0 (λ i l. rw x refl),
         table-const (part j) (length (usersOf w p)) UserOf 0 (λ i l. rw y refl),
       )
 
@@ -293,12 +293,12 @@ module _ (w : List ℕ) (p : Plan) where
     pub pcfich-kind : kindCount w p 4 ≡ 16
     pcfich-kind = omega (arith, parts 4, none 4 refl refl, pcfich-count w p e)
 
-    pub phich-kind : kindCount w p 5 ≡ 12 * unitsOf (p .cell)
+    pub phich-kind : kindCount w p 5 ≡ 12 * mappingUnits (p .cell)
     phich-kind =
         omega (
           arith,
           parts 5,
-          table-const (part 5) (unitsOf (p .cell)) Phich 12 (λ i l. phich-count w p e i l),
+          table-const (part 5) (mappingUnits (p .cell)) Phich 12 (λ i l. phich-count w p e i l),
           table-const (part 5) (length (usersOf w p)) UserOf 0 (λ i l. refl),
         )
 

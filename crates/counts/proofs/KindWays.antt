@@ -8,7 +8,7 @@ use native.Mathlib.Omega.{arith}
 use lib.Dec.{eqb}
 use borrow.Author.Tests.{eq-eqb, ne-eqb}
 use Rattle.base.specs.Tables.{table}
-use Rattle.plan.specs.Fields.{unitsOf}
+use Rattle.plan.specs.Fields.{mappingUnits}
 use Rattle.plan.specs.Check.{checkOf}
 use Rattle.plan.specs.declared.Cell.{Cell}
 use Rattle.plan.specs.declared.Frame.{Frame}
@@ -94,12 +94,12 @@ places-most : (n S : ℕ) → n ≤ 255 → S ≤ 14 → 12 * n * S ≤ 42840
 places-most n S l m = le-trans (mul-le-mul-left (12 * n) m) (let z : 12 * n * 14 ≤ 42840 = omega arith in z)
 
 -- ---- the nine counts
-pub units-few : (w : List ℕ) (p : Plan) → checkOf w ≡ accepted p → (units : ℕ) → units ≡ unitsOf (p .cell) → units ≤ 1000
+pub units-few : (w : List ℕ) (p : Plan) → checkOf w ≡ accepted p → (units : ℕ) → units ≡ mappingUnits (p .cell) → units ≤ 1000
 units-few w p ok units e = let v = valid w p ok in omega (arith, few-units (p .cell) (v .cell .sixths) (big (p .cell .blocks) (v .cell .blocks) .1))
 
 module _ (w : List ℕ) (p : Plan) (ok : checkOf w ≡ accepted p)
     (crs sync pbch units users held : ℕ) (e0 : crs ≡ crsElements (p .cell)) (e1 : sync ≡ syncElements (p .frame)) (e3 : pbch ≡ pbchElements (p .cell) (p .frame))
-    (e5 : units ≡ unitsOf (p .cell)) (e6 : users ≡ kindCount w p 6) (e7 : held ≡ heldElements (p .cell) (p .frame)) where
+    (e5 : units ≡ mappingUnits (p .cell)) (e6 : users ≡ kindCount w p 6) (e7 : held ≡ heldElements (p .cell) (p .frame)) where
   abbrev owned : ℕ
   owned = crs + sync + sync + pbch + 16 + 12 * units + users + held
 

@@ -4,7 +4,7 @@ use mathlib.Core.Logic.{inl, inr}
 use native.Mathlib.Nat.{mul-le-mul-right}
 use native.Mathlib.Omega.{arith}
 use Rattle.plan.specs.Lists.{Among}
-use Rattle.plan.specs.Fields.{unitsOf, widths, portCounts, sixthCounts}
+use Rattle.plan.specs.Fields.{mappingUnits, widths, portCounts, sixthCounts}
 use Rattle.plan.specs.declared.Cell.{Cell}
 
 pub big : (N : ℕ) → Among N widths → (15 ≤ N) × (N ≤ 100)
@@ -25,6 +25,6 @@ few-sixths g (inr (inl e)) = omega arith
 few-sixths g (inr (inr (inl e))) = omega arith
 few-sixths g (inr (inr (inr (inl e)))) = omega arith
 
-pub few-units : (c : Cell) → Among (c .sixths) sixthCounts → c .blocks ≤ 100 → unitsOf c ≤ 1000
-unfolding unitsOf
+pub few-units : (c : Cell) → Among (c .sixths) sixthCounts → c .blocks ≤ 100 → mappingUnits c ≤ 1000
+unfolding mappingUnits
 few-units c a l = omega (arith, mul-le-mul-right (c .blocks) (few-sixths (c .sixths) a))

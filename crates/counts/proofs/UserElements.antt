@@ -12,7 +12,7 @@ use borrow.Author.Tests.{ne-eqb, lt-ltb, le-ltb, le-leb, lt-leb, ltb-true, ltb-f
 use Rattle.base.proofs.Tests.{by-test, clash}
 use Rattle.base.specs.Tables.{table}
 use Rattle.plan.specs.Lists.{noneOf}
-use Rattle.plan.specs.Fields.{unitsOf}
+use Rattle.plan.specs.Fields.{mappingUnits}
 use Rattle.plan.specs.Check.{checkOf}
 use Rattle.plan.specs.Rows.{usersOf}
 use Rattle.plan.specs.Valid.{UserIn, Valid}
@@ -87,7 +87,7 @@ module _ (c : Cell) (f : Frame) (s k : ℕ) (late : 0 < s) where
   unfolding free above noneOf fixedRule pss sss pbch held heldBySync heldByPbch crsBelow crs inSyncArea
   area-free =
       let L = slotLength c in
-      rw (no-format, no-units (unitsOf c) (λ i. i))
+      rw (no-format, no-units (mappingUnits c) (λ i. i))
       (joined (crs c 0 s k) (crs c 1 s k) (crs c 2 s k) (crs c 3 s k) (marked f) (eqb (s + 1) L) (eqb (s + 2) L) (centre c k) (used c k) (inPbchArea c f s k) (crsOfFour c s k) (used-centre c k))
 
   -- so not the centre where it is taken

@@ -8,7 +8,7 @@ use lib.Bits.{bitOr}
 use lib.ListN.{length}
 use Rattle.base.specs.Counts.{nth}
 use Rattle.base.proofs.Counts.{nth-of}
-use Rattle.precoding.specs.Places.{ownPort, beside}
+use Rattle.precoding.specs.Places.{ownPort, partnerIndex}
 use Rattle.grid.specs.Elements.{elementIn}
 use Rattle.element_pairs.specs.Numbers.{elementFrom, upper, OneRead, TwoRead}
 use Rattle.walk.specs.declared.Run.{Run}
@@ -106,6 +106,6 @@ one-seen {T} {j} {e = e} is at d =
           let p : PlacesAt own T j _ e = laid-places is at laid in
           let here : (k : ℕ) → k < _ → nth own T (j + k) ≡ e k = λ k l. ap (nth own T) (sym (p .index k l)) ∙ nth-of own T (e k) (p .owned k l) (p .within k l) in
           rw (← is)
-          (tells-as (λ k l a. one-place (nth own T (j + k)) (nth own T (beside (j + k))) (rw (here k l) a))
-          (λ k l a. rw (here k l) at (place-one (nth own T (j + k)) (nth own T (beside (j + k))) a)) (d .seen q u w));
+          (tells-as (λ k l a. one-place (nth own T (j + k)) (nth own T (partnerIndex (j + k))) (rw (here k l) a))
+          (λ k l a. rw (here k l) at (place-one (nth own T (j + k)) (nth own T (partnerIndex (j + k))) a)) (d .seen q u w));
     }

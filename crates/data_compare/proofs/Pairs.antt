@@ -8,7 +8,7 @@ use native.Mathlib.Omega.{arith}
 use lib.ListN.{length}
 use Rattle.base.specs.Counts.{nth}
 use Rattle.base.proofs.Counts.{nth-of}
-use Rattle.precoding.specs.Places.{ownPort, otherPort, beside}
+use Rattle.precoding.specs.Places.{ownPort, otherPort, partnerIndex}
 use Rattle.grid.specs.Elements.{elementIn}
 use Rattle.element_pairs.specs.Numbers.{elementFrom, upper, TwoRead}
 use Rattle.walk.specs.declared.PortOffsets.{PortOffsets}
@@ -127,10 +127,10 @@ module _ {own : ℕ → Bool} {T gap j start step m : ℕ} (even : j % 2 ≡ 0) 
   half : (k + 1) / 2 ≡ k / 2
   half = omega arith
 
-  after : beside k ≡ k + 1
+  after : partnerIndex k ≡ k + 1
   after = omega arith
 
-  back : beside (k + 1) ≡ k
+  back : partnerIndex (k + 1) ≡ k
   back = omega arith
 
   first-even : k % 2 ≡ 0

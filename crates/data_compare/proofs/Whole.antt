@@ -20,7 +20,7 @@ use Rattle.modulation.specs.Symbols.{Order}
 use Rattle.modulation.specs.Marks.{isSymbol}
 use Rattle.modulation.proofs.Constellation.{small, levels-nonzero}
 use Rattle.precoding.specs.Matrices.{unitOn}
-use Rattle.precoding.specs.Places.{ownPort, otherPort, partnerOf, beside, placed}
+use Rattle.precoding.specs.Places.{ownPort, otherPort, partnerOf, partnerIndex, placed}
 use Rattle.precoding.proofs.Ports.{on-own, on-other}
 use Rattle.plan.proofs.Counts.{blocks-least}
 use Rattle.plan.proofs.Listed.{and-left, and-right}
@@ -55,7 +55,7 @@ record Fits (a : Area) (q unit : ℕ) (g : List ℕ) (j : ℕ) : Type 0 where
   pub own : elementIn g (ownAt a j) ≡ elementOf (unitOn (a .cell .ports) unit) (areaSymbol a g j)
   pub other :
       (a .cell .ports ≡ 1 → ⊥)
-      → elementIn g (otherAt a j) ≡ elementOf (unitOn (a .cell .ports) unit) (partnerOf (j % 2) (areaSymbol a g (beside j)))
+      → elementIn g (otherAt a j) ≡ elementOf (unitOn (a .cell .ports) unit) (partnerOf (j % 2) (areaSymbol a g (partnerIndex j)))
 
 module _ (a : Area) (q unit : ℕ) (g : List ℕ) (j : ℕ) where
   abbrev portsIn : ℕ
@@ -72,7 +72,7 @@ module _ (a : Area) (q unit : ℕ) (g : List ℕ) (j : ℕ) where
   unfolding areaSymbol areaPlace
   symbol-is k e = ap (λ (x : ℕ). pairOf (elementIn g (x * placesIn + nth (areaAt a) placesIn k))) (own-turn portsIn (k / 2) (j / 2 % 2) (omega arith))
 
-  same-turn : beside j / 2 % 2 ≡ j / 2 % 2
+  same-turn : partnerIndex j / 2 % 2 ≡ j / 2 % 2
   same-turn = omega arith
 
   right-fits : Right (areaAt a) portsIn placesIn q unitIn g j → Fits a q unit g j
@@ -82,7 +82,7 @@ module _ (a : Area) (q unit : ℕ) (g : List ℕ) (j : ℕ) where
       record {
         known = ap (isSymbol q) e ∙ r .own .known;
         own = r .own .levels ∙ ap (elementOf unitIn) (sym e);
-        other = λ n. r .other n ∙ ap (λ (d : Pair). elementOf unitIn (partnerOf (j % 2) d)) (sym (symbol-is (beside j) same-turn));
+        other = λ n. r .other n ∙ ap (λ (d : Pair). elementOf unitIn (partnerOf (j % 2) d)) (sym (symbol-is (partnerIndex j) same-turn));
       }
 
   fits-right : Fits a q unit g j → Right (areaAt a) portsIn placesIn q unitIn g j
@@ -91,7 +91,7 @@ module _ (a : Area) (q unit : ℕ) (g : List ℕ) (j : ℕ) where
       let e = symbol-is j refl in
       record {
         own = record { levels = r .own ∙ ap (elementOf unitIn) e; known = ap (isSymbol q) (sym e) ∙ r .known };
-        other = λ n. r .other n ∙ ap (λ (d : Pair). elementOf unitIn (partnerOf (j % 2) d)) (symbol-is (beside j) same-turn);
+        other = λ n. r .other n ∙ ap (λ (d : Pair). elementOf unitIn (partnerOf (j % 2) d)) (symbol-is (partnerIndex j) same-turn);
       }
 
 -- ---- bytes that are not 0
@@ -238,7 +238,7 @@ module _ {a : Area} {q unit : ℕ} {masks g : List ℕ} (i : CompareIn a q unit 
 
     on-second :
         (port ≡ ownPort (a .cell .ports) (n / 2 % 2) → ⊥) → port ≡ otherPort (a .cell .ports) (n / 2 % 2)
-        → elementIn g e ≡ elementOf U (partnerOf (n % 2) (d (beside n)))
+        → elementIn g e ≡ elementOf U (partnerOf (n % 2) (d (partnerIndex n)))
     on-second not-own is = ap (elementIn g) (there a places-some e h (otherPort (a .cell .ports) (n / 2 % 2)) is) ∙ r n n-below .other (more not-own is)
 
     right-value : elementIn g e ≡ areaSent a unit d e
@@ -246,13 +246,13 @@ module _ {a : Area} {q unit : ℕ} {masks g : List ℕ} (i : CompareIn a q unit 
     right-value = pick which
       where
         pick : Which → elementIn g e ≡ placed (a .cell .ports) (n / 2 % 2) unit d n port
-        pick (inl is) = on-first is ∙ sym (on-own (a .cell .ports) (n / 2 % 2) unit (n % 2) (d n) (d (beside n)) port is)
-        pick (inr (not-own, is)) = on-second not-own is ∙ sym (on-other (a .cell .ports) (n / 2 % 2) unit (n % 2) (d n) (d (beside n)) port not-own is)
+        pick (inl is) = on-first is ∙ sym (on-own (a .cell .ports) (n / 2 % 2) unit (n % 2) (d n) (d (partnerIndex n)) port is)
+        pick (inr (not-own, is)) = on-second not-own is ∙ sym (on-other (a .cell .ports) (n / 2 % 2) unit (n % 2) (d n) (d (partnerIndex n)) port not-own is)
 
     right-weight : weightOf (elementIn g e) ≡ 3
     right-weight = pick which
       where
-        other-below : (a .cell .ports ≡ 1 → ⊥) → beside n < areaCount a
+        other-below : (a .cell .ports ≡ 1 → ⊥) → partnerIndex n < areaCount a
         other-below o = omega (arith, i .pairs o, n-below)
 
         pick : Which → weightOf (elementIn g e) ≡ 3
@@ -261,7 +261,7 @@ module _ {a : Area} {q unit : ℕ} {masks g : List ℕ} (i : CompareIn a q unit 
             ap weightOf (on-first is) ∙ weight-three U (d n) (unit-some (a .cell .ports) unit (i .some)) (z .0) (z .1)
         pick (inr (not-own, is)) =
             ap weightOf (on-second not-own is)
-            ∙ partner-three U (n % 2) q (d (beside n)) (unit-some (a .cell .ports) unit (i .some)) (i .area .order) (r (beside n) (other-below (more not-own is)) .known)
+            ∙ partner-three U (n % 2) q (d (partnerIndex n)) (unit-some (a .cell .ports) unit (i .some)) (i .area .order) (r (partnerIndex n) (other-below (more not-own is)) .known)
 
   right-holds : ((j : ℕ) → j < areaCount a → Fits a q unit g j) → AreaHolds a q unit g
   right-holds r = record { known = λ j l. r j l .known; holds = record { elements = right-value r } }
@@ -272,10 +272,10 @@ module _ {a : Area} {q unit : ℕ} {masks g : List ℕ} (i : CompareIn a q unit 
         known = h .known j l;
         own = h .holds .elements (ownAt a j) (sent-there a places-some j l (ownPort (a .cell .ports) (j / 2 % 2)) ∙ sends-own (a .cell .ports) (j / 2 % 2))
             ∙ value-there a places-some j l (ownPort (a .cell .ports) (j / 2 % 2)) unit d
-            ∙ on-own (a .cell .ports) (j / 2 % 2) unit (j % 2) (d j) (d (beside j)) (ownPort (a .cell .ports) (j / 2 % 2)) refl;
+            ∙ on-own (a .cell .ports) (j / 2 % 2) unit (j % 2) (d j) (d (partnerIndex j)) (ownPort (a .cell .ports) (j / 2 % 2)) refl;
         other = λ n. h .holds .elements (otherAt a j) (sent-there a places-some j l (otherPort (a .cell .ports) (j / 2 % 2)) ∙ sends-other (a .cell .ports) (j / 2 % 2))
             ∙ value-there a places-some j l (otherPort (a .cell .ports) (j / 2 % 2)) unit d
-            ∙ on-other (a .cell .ports) (j / 2 % 2) unit (j % 2) (d j) (d (beside j)) (otherPort (a .cell .ports) (j / 2 % 2)) (other-apart (a .cell .ports) (j / 2 % 2) (i .area .room .some) n) refl;
+            ∙ on-other (a .cell .ports) (j / 2 % 2) unit (j % 2) (d j) (d (partnerIndex j)) (otherPort (a .cell .ports) (j / 2 % 2)) (other-apart (a .cell .ports) (j / 2 % 2) (i .area .room .some) n) refl;
       }
 
   right-weights : ((j : ℕ) → j < areaCount a → Fits a q unit g j) → cond (eqb (a .cell .ports) 1) 3 6 * areaCount a ≡ weightIn (areaSends a) g (length g / 3)

@@ -5,7 +5,7 @@ use mathlib.Core.Bool.{Bool}
 use mathlib.Core.List.{List}
 use Rattle.base.specs.Bytes.{elementOf, pairOf}
 use Rattle.base.specs.Counts.{nth}
-use Rattle.precoding.specs.Places.{ownPort, otherPort, partnerOf, beside}
+use Rattle.precoding.specs.Places.{ownPort, otherPort, partnerOf, partnerIndex}
 use Rattle.places.specs.Places.{placesOf}
 use Rattle.grid.specs.Elements.{elementIn}
 use Rattle.walk.specs.declared.Cursor.{Cursor}
@@ -31,7 +31,7 @@ PairRight P T turn q u g s t = PlaceRight P T turn 0 q u g s t × PlaceRight P T
 
 -- what stands at index j of a channel that has the places `own`
 abbrev pub Right : (ℕ → Bool) → ℕ → ℕ → ℕ → ℕ → List ℕ → ℕ → Type 0
-Right own P T q u g j = PlaceRight P T (j / 2 % 2) (j % 2) q u g (nth own T j) (nth own T (beside j))
+Right own P T q u g j = PlaceRight P T (j / 2 % 2) (j % 2) q u g (nth own T j) (nth own T (partnerIndex j))
 
 -- ---- pairs. Where pair i of a loop stands, and the next one, in bytes
 pub record TurnAt (P T j start step at next i : ℕ) : Type 0 where

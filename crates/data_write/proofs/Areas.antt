@@ -31,19 +31,19 @@ use Rattle.constellation.specs.Entries.{Elements}
 use Rattle.areas.specs.Areas.{areaAt, areaIndex, areaCount, areaSends, areaElement}
 use Rattle.areas.specs.Tables.{AreaTables}
 use Rattle.areas.proofs.Runs.{runs-later, area-starts, some-places, area-laid, area-open, area-next, area-count}
-use Rattle.data_write.specs.Sent.{sentElement, groupOf, TableOf, Sending}
+use Rattle.data_write.specs.Sent.{sentElement, bitsAtOnce, TableOf, Sending}
 use Rattle.data_write.specs.Pairs.{RunFilled}
 use Rattle.data_write.specs.Areas.{portsOf, groupIn, RunsIn, Going, RunsDone, FillIn, AreaFilled}
 use Rattle.data_write.proofs.Filled.{later-sending}
 
 -- ---- one port, and two or four
-one-group : {P : ℕ} (q : ℕ) → P ≡ 1 → groupOf P q ≡ q
-one-group q e = ap (λ (x : ℕ). groupOf x q) e
+one-group : {P : ℕ} (q : ℕ) → P ≡ 1 → bitsAtOnce P q ≡ q
+one-group q e = ap (λ (x : ℕ). bitsAtOnce x q) e
 
-pair-group : {P : ℕ} (q : ℕ) → (P ≡ 1 → ⊥) → groupOf P q ≡ 2 * q
+pair-group : {P : ℕ} (q : ℕ) → (P ≡ 1 → ⊥) → bitsAtOnce P q ≡ 2 * q
 pair-group {P} q n = ap (λ (b : Bool). cond b q (2 * q)) (ne-eqb P 1 n)
 
-module _ {P q j : ℕ} {t bits st : List ℕ} (s : Sending (groupOf P q) q j t bits st) where
+module _ {P q j : ℕ} {t bits st : List ℕ} (s : Sending (bitsAtOnce P q) q j t bits st) where
   pub one-sending : P ≡ 1 → Sending q q j t bits st
   one-sending e = subst (λ (x : ℕ). Sending x q j t bits st) (one-group q e) s
 
@@ -51,13 +51,13 @@ module _ {P q j : ℕ} {t bits st : List ℕ} (s : Sending (groupOf P q) q j t b
   pairs-sending n = subst (λ (x : ℕ). Sending x q j t bits st) (pair-group q n) s
 
 module _ {P T j q next : ℕ} {run : Run} {t bits st before st′ after : List ℕ} where
-  pub one-filled : P ≡ 1 → RunFilled q 1 T j run q t bits st before next st′ after → RunFilled (groupOf P q) P T j run q t bits st before next st′ after
+  pub one-filled : P ≡ 1 → RunFilled q 1 T j run q t bits st before next st′ after → RunFilled (bitsAtOnce P q) P T j run q t bits st before next st′ after
   one-filled e f =
       subst (λ (x : ℕ). RunFilled x P T j run q t bits st before next st′ after) (sym (one-group q e))
       (subst (λ (x : ℕ). RunFilled q x T j run q t bits st before next st′ after) (sym e) f)
 
   pub pairs-filled :
-      (P ≡ 1 → ⊥) → RunFilled (2 * q) P T j run q t bits st before next st′ after → RunFilled (groupOf P q) P T j run q t bits st before next st′ after
+      (P ≡ 1 → ⊥) → RunFilled (2 * q) P T j run q t bits st before next st′ after → RunFilled (bitsAtOnce P q) P T j run q t bits st before next st′ after
   pairs-filled n f = subst (λ (x : ℕ). RunFilled x P T j run q t bits st before next st′ after) (sym (pair-group q n)) f
 
 -- ---- run after run

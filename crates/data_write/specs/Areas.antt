@@ -17,13 +17,13 @@ use Rattle.areas.specs.Areas.{areaAt, areaCount, areaSends, areaElement, AreaIn
 pub use Rattle.areas.specs.Areas.{SignalsIn}
 use Rattle.areas.specs.Tables.{RowMasks}
 use Rattle.areas.specs.Runs.{AreaRuns, AreaAt}
-use Rattle.data_write.specs.Sent.{sentElement, groupOf, TableOf, Sending}
+use Rattle.data_write.specs.Sent.{sentElement, bitsAtOnce, TableOf, Sending}
 
 abbrev pub portsOf : Area → ℕ
 portsOf a = a .cell .ports
 
 abbrev pub groupIn : Area → ℕ → ℕ
-groupIn a q = groupOf (portsOf a) q
+groupIn a q = bitsAtOnce (portsOf a) q
 
 -- what all runs of an area need
 pub record RunsIn (a : Area) (q : ℕ) (rows spans t bits st grid : List ℕ) : Type 0 where

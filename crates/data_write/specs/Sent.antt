@@ -21,8 +21,8 @@ unfoldable pub sentElement : (ℕ → Bool) → ℕ → ℕ → ℕ → (ℕ →
 sentElement own P T unit d e = placed P (cnt own (e % T) / 2 % 2) unit d (cnt own (e % T)) (e / T)
 
 -- bits are taken in groups: a symbol's with one port, those of a pair of places with two or four
-abbrev pub groupOf : ℕ → ℕ → ℕ
-groupOf P q = cond (eqb P 1) q (2 * q)
+abbrev pub bitsAtOnce : ℕ → ℕ → ℕ
+bitsAtOnce P q = cond (eqb P 1) q (2 * q)
 
 -- the order's table, for a unit on P ports
 pub record TableOf (P q unit : ℕ) (t : List ℕ) : Type 0 where

@@ -19,7 +19,7 @@ ghost use lib.ListN.{length};
 ghost use Rattle.modulation.specs.Symbols.{Order, unitOf};
 ghost use Rattle.walk.specs.Addresses.{PairsIn, PairsFit, RunIn, RunOpen, SinglesIn, HolesIn};
 ghost use Rattle.walk.specs.Forms.{holedPlace};
-ghost use Rattle.data_write.specs.Sent.{groupOf, TableOf, Sending};
+ghost use Rattle.data_write.specs.Sent.{bitsAtOnce, TableOf, Sending};
 ghost use Rattle.data_write.specs.Pairs.{RoundIn, RoundDone, FirstAt, PairsDone, RunFilled};
 ghost use Rattle.data_write.specs.OnePort.{PlacesDone};
 ghost use Rattle.data_write.specs.Areas.{RunsIn, RunsDone, FillIn, AreaFilled};
@@ -390,8 +390,8 @@ fn fill_run(
     ports: u8,
     places: usize,
 ) -> usize
-    requires { ⌜ RunOpen ports places j run (now grid) × Sending (groupOf ports q) q j (now t) (now bits) (now st) ⌝ }
-    ensures { λ x. ⌜ RunFilled (groupOf ports q) ports places j run q (now (t .entry)) (now (bits .entry)) (now (st .entry)) (now (grid .entry)) x (now (st .exit)) (now (grid .exit)) ⌝ }
+    requires { ⌜ RunOpen ports places j run (now grid) × Sending (bitsAtOnce ports q) q j (now t) (now bits) (now st) ⌝ }
+    ensures { λ x. ⌜ RunFilled (bitsAtOnce ports q) ports places j run q (now (t .entry)) (now (bits .entry)) (now (st .entry)) (now (grid .entry)) x (now (st .exit)) (now (grid .exit)) ⌝ }
 {
     if ports == 1 {
         return fill_single(st, q, t, bits, grid, run, j, places);

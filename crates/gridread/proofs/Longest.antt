@@ -29,16 +29,16 @@ use Rattle.counts.specs.Sums.{sumOf}
 use Rattle.counts.specs.Users.{userElements, allElements}
 use Rattle.counts.proofs.UserSizes.{users-few}
 use Rattle.payload.specs.Sections.{bytesOf}
-use Rattle.payload.specs.Payload.{pbchBits, heads, payloadLength}
-use Rattle.payload.specs.Loops.{computedBits, computedSections}
+use Rattle.payload.specs.Payload.{pbchBitCount, heads, payloadLength}
+use Rattle.payload.specs.Loops.{computedBitCount, computedSections}
 use Rattle.payload.proofs.Sections.{sections-computed}
 use Rattle.mapper.specs.Calls.{answerWith, numberAnswer, payloadLengthOf}
 use Rattle.mapper.specs.declared.Number.{Number}
 use Rattle.mapper.specs.declared.Number.the-variants.{Is}
 
 -- ---- sections: at most 480 bits for PBCH, six for each element of a user, and less than a byte of spare bits each
-broadcast-most : (c : Cell) (f : Frame) → pbchBits c f ≤ 480
-unfolding pbchBits
+broadcast-most : (c : Cell) (f : Frame) → pbchBitCount c f ≤ 480
+unfolding pbchBitCount
 broadcast-most c f = pick (eqb (f .subframe) 0) (eqb (c .prefix) 1)
   where
     pick : (t u : Bool) → (if t then (if u then 432 else 480) else 0) ≤ 480
@@ -46,8 +46,8 @@ broadcast-most c f = pick (eqb (f .subframe) 0) (eqb (c .prefix) 1)
     pick true false = omega arith
     pick false u = omega arith
 
-user-bits-most : (c : Cell) (f : Frame) (u : User) → UserIn c u → computedBits c f u ≤ 6 * userElements c f (u .first) (u .count)
-unfolding computedBits
+user-bits-most : (c : Cell) (f : Frame) (u : User) → UserIn c u → computedBitCount c f u ≤ 6 * userElements c f (u .first) (u .count)
+unfolding computedBitCount
 user-bits-most c f u h =
     mul-le-mul {n₂ = 6} {m₂ = userElements c f (u .first) (u .count)} (leb→le (u .order) 6 (among-holds (λ n. leb n 6) orders (u .order) tt (h .order))) (omega arith)
 

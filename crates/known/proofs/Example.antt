@@ -8,7 +8,7 @@ use borrow.Author.Tests.{eq-eqb}
 use Rattle.base.specs.Tables.{table}
 use Rattle.plan.specs.Lists.{oneOf, noneOf}
 use Rattle.plan.specs.Commands.{cellOf, frameOf, hiOf, userOf, entries, entryIn, sizeOf, commandOf, commandsAfter}
-use Rattle.plan.specs.Fields.{cellOk, frameOk, unitsOf, groupsOf, sequencesOf, hiOk, samePair, userOk, clash}
+use Rattle.plan.specs.Fields.{cellOk, frameOk, mappingUnits, phichGroups, sequencesOf, hiOk, samePair, userOk, clash}
 use Rattle.plan.specs.Check.{begin, hiFault, userFault, fault, stateAfter, planOf, run, checkOf}
 use Rattle.plan.specs.declared.Plan.{Plan}
 use Rattle.plan.specs.declared.Checked.the-variants.{Plan as accepted}
@@ -24,20 +24,20 @@ use Rattle.counts.specs.Kinds.{crsElements, syncElements, pbchElements, holes, 
 use Rattle.counts.proofs.AllUsers.{users-kind}
 use Rattle.counts.proofs.KindWays.{nine}
 use Rattle.payload.specs.Sections.{bytesOf, span, spareAt, sparesFrom}
-use Rattle.payload.specs.Payload.{pbchBits, heads, sections, payloadLength, gridLength, spareBits, AcceptedPayload}
-use Rattle.payload.specs.Loops.{computedBits, computedSections}
+use Rattle.payload.specs.Payload.{pbchBitCount, heads, sections, payloadLength, gridLength, spareBits, AcceptedPayload}
+use Rattle.payload.specs.Loops.{computedBitCount, computedSections}
 use Rattle.payload.proofs.Sections.{sections-computed}
 use Rattle.payload.proofs.Refusals.{payload-clear}
 use Rattle.counted.specs.Gridcount.{acceptedWith, countedOf, gridcountOf}
 use Rattle.known.specs.Example.{example, examplePlan, broadcast, broadcastPlan, zeros, exampleCounts, broadcastCounts, Example}
 
 example-plan : checkOf example ≡ accepted examplePlan
-unfolding oneOf noneOf cellOf frameOf hiOf userOf entries entryIn sizeOf commandOf commandsAfter cellOk frameOk unitsOf groupsOf sequencesOf hiOk samePair userOk clash
+unfolding oneOf noneOf cellOf frameOf hiOf userOf entries entryIn sizeOf commandOf commandsAfter cellOk frameOk mappingUnits phichGroups sequencesOf hiOk samePair userOk clash
     begin hiFault userFault fault stateAfter planOf run checkOf
 example-plan = refl
 
 broadcast-plan : checkOf broadcast ≡ accepted broadcastPlan
-unfolding oneOf noneOf cellOf frameOf hiOf userOf entries entryIn sizeOf commandOf commandsAfter cellOk frameOk unitsOf groupsOf sequencesOf hiOk samePair userOk clash
+unfolding oneOf noneOf cellOf frameOf hiOf userOf entries entryIn sizeOf commandOf commandsAfter cellOk frameOk mappingUnits phichGroups sequencesOf hiOk samePair userOk clash
     begin hiFault userFault fault stateAfter planOf run checkOf
 broadcast-plan = refl
 
@@ -47,7 +47,7 @@ unfolding usersOf row userOf sizeOf entryIn entries allElements sumOf userElemen
 example-users = refl
 
 example-counts : table kinds (kindCount example examplePlan) ≡ exampleCounts
-unfolding crsElements syncElements pbchElements holes heldElements unitsOf slotLength marked
+unfolding crsElements syncElements pbchElements holes heldElements mappingUnits slotLength marked
 example-counts =
     sym (nine example examplePlan example-plan 120 0 0 1 2250 0 refl refl refl refl (sym (users-kind example examplePlan example-plan ∙ example-users)) refl 2520 refl)
 
@@ -56,13 +56,13 @@ unfolding usersOf row userOf sizeOf entryIn entries allElements sumOf userElemen
 broadcast-users = refl
 
 broadcast-counts : table kinds (kindCount broadcast broadcastPlan) ≡ broadcastCounts
-unfolding crsElements syncElements pbchElements holes heldElements unitsOf slotLength marked
+unfolding crsElements syncElements pbchElements holes heldElements mappingUnits slotLength marked
 broadcast-counts =
     sym (nine broadcast broadcastPlan broadcast-plan 120 62 240 1 1830 56 refl refl refl refl (sym (users-kind broadcast broadcastPlan broadcast-plan ∙ broadcast-users)) refl 2520 refl)
 
 -- ---- the payload: PBCH has no bit, the HI one, the user 2 × 2250
 example-sections : sections example examplePlan ≡ 0 ∷ 1 ∷ 4500 ∷ []
-unfolding heads pbchBits computedSections computedBits usersOf row userOf sizeOf entryIn entries userElements rowElements signals taken halves sumTo slotLength inSlot crsSymbol marked controlSymbols
+unfolding heads pbchBitCount computedSections computedBitCount usersOf row userOf sizeOf entryIn entries userElements rowElements signals taken halves sumTo slotLength inSlot crsSymbol marked controlSymbols
 example-sections = sections-computed example examplePlan example-plan
 
 example-payload : AcceptedPayload example examplePlan (zeros 564)
@@ -71,7 +71,7 @@ example-payload = record { size = rw example-sections refl; spare = rw example-s
 
 -- PBCH has 480 bits, the user 2 × 1830
 broadcast-sections : sections broadcast broadcastPlan ≡ 480 ∷ 0 ∷ 3660 ∷ []
-unfolding heads pbchBits computedSections computedBits usersOf row userOf sizeOf entryIn entries userElements rowElements signals taken halves sumTo slotLength inSlot crsSymbol marked controlSymbols
+unfolding heads pbchBitCount computedSections computedBitCount usersOf row userOf sizeOf entryIn entries userElements rowElements signals taken halves sumTo slotLength inSlot crsSymbol marked controlSymbols
 broadcast-sections = sections-computed broadcast broadcastPlan broadcast-plan
 
 broadcast-payload : AcceptedPayload broadcast broadcastPlan (zeros 518)

@@ -2,7 +2,7 @@
 use mathlib.Core.Path.{_≡_, refl}
 use Rattle.base.specs.Digits.{dig}
 use Rattle.base.specs.Tables.{table}
-use Rattle.layout.specs.Rules.{formatGroup, isFormat, isLeft, unitNumber, unitGroup}
+use Rattle.layout.specs.Rules.{formatGroup, isFormat, isLeft, quadNumber, quadGroup}
 use Rattle.base.specs.Counts.{cnt, nth}
 use Rattle.modulation.specs.Symbols.{bitsOf, evens, odds, level, symbolOf}
 use Rattle.sync.specs.Pss.{pssRoot, pssT, pssPhase}
@@ -10,5 +10,5 @@ use Rattle.sync.specs.Sss.{qPrime, qOf, eOf, m0Of, m1Of}
 use Rattle.known.specs.Rows.{Agree, rows}
 
 pub known-elements : Agree rows
-unfolding table formatGroup isFormat unitNumber cnt nth isLeft unitGroup qPrime qOf eOf m0Of m1Of pssRoot pssT pssPhase bitsOf evens odds level symbolOf dig
+unfolding table formatGroup isFormat quadNumber cnt nth isLeft quadGroup qPrime qOf eOf m0Of m1Of pssRoot pssT pssPhase bitsOf evens odds level symbolOf dig
 known-elements = (refl, (refl, (refl, (refl, (refl, (refl, (refl, (refl, tt))))))))

@@ -7,7 +7,7 @@ use lib.IntN.{ℤ, pos, negsuc}
 use Rattle.base.specs.declared.Pair.{Pair}
 use Rattle.base.specs.Tables.{table}
 use Rattle.plan.specs.declared.Cell.{Cell}
-use Rattle.layout.specs.Rules.{formatGroup, unitGroup}
+use Rattle.layout.specs.Rules.{formatGroup, quadGroup}
 use Rattle.modulation.specs.Symbols.{symbolOf}
 use Rattle.sync.specs.Pss.{pssRoot, pssPhase}
 use Rattle.sync.specs.Sss.{m0Of, m1Of}
@@ -38,7 +38,7 @@ rows =
     ∷ row (symbolOf 6 0b101111) (pair (negsuc 6) (pos 7))
     -- "N = 15, C = 0: PCFICH groups 0, 7, 15, 22; PHICH unit 0 groups 1, 10, 20"
     ∷ row (table 4 (formatGroup (cell15 0))) (0 ∷ 7 ∷ 15 ∷ 22 ∷ [])
-    ∷ row (table 3 (unitGroup (cell15 0) 0)) (1 ∷ 10 ∷ 20 ∷ [])
+    ∷ row (table 3 (quadGroup (cell15 0) 0)) (1 ∷ 10 ∷ 20 ∷ [])
     -- "N = 15, C = 503: PCFICH groups 23, 0, 8, 15"
     ∷ row (table 4 (formatGroup (cell15 503))) (23 ∷ 0 ∷ 8 ∷ 15 ∷ [])
     ∷ []

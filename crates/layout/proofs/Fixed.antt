@@ -32,10 +32,10 @@ use Rattle.layout.specs.Rules.{
   heldByPbch,
   held,
 }
-use Rattle.layout.specs.Rules.{inGroup, groupOf, isFormat, pcfich, isLeft, unitHas, phich}
+use Rattle.layout.specs.Rules.{inGroup, elementGroup, isFormat, pcfich, isLeft, mappingUnitHas, phich}
 use Rattle.layout.specs.Owners.{fixedRule}
 use Rattle.layout.specs.Chain.{pilotOf, pilot, number, takes, groupAt, controlAt, fixedAt, isIdle}
-use Rattle.plan.specs.Fields.{unitsOf}
+use Rattle.plan.specs.Fields.{mappingUnits}
 use Rattle.plan.specs.declared.Cell.{Cell}
 use Rattle.plan.specs.declared.Frame.{Frame}
 use Rattle.layout.specs.declared.Mark.{Mark}
@@ -199,18 +199,18 @@ module _ (c : Cell) (f : Frame) (s k : ℕ) (fit : Fit c k) where
       rw (pilot-quad c s k z w, le-ltb 4 (c .ports) (fit .ports), eq-eqb s 0 z, w) refl
 
   at-pcfich : pcfich c s k ≡ true → At Pcfich
-  unfolding pcfich groupAt groupOf
+  unfolding pcfich groupAt elementGroup
   at-pcfich e = in-quad (and-left (inGroup c s k) (isFormat c (k / 6)) e) ∙ rw (and-right (inGroup c s k) (isFormat c (k / 6)) e) refl
 
   at-phich : (m : ℕ) → phich c m s k ≡ true → At (Phich m)
-  unfolding phich groupAt groupOf isLeft
+  unfolding phich groupAt elementGroup isLeft
   at-phich m e =
-      let a = ltb m (unitsOf c) in
+      let a = ltb m (mappingUnits c) in
       let b = inGroup c s k in
       let d = not (isFormat c (k / 6)) in
       let t = takes c m (number c (k / 6)) in
-      let ab : a && b ≡ true = and-left (a && b) (unitHas c m s (k / 6)) e in
-      let dt : d && t ≡ true = sym (unit-has c (fit .wide) m (k / 6) in-group s) ∙ and-right (a && b) (unitHas c m s (k / 6)) e in
+      let ab : a && b ≡ true = and-left (a && b) (mappingUnitHas c m s (k / 6)) e in
+      let dt : d && t ≡ true = sym (unit-has c (fit .wide) m (k / 6) in-group s) ∙ and-right (a && b) (mappingUnitHas c m s (k / 6)) e in
       let z : 6 ≤ N = fit .wide in
       in-quad (and-right a b ab)
       ∙ rw (not-true (isFormat c (k / 6)) (and-left d t dt))
@@ -249,11 +249,11 @@ module _ (c : Cell) (f : Frame) (s k : ℕ) (fit : Fit c k) where
     quad = both z (is-not _ w)
 
     ok-pcfich : isFormat c (k / 6) ≡ true → Ok Pcfich
-    unfolding fixedRule pcfich groupOf
+    unfolding fixedRule pcfich elementGroup
     ok-pcfich e i = both quad e
 
-    ok-phich : isFormat c (k / 6) ≡ false → (m : ℕ) → m < unitsOf c → takes c m (number c (k / 6)) ≡ true → Ok (Phich m)
-    unfolding fixedRule phich groupOf isLeft
+    ok-phich : isFormat c (k / 6) ≡ false → (m : ℕ) → m < mappingUnits c → takes c m (number c (k / 6)) ≡ true → Ok (Phich m)
+    unfolding fixedRule phich elementGroup isLeft
     ok-phich e m l t i = both (both (lt-ltb _ _ l) quad) (unit-has c (fit .wide) m (k / 6) in-group s ∙ both (is-not _ e) t)
 
     ok-group : Ok (groupAt c (k / 6))

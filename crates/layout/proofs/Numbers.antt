@@ -9,7 +9,7 @@ use lib.Dec.{ltb}
 use borrow.Author.Tests.{ltb-true, lt-ltb, le-ltb}
 use Rattle.base.specs.Choice.{if_then_else_}
 use Rattle.plan.specs.Check.{checkOf}
-use Rattle.plan.specs.Fields.{unitsOf}
+use Rattle.plan.specs.Fields.{mappingUnits}
 use Rattle.plan.specs.Rows.{usersOf}
 use Rattle.plan.specs.declared.Plan.{Plan}
 use Rattle.plan.specs.declared.Checked.the-variants.{Plan as accepted}
@@ -82,7 +82,7 @@ module _ (w : List ℕ) (p : Plan) (ok : checkOf w ≡ accepted p) where
   number-back Pbch s k e = refl
   number-back Pcfich s k e = refl
   number-back (Phich m) s k e =
-      unit-back m (omega (arith, ltb-true m (unitsOf (p .cell)) (first-of _ _ _ e), units-most (p .cell) (valid w p ok .cell)))
+      unit-back m (omega (arith, ltb-true m (mappingUnits (p .cell)) (first-of _ _ _ e), units-most (p .cell) (valid w p ok .cell)))
   number-back (UserOf i) s k e =
       user-back i (omega (arith, has-index _ k (usersOf w p) i (first-of _ _ _ e), valid w p ok .users-count, users-most w p ok))
   number-back Held s k e = refl

@@ -11,7 +11,7 @@ use borrow.Author.Tests.{le-ltb, le-leb, ltb-true, ltb-false, leb-true}
 use Rattle.base.proofs.Tests.{by-test, clash, both, is-false, on-if}
 use Rattle.base.specs.Tables.{table}
 use Rattle.plan.specs.Lists.{noneOf, Every, Apart}
-use Rattle.plan.specs.Fields.{unitsOf}
+use Rattle.plan.specs.Fields.{mappingUnits}
 use Rattle.plan.specs.Rows.{usersOf}
 use Rattle.plan.specs.Valid.{Has, Disjoint}
 use Rattle.plan.specs.declared.Cell.{Cell}
@@ -20,7 +20,7 @@ use Rattle.plan.specs.declared.User.{User}
 use Rattle.plan.specs.declared.Plan.{Plan}
 use Rattle.plan.proofs.Listed.{and-left, and-right}
 use Rattle.base.specs.Choice.{if_then_else_}
-use Rattle.layout.specs.Rules.{slotOf, crs, crsOf, phich, inGroup, groupOf, unitHas}
+use Rattle.layout.specs.Rules.{slotOf, crs, crsOf, phich, inGroup, elementGroup, mappingUnitHas}
 use Rattle.layout.specs.Owners.{fixedRule, above, free, controlSymbols, blocksHave, userHas, userRule, rest, owns, owners, ownerOf}
 use Rattle.layout.specs.Chain.{fixedAt, isIdle, userFrom, ownerAt}
 use Rattle.layout.specs.declared.Mark.the-variants.{Primary, Secondary}
@@ -35,12 +35,12 @@ module _ (c : Cell) (f : Frame) (s k : ℕ) (fit : Fit c k) where
   unfolding fixedRule crs
   port-small q e = ltb-true _ _ (and-left (ltb q (c .ports)) (crsOf c q s k) e)
 
-  unit-small : (m : ℕ) → fixedRule c f (Phich m) s k ≡ true → m < unitsOf c
+  unit-small : (m : ℕ) → fixedRule c f (Phich m) s k ≡ true → m < mappingUnits c
   unfolding fixedRule phich
   unit-small m e =
-      let a = ltb m (unitsOf c) in
+      let a = ltb m (mappingUnits c) in
       let b = inGroup c s k in
-      ltb-true _ _ (and-left a b (and-left (a && b) (unitHas c m s (groupOf c s k)) e))
+      ltb-true _ _ (and-left a b (and-left (a && b) (mappingUnitHas c m s (elementGroup c s k)) e))
 
   port-in : (q : ℕ) → q < 4 → In (Crs q) (above c)
   unfolding above
@@ -59,7 +59,7 @@ module _ (c : Cell) (f : Frame) (s k : ℕ) (fit : Fit c k) where
   listed Pbch e = there (there (there (there (there (there here)))))
   listed Pcfich e = there (there (there (there (there (there (there here))))))
   listed Held e = there (there (there (there (there (there (there (there here)))))))
-  listed (Phich m) e = there (there (there (there (there (there (there (there (there (table-in Phich (unitsOf c) m (unit-small m e))))))))))
+  listed (Phich m) e = there (there (there (there (there (there (there (there (there (table-in Phich (mappingUnits c) m (unit-small m e))))))))))
   listed (UserOf i) e = clash e refl
   listed Idle e = clash e refl
 

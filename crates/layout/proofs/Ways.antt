@@ -14,7 +14,7 @@ use denote.Enum.Declared.{tagOf}
 use Rattle.base.proofs.Some.{some-in}
 use Rattle.plan.specs.Lists.{oneOf}
 use Rattle.plan.specs.Commands.{userOf}
-use Rattle.plan.specs.Fields.{unitsOf}
+use Rattle.plan.specs.Fields.{mappingUnits}
 use Rattle.plan.specs.Rows.{nextOf, usersFrom, usersOf, row}
 use Rattle.plan.specs.declared.Cell.{Cell}
 use Rattle.plan.specs.declared.Frame.{Frame}
@@ -111,7 +111,7 @@ unfolding inPbchArea
 area-frame c f s k e = rw (ne-eqb (f .subframe) 0 e) refl
 
 -- ---- groups and units: M the number of units, h that of the groups left
-module _ (c : Cell) (d : ℕ) {M : ℕ} (eM : M ≡ unitsOf c) where
+module _ (c : Cell) (d : ℕ) {M : ℕ} (eM : M ≡ mappingUnits c) where
   pub unit-first : d < M → Phich d ≡ unitAt c d
   unfolding unitAt
   unit-first l = rw (← eM, lt-ltb d M l) refl

@@ -4,7 +4,7 @@ use Prim.Native.Nat.{ℕ, _+_, _-_, _*_, _/_, _%_}
 use mathlib.Core.Bool.{Bool, true, false, _&&_, _||_}
 use mathlib.Core.List.{List, [], _∷_}
 use lib.Dec.{leb, ltb, eqb}
-use Rattle.plan.specs.Fields.{unitsOf}
+use Rattle.plan.specs.Fields.{mappingUnits}
 use Rattle.plan.specs.Rows.{usersOf}
 use Rattle.plan.specs.declared.Cell.{Cell}
 use Rattle.plan.specs.declared.Frame.{Frame}
@@ -12,7 +12,7 @@ use Rattle.plan.specs.declared.User.{User}
 use Rattle.plan.specs.declared.Plan.{Plan}
 use Rattle.base.specs.Choice.{if_then_else_, one}
 use Rattle.base.specs.Counts.{cnt}
-use Rattle.layout.specs.Rules.{slotLength, slotOf, crsSymbol, crsShift, standsAt, used, inSyncArea, inPbchArea, isFormat, groupsLeft, isLeft, unitNumber}
+use Rattle.layout.specs.Rules.{slotLength, slotOf, crsSymbol, crsShift, standsAt, used, inSyncArea, inPbchArea, isFormat, groupsLeft, isLeft, quadNumber}
 use Rattle.layout.specs.Owners.{controlSymbols, blocksHave}
 use Rattle.layout.specs.declared.Mark.the-variants.{Primary, Secondary}
 use Rattle.layout.specs.declared.Owner.{Owner}
@@ -35,7 +35,7 @@ abbrev pub number : Cell → ℕ → ℕ
 number c t = cnt (isLeft c) t
 
 unfoldable pub takes : Cell → ℕ → ℕ → Bool
-takes c m n = eqb n (unitNumber c m 0) || eqb n (unitNumber c m 1) || eqb n (unitNumber c m 2)
+takes c m n = eqb n (quadNumber c m 0) || eqb n (quadNumber c m 1) || eqb n (quadNumber c m 2)
 
 -- how far n lies past C around a ring of h numbers
 abbrev pub past : ℕ → ℕ → ℕ → ℕ
@@ -45,7 +45,7 @@ past C h n = (n + (h - C % h)) % h
 unfoldable pub unitAt : Cell → ℕ → Owner
 unitAt c d =
     let h = groupsLeft c in
-    let M = unitsOf c in
+    let M = mappingUnits c in
     if ltb d M then Phich d
     else if leb (1 * h / 3) d && ltb d (1 * h / 3 + M) then Phich (d - 1 * h / 3)
     else if leb (2 * h / 3) d && ltb d (2 * h / 3 + M) then Phich (d - 2 * h / 3)

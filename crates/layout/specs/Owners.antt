@@ -8,7 +8,7 @@ use lib.Dec.{leb, ltb}
 use lib.ListN.{length}
 use Rattle.base.specs.Tables.{table}
 use Rattle.plan.specs.Lists.{noneOf}
-use Rattle.plan.specs.Fields.{unitsOf}
+use Rattle.plan.specs.Fields.{mappingUnits}
 use Rattle.plan.specs.Rows.{usersOf}
 use Rattle.plan.specs.declared.Cell.{Cell}
 use Rattle.plan.specs.declared.Frame.{Frame}
@@ -61,7 +61,7 @@ fixedRule c f o s k = rule c f (λ (i t l : ℕ). false) (λ (t l : ℕ). false)
 
 -- the owners above the users; "not owned above"
 unfoldable pub above : Cell → List Owner
-above c = Crs 0 ∷ Crs 1 ∷ Crs 2 ∷ Crs 3 ∷ Sync Primary ∷ Sync Secondary ∷ Pbch ∷ Pcfich ∷ Held ∷ table (unitsOf c) Phich
+above c = Crs 0 ∷ Crs 1 ∷ Crs 2 ∷ Crs 3 ∷ Sync Primary ∷ Sync Secondary ∷ Pbch ∷ Pcfich ∷ Held ∷ table (mappingUnits c) Phich
 
 unfoldable pub free : Cell → Frame → ℕ → ℕ → Bool
 free c f s k = noneOf (λ (o : Owner). fixedRule c f o s k) (above c)

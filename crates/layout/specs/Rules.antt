@@ -6,7 +6,7 @@ use mathlib.Core.Bool.{Bool, not, _&&_, _||_}
 use lib.Dec.{leb, ltb, eqb}
 use Rattle.base.specs.Choice.{if_then_else_}
 use Rattle.base.specs.Counts.{nth}
-use Rattle.plan.specs.Fields.{unitsOf}
+use Rattle.plan.specs.Fields.{mappingUnits}
 use Rattle.plan.specs.declared.Cell.{Cell}
 use Rattle.plan.specs.declared.Frame.{Frame}
 
@@ -97,8 +97,8 @@ held c f s k = heldBySync c f s k || heldByPbch c f s k
 
 -- ---- control groups: "Symbol 0 has 2N groups of six subcarriers; a group's four places skip k with k mod 3 = C mod 3, also for
 -- one port". The group of subcarrier k in symbol s, and whether (s, k) is one of a group's four places
-unfoldable pub groupOf : Cell → ℕ → ℕ → ℕ
-groupOf c s k = k / 6
+unfoldable pub elementGroup : Cell → ℕ → ℕ → ℕ
+elementGroup c s k = k / 6
 
 unfoldable pub inGroup : Cell → ℕ → ℕ → Bool
 inGroup c s k = eqb s 0 && not (eqb (k % 3) (c .identity % 3))
@@ -111,7 +111,7 @@ unfoldable pub isFormat : Cell → ℕ → Bool
 isFormat c t = eqb t (formatGroup c 0) || eqb t (formatGroup c 1) || eqb t (formatGroup c 2) || eqb t (formatGroup c 3)
 
 unfoldable pub pcfich : Cell → ℕ → ℕ → Bool
-pcfich c s k = inGroup c s k && isFormat c (groupOf c s k)
+pcfich c s k = inGroup c s k && isFormat c (elementGroup c s k)
 
 -- ---- PHICH, of unit m: "With h = 2N−4 groups left in ascending order, quad i of unit m takes number (C+m+floor(ih/3)) mod h", i = 0..2.
 -- h, and whether group t is left
@@ -122,15 +122,15 @@ unfoldable pub isLeft : Cell → ℕ → Bool
 isLeft c t = not (isFormat c t)
 
 -- the number that quad i takes, and the group with that number: those left are numbered from 0 on, in ascending order
-unfoldable pub unitNumber : Cell → ℕ → ℕ → ℕ
-unitNumber c m i = (c .identity + m + i * groupsLeft c / 3) % groupsLeft c
+unfoldable pub quadNumber : Cell → ℕ → ℕ → ℕ
+quadNumber c m i = (c .identity + m + i * groupsLeft c / 3) % groupsLeft c
 
-unfoldable pub unitGroup : Cell → ℕ → ℕ → ℕ
-unitGroup c m i = nth (isLeft c) (2 * c .blocks) (unitNumber c m i)
+unfoldable pub quadGroup : Cell → ℕ → ℕ → ℕ
+quadGroup c m i = nth (isLeft c) (2 * c .blocks) (quadNumber c m i)
 
 -- unit m has group t of symbol s
-unfoldable pub unitHas : Cell → ℕ → ℕ → ℕ → Bool
-unitHas c m s t = eqb t (unitGroup c m 0) || eqb t (unitGroup c m 1) || eqb t (unitGroup c m 2)
+unfoldable pub mappingUnitHas : Cell → ℕ → ℕ → ℕ → Bool
+mappingUnitHas c m s t = eqb t (quadGroup c m 0) || eqb t (quadGroup c m 1) || eqb t (quadGroup c m 2)
 
 unfoldable pub phich : Cell → ℕ → ℕ → ℕ → Bool
-phich c m s k = ltb m (unitsOf c) && inGroup c s k && unitHas c m s (groupOf c s k)
+phich c m s k = ltb m (mappingUnits c) && inGroup c s k && mappingUnitHas c m s (elementGroup c s k)

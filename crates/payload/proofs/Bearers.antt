@@ -10,7 +10,7 @@ use lib.ListN.{length, length-append, List·getD-eq-default}
 use borrow.Author.Tests.{ltb-true, ltb-false, eqb-true}
 use Rattle.base.specs.Tables.{table}
 use Rattle.plan.specs.Lists.{Among, Every}
-use Rattle.plan.specs.Fields.{unitsOf}
+use Rattle.plan.specs.Fields.{mappingUnits}
 use Rattle.plan.specs.Rows.{hisOf, usersOf}
 use Rattle.plan.specs.Valid.{HiIn, Valid}
 use Rattle.plan.specs.declared.Cell.{Cell}
@@ -25,7 +25,7 @@ use Rattle.layout.specs.declared.Owner.{Owner}
 use Rattle.layout.specs.declared.Owner.the-variants.{Crs, Sync, Pbch, Pcfich, Phich, User as UserOf, Held, Idle}
 use Rattle.payload.specs.Sections.{startOf, span, sectionBits}
 use Rattle.payload.specs.Payload.{heads, sections}
-use Rattle.payload.specs.Bits.{hiBits, unitBits, ownerBits}
+use Rattle.payload.specs.Bits.{hiBits, mappingUnitBits, ownerBits}
 use Rattle.payload.proofs.Sections.{Users, users-length}
 
 table-member : {A : Type 0} (n : ℕ) (g : ℕ → A) (i : ℕ) → i < n → List·Memᴰ (g i) (table n g)
@@ -35,16 +35,16 @@ table-member (suc n) g zero h = List·Memᴰ·head refl
 table-member (suc n) g (suc i) h = List·Memᴰ·tail (table-member n (λ k. g (suc k)) i (le-of-suc-le-suc h))
 
 -- a unit that has a bit is one of the cell's
-unit-below : (c : Cell) (m b : ℕ) (hs : List Hi) (bs : List ℕ) → Every (HiIn c) hs → Among b (unitBits (spreadLength c) m hs bs) → m < unitsOf c
-unfolding unitBits
+unit-below : (c : Cell) (m b : ℕ) (hs : List Hi) (bs : List ℕ) → Every (HiIn c) hs → Among b (mappingUnitBits (spreadLength c) m hs bs) → m < mappingUnits c
+unfolding mappingUnitBits
 unit-below c m b [] bs h a = absurd a
 unit-below c m b (g ∷ hs) [] h a = absurd a
 unit-below c m b (g ∷ hs) (x ∷ bs) h a = pick (eqb (mappingUnit (spreadLength c) g) m) refl a (unit-below c m b hs bs (h .1))
   where
     rest : List ℕ
-    rest = unitBits (spreadLength c) m hs bs
+    rest = mappingUnitBits (spreadLength c) m hs bs
 
-    pick : (t : Bool) → eqb (mappingUnit (spreadLength c) g) m ≡ t → Among b (if t then x ∷ rest else rest) → (Among b rest → m < unitsOf c) → m < unitsOf c
+    pick : (t : Bool) → eqb (mappingUnit (spreadLength c) g) m ≡ t → Among b (if t then x ∷ rest else rest) → (Among b rest → m < mappingUnits c) → m < mappingUnits c
     pick true e q ih = omega (arith, eqb-true (mappingUnit (spreadLength c) g) m e, hi-unit c g (h .0))
     pick false e q ih = ih q
 
@@ -66,7 +66,7 @@ user-below w p i b a = pick (ltb i (length (usersOf w p))) refl
 module _ (w : List ℕ) (p : Plan) where
   -- the units and the users come after the ten first owners
   abbrev Later : List Owner
-  Later = table (unitsOf (p .cell)) Phich ++ table (length (usersOf w p)) UserOf
+  Later = table (mappingUnits (p .cell)) Phich ++ table (length (usersOf w p)) UserOf
 
   later : (o : Owner) → List·Memᴰ o Later → List·Memᴰ o (owners w p)
   unfolding owners above
@@ -86,9 +86,9 @@ module _ (w : List ℕ) (p : Plan) where
   unfolding ownerBits
   listed v Pbch b a = pbch-listed
   listed v (Phich m) b a =
-      later (Phich m) (Memᴰ·append-left _ (table-member (unitsOf (p .cell)) Phich m (unit-below (p .cell) m b (hisOf w p) (hiBits w p) (v .his) a)))
+      later (Phich m) (Memᴰ·append-left _ (table-member (mappingUnits (p .cell)) Phich m (unit-below (p .cell) m b (hisOf w p) (hiBits w p) (v .his) a)))
   listed v (UserOf i) b a =
-      later (UserOf i) (Memᴰ·append-right (table (unitsOf (p .cell)) Phich) (table-member (length (usersOf w p)) UserOf i (user-below w p i b a)))
+      later (UserOf i) (Memᴰ·append-right (table (mappingUnits (p .cell)) Phich) (table-member (length (usersOf w p)) UserOf i (user-below w p i b a)))
   listed v (Crs q) b a = absurd a
   listed v (Sync m) b a = absurd a
   listed v Pcfich b a = absurd a

@@ -13,7 +13,7 @@ use borrow.Author.Tests.{ltb-true, ltb-false}
 use Rattle.base.specs.Tables.{table}
 use Rattle.base.specs.Bits.{bitAt}
 use Rattle.plan.specs.Lists.{Among, Every}
-use Rattle.plan.specs.Fields.{unitsOf}
+use Rattle.plan.specs.Fields.{mappingUnits}
 use Rattle.plan.specs.Check.{checkOf}
 use Rattle.plan.specs.Rows.{hisOf, usersOf}
 use Rattle.plan.specs.Valid.{Valid}
@@ -28,7 +28,7 @@ use Rattle.layout.specs.declared.Owner.the-variants.{Crs, Sync, Pbch, Pcfich, P
 use Rattle.counts.specs.Sums.{sumTo, sumOf}
 use Rattle.counts.proofs.Sums.{sum-same, list-append}
 use Rattle.payload.specs.Sections.{sectionBytes, bytesOf, startOf, sectionBits, sparesFrom}
-use Rattle.payload.specs.Payload.{pbchBits, heads, sections, payloadLength, spareBits, AcceptedPayload}
+use Rattle.payload.specs.Payload.{pbchBitCount, heads, sections, payloadLength, spareBits, AcceptedPayload}
 use Rattle.payload.specs.Bits.{occurs, hiBits, ownerBits, bitsOfAll}
 use Rattle.payload.proofs.Sums.{sum-table, occurs-nil, occurs-append, occurs-span, within, within-in, within-above, among-occurs, occurs-among, every-among, list-member, list-find, list-one}
 use Rattle.payload.proofs.Sections.{start-append, fills, cover, sections-sum, hi-length, Users, users-length}
@@ -49,7 +49,7 @@ module _ (w : List ℕ) (p : Plan) where
   -- a count that only PBCH, the units and the users have
   owners-sum :
       (B : Owner → ℕ) → B Idle ≡ 0 → ((q : ℕ) → B (Crs q) ≡ 0) → ((m : Mark) → B (Sync m) ≡ 0) → B Pcfich ≡ 0 → B Held ≡ 0
-      → sumOf (owners w p) B ≡ B Pbch + (sumTo (unitsOf (p .cell)) (λ m. B (Phich m)) + sumTo (length (usersOf w p)) (λ i. B (UserOf i)))
+      → sumOf (owners w p) B ≡ B Pbch + (sumTo (mappingUnits (p .cell)) (λ m. B (Phich m)) + sumTo (length (usersOf w p)) (λ i. B (UserOf i)))
   unfolding owners above sumOf
   owners-sum B idle crs sync pcfich held =
       omega (
@@ -60,8 +60,8 @@ module _ (w : List ℕ) (p : Plan) where
         crs 3,
         sync Primary,
         sync Secondary,
-        list-append (table (unitsOf (p .cell)) Phich) (table (length (usersOf w p)) UserOf) B,
-        sum-table B (unitsOf (p .cell)) Phich,
+        list-append (table (mappingUnits (p .cell)) Phich) (table (length (usersOf w p)) UserOf) B,
+        sum-table B (mappingUnits (p .cell)) Phich,
         sum-table B (length (usersOf w p)) UserOf,
       )
 
@@ -72,7 +72,7 @@ module _ (w : List ℕ) (p : Plan) where
     nobody : (o : Owner) → ownerBits w p o ≡ [] → B o ≡ 0
     nobody o e = ap (occurs b) e ∙ occurs-nil b
 
-    pbch-occurs : B Pbch ≡ within 0 (pbchBits (p .cell) (p .frame)) b
+    pbch-occurs : B Pbch ≡ within 0 (pbchBitCount (p .cell) (p .frame)) b
     unfolding ownerBits sections heads startOf bytesOf
     pbch-occurs = section-occurs b (sections w p) 0
 
@@ -87,24 +87,24 @@ module _ (w : List ℕ) (p : Plan) where
         ∙ ap (λ (n : ℕ). sumTo n F) (sym (users-length w p))
         ∙ sections-sum (bytesOf (heads p)) (Users w p) b
 
-    units-occur : Valid w p → sumTo (unitsOf (p .cell)) (λ m. B (Phich m)) ≡ within (8 * sectionBytes (pbchBits (p .cell) (p .frame))) (p .his .count) b
+    units-occur : Valid w p → sumTo (mappingUnits (p .cell)) (λ m. B (Phich m)) ≡ within (8 * sectionBytes (pbchBitCount (p .cell) (p .frame))) (p .his .count) b
     unfolding ownerBits hiBits sections heads startOf bytesOf
     units-occur v =
-        let e : 8 * (sectionBytes (pbchBits (p .cell) (p .frame)) + 0) ≡ 8 * sectionBytes (pbchBits (p .cell) (p .frame)) = omega arith in
+        let e : 8 * (sectionBytes (pbchBitCount (p .cell) (p .frame)) + 0) ≡ 8 * sectionBytes (pbchBitCount (p .cell) (p .frame)) = omega arith in
         units-sum (p .cell) b (hisOf w p) (hiBits w p) (v .his-count ∙ sym (hi-length w p)) (v .his)
         ∙ section-occurs b (sections w p) 1
         ∙ ap (λ (a : ℕ). within a (p .his .count) b) e
 
     heads-fill :
         fills 0 (sections w p) b
-        ≡ within 0 (pbchBits (p .cell) (p .frame)) b + (within (8 * sectionBytes (pbchBits (p .cell) (p .frame))) (p .his .count) b + fills (bytesOf (heads p)) (Users w p) b)
+        ≡ within 0 (pbchBitCount (p .cell) (p .frame)) b + (within (8 * sectionBytes (pbchBitCount (p .cell) (p .frame))) (p .his .count) b + fills (bytesOf (heads p)) (Users w p) b)
     unfolding sections heads fills bytesOf
     heads-fill =
-        let s : ℕ = sectionBytes (pbchBits (p .cell) (p .frame)) in
+        let s : ℕ = sectionBytes (pbchBitCount (p .cell) (p .frame)) in
         let n : ℕ = sectionBytes (p .his .count) in
         let e : 0 + s ≡ s = omega arith in
         let d : 0 + s + n ≡ s + (n + 0) = omega arith in
-        ap₂ (λ (x y : ℕ). within 0 (pbchBits (p .cell) (p .frame)) b + (within (8 * x) (p .his .count) b + fills y (Users w p) b)) e d
+        ap₂ (λ (x y : ℕ). within 0 (pbchBitCount (p .cell) (p .frame)) b + (within (8 * x) (p .his .count) b + fills y (Users w p) b)) e d
 
     all-occur : Valid w p → occurs b (spareBits w p ++ bitsOfAll (ownerBits w p) (owners w p)) ≡ within 0 (8 * payloadLength w p) b
     unfolding spareBits payloadLength ownerBits

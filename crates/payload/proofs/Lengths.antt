@@ -33,26 +33,26 @@ use Rattle.counts.specs.Shape.{shapeOf, countBy, ShapeIn}
 use Rattle.counts.proofs.Shapes.{count-is, count-most}
 use Rattle.counts.proofs.UserSizes.{users-few}
 use Rattle.payload.specs.Sections.{sectionBytes, bytesOf}
-use Rattle.payload.specs.Payload.{pbchBits, heads, payloadLength, usersStart, gridLength}
-use Rattle.payload.specs.Loops.{computedBits, computedSections}
+use Rattle.payload.specs.Payload.{pbchBitCount, heads, payloadLength, usersStart, gridLength}
+use Rattle.payload.specs.Loops.{computedBitCount, computedSections}
 use Rattle.payload.proofs.Sections.{length-is, users-computed}
 
 -- ---- PBCH, the grid
 module _ (c : Cell) (f : Frame) where
-  pub pbch-none : (f .subframe ≡ 0 → ⊥) → 0 ≡ pbchBits c f
-  unfolding pbchBits
+  pub pbch-none : (f .subframe ≡ 0 → ⊥) → 0 ≡ pbchBitCount c f
+  unfolding pbchBitCount
   pbch-none n = rw (ne-eqb (f .subframe) 0 n) refl
 
-  pub pbch-most : pbchBits c f ≤ 480
-  unfolding pbchBits
+  pub pbch-most : pbchBitCount c f ≤ 480
+  unfolding pbchBitCount
   pbch-most =
       on-if (λ (n : ℕ). n ≤ 480) (eqb (f .subframe) 0)
       (λ e. on-if (λ (n : ℕ). n ≤ 480) (eqb (c .prefix) 1) (λ d. omega arith) (λ d. omega arith))
       (λ e. omega arith)
 
   -- two bits for each place
-  pub pbch-twice : 2 * pbchElements c f ≡ pbchBits c f
-  unfolding pbchBits pbchElements
+  pub pbch-twice : 2 * pbchElements c f ≡ pbchBitCount c f
+  unfolding pbchBitCount pbchElements
   pbch-twice = by-test (eqb (f .subframe) 0) (λ e. by-test (eqb (c .prefix) 1) (λ d. rw (e, d) refl) (λ d. rw (e, d) refl)) (λ e. rw e refl)
 
 pub rows-most : (n s : ℕ) → n < 256 → s ≤ 14 → 36 * n * s ≤ 128520
@@ -69,8 +69,8 @@ grid-is p n s q en es eq = rw (en, es, eq) refl
 order-most : (c : Cell) (u : User) → UserIn c u → u .order ≤ 6
 order-most c u h = leb→le (u .order) 6 (among-holds (λ n. leb n 6) orders (u .order) tt (h .order))
 
-bits-most : (c : Cell) (f : Frame) (u : User) → UserIn c u → computedBits c f u ≤ 6 * userElements c f (u .first) (u .count)
-unfolding computedBits
+bits-most : (c : Cell) (f : Frame) (u : User) → UserIn c u → computedBitCount c f u ≤ 6 * userElements c f (u .first) (u .count)
+unfolding computedBitCount
 bits-most c f u h = mul-le-mul {n₂ = 6} {m₂ = userElements c f (u .first) (u .count)} (order-most c u h) (omega arith)
 
 -- an order and a count in blocks are bytes, so that the product does not wrap
@@ -81,8 +81,8 @@ pub bits-found : (c : Cell) (x : Shape) (u : User) (o g : ℕ) → o ≡ u .orde
 bits-found c x u o g eo eg = rw (eo, eg) refl
 
 -- they are the bits by the count over the symbols
-pub bits-are : (c : Cell) (f : Frame) (u : User) (x : Shape) (n : ℕ) → x ≡ shapeOf c f → n ≡ u .order * countBy c x u → n ≡ computedBits c f u
-unfolding computedBits
+pub bits-are : (c : Cell) (f : Frame) (u : User) (x : Shape) (n : ℕ) → x ≡ shapeOf c f → n ≡ u .order * countBy c x u → n ≡ computedBitCount c f u
+unfolding computedBitCount
 bits-are c f u x n e en = en ∙ ap (λ (g : ℕ). u .order * g) (count-is c f u x e)
 
 bytes-most : (c : Cell) (f : Frame) (us : List User) → Every (UserIn c) us → bytesOf (computedSections c f us) ≤ 6 * allElements c f us
@@ -97,7 +97,7 @@ next-user w at (suc n) u h e to q = rw (sub-one, e, q) (row-next userOf w at n)
 
 pub bytes-next :
     (c : Cell) (f : Frame) (u : User) (us rest : List User) → us ≡ u ∷ rest
-    → bytesOf (computedSections c f us) ≡ sectionBytes (computedBits c f u) + bytesOf (computedSections c f rest)
+    → bytesOf (computedSections c f us) ≡ sectionBytes (computedBitCount c f u) + bytesOf (computedSections c f rest)
 unfolding computedSections bytesOf
 bytes-next c f u us rest e = ap (λ (l : List User). bytesOf (computedSections c f l)) e
 
@@ -106,7 +106,7 @@ unfolding computedSections bytesOf
 bytes-none w c f at n h = rw (row-zero userOf (drop at w) n (omega arith)) refl
 
 -- ---- the start of the users' sections, and all sections
-module _ (p : Plan) (a : ℕ) (ea : a ≡ pbchBits (p .cell) (p .frame)) where
+module _ (p : Plan) (a : ℕ) (ea : a ≡ pbchBitCount (p .cell) (p .frame)) where
   pub start-is : (x y : ℕ) → x ≡ sectionBytes a → y ≡ sectionBytes (p .his .count) → x + y ≡ usersStart p
   unfolding usersStart heads bytesOf
   start-is x y ex ey = rw (← ea) (omega arith)
@@ -139,7 +139,7 @@ module _ {w : List ℕ} {c : Cell} {f : Frame} {start count bytes at left : ℕ}
   going-end h = omega (arith, g .so-far, bytes-none w c f at left h)
 
   module _ (h : 0 < left) (u : User) (e : u ≡ userOf (drop at w)) where
-    module _ (s : ℕ) (es : s ≡ sectionBytes (computedBits c f u)) where
+    module _ (s : ℕ) (es : s ≡ sectionBytes (computedBitCount c f u)) where
       pub going-room : bytes + s ≤ 100800
       going-room =
           omega (

@@ -21,9 +21,9 @@ use Rattle.counts.specs.Sums.{sumTo}
 use Rattle.counts.proofs.Sums.{sum-same}
 use Rattle.counts.proofs.UserElements.{user-elements}
 use Rattle.payload.specs.Sections.{sectionBytes, bytesOf, startOf, span, sectionBits, spareAt, sparesFrom}
-use Rattle.payload.specs.Payload.{userBits, heads, sections, payloadLength, usersStart}
+use Rattle.payload.specs.Payload.{userBitCount, heads, sections, payloadLength, usersStart}
 use Rattle.payload.specs.Bits.{occurs, hiBits, ownerBits}
-use Rattle.payload.specs.Loops.{computedBits, computedSections}
+use Rattle.payload.specs.Loops.{computedBitCount, computedSections}
 use Rattle.payload.proofs.Sums.{sum-first, occurs-nil, occurs-append, occurs-span, within, within-split, within-none}
 
 -- ---- positions one after the other
@@ -117,10 +117,10 @@ module _ (w : List ℕ) (p : Plan) where
 
   -- the users' sections
   abbrev pub Users : List ℕ
-  Users = table (length (usersOf w p)) (userBits w p)
+  Users = table (length (usersOf w p)) (userBitCount w p)
 
   pub users-length : length Users ≡ length (usersOf w p)
-  users-length = table-length (length (usersOf w p)) (userBits w p)
+  users-length = table-length (length (usersOf w p)) (userBitCount w p)
 
   pub length-is : payloadLength w p ≡ usersStart p + bytesOf Users
   unfolding payloadLength sections usersStart
@@ -150,24 +150,24 @@ module _ (w : List ℕ) (p : Plan) where
     unfolding sections
     user-number = omega (arith, length-append (heads p) Users, users-length)
 
-    pub user-start-next : userStart (suc i) ≡ userStart i + sectionBytes (userBits w p i)
+    pub user-start-next : userStart (suc i) ≡ userStart i + sectionBytes (userBitCount w p i)
     user-start-next =
         omega (
           arith,
           user-start i,
           user-start (suc i),
           start-next Users i (omega (arith, users-length)),
-          table-at (length (usersOf w p)) (userBits w p) 0 i l,
+          table-at (length (usersOf w p)) (userBitCount w p) 0 i l,
         )
 
-    pub user-bits-at : ownerBits w p (UserOf i) ≡ span (8 * userStart i) (userBits w p i)
+    pub user-bits-at : ownerBits w p (UserOf i) ≡ span (8 * userStart i) (userBitCount w p i)
     unfolding ownerBits sectionBits sections
     user-bits-at =
-        ap (λ (n : ℕ). span (8 * userStart i) n) (getD-append-add (heads p) Users i 0 ∙ table-at (length (usersOf w p)) (userBits w p) 0 i l)
+        ap (λ (n : ℕ). span (8 * userStart i) n) (getD-append-add (heads p) Users i 0 ∙ table-at (length (usersOf w p)) (userBitCount w p) 0 i l)
 
 -- ---- THE LAW OF THE CODE'S SECTIONS: what it computes by the formula of a user's count is what the count of the user's places gives
 computed-each :
-    (c : Cell) (f : Frame) (d : User) (us : List User) (bits : ℕ → ℕ) → ((i : ℕ) → i < length us → bits i ≡ computedBits c f (getD us i d))
+    (c : Cell) (f : Frame) (d : User) (us : List User) (bits : ℕ → ℕ) → ((i : ℕ) → i < length us → bits i ≡ computedBitCount c f (getD us i d))
     → table (length us) bits ≡ computedSections c f us
 unfolding table computedSections
 computed-each c f d [] bits h = refl
@@ -175,13 +175,13 @@ computed-each c f d (u ∷ us) bits h =
     ap₂ (λ (n : ℕ) (ns : List ℕ). n ∷ ns) (h 0 (omega arith)) (computed-each c f d us (λ i. bits (suc i)) (λ i l. h (suc i) (omega arith)))
 
 module _ (w : List ℕ) (p : Plan) (ok : checkOf w ≡ accepted p) where
-  pub bits-computed : (i : ℕ) → i < length (usersOf w p) → userBits w p i ≡ computedBits (p .cell) (p .frame) (nthUser w p i)
-  unfolding userBits computedBits nthUser
+  pub bits-computed : (i : ℕ) → i < length (usersOf w p) → userBitCount w p i ≡ computedBitCount (p .cell) (p .frame) (nthUser w p i)
+  unfolding userBitCount computedBitCount nthUser
   bits-computed i l = ap (λ (n : ℕ). nthUser w p i .order * n) (user-elements w p ok _ i l)
 
   pub users-computed : Users w p ≡ computedSections (p .cell) (p .frame) (usersOf w p)
   unfolding nthUser
-  users-computed = computed-each (p .cell) (p .frame) _ (usersOf w p) (userBits w p) bits-computed
+  users-computed = computed-each (p .cell) (p .frame) _ (usersOf w p) (userBitCount w p) bits-computed
 
   pub sections-computed : sections w p ≡ heads p ++ computedSections (p .cell) (p .frame) (usersOf w p)
   unfolding sections

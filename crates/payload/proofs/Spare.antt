@@ -24,8 +24,8 @@ use Rattle.plan.specs.declared.Plan.{Plan}
 use Rattle.plan.specs.declared.Checked.the-variants.{Plan as accepted}
 use Rattle.plan.proofs.RowLaws.{row-zero}
 use Rattle.payload.specs.Sections.{sectionBytes, bytesOf, span, spareAt, sparesFrom}
-use Rattle.payload.specs.Payload.{pbchBits, heads, payloadLength, usersStart, spareBits, noneSet, spareClear}
-use Rattle.payload.specs.Loops.{computedBits, computedSections}
+use Rattle.payload.specs.Payload.{pbchBitCount, heads, payloadLength, usersStart, spareBits, noneSet, spareClear}
+use Rattle.payload.specs.Loops.{computedBitCount, computedSections}
 use Rattle.payload.proofs.Sections.{length-is, users-computed, sections-computed, spares-append}
 use Rattle.payload.proofs.Lengths.{next-user, bytes-next}
 
@@ -121,7 +121,7 @@ module _ {w : List ℕ} {c : Cell} {f : Frame} {start count : ℕ} {s : List ℕ
     abbrev All : List User
     All = usersFrom (drop at w) left
 
-    module _ (n : ℕ) (en : n ≡ computedBits c f u) where
+    module _ (n : ℕ) (en : n ≡ computedBitCount c f u) where
       pub clearing-room : byte + sectionBytes n ≤ length s
       clearing-room =
           let z = bytes-next c f u All (usersFrom (drop (nextOf w at) w) (left - 1)) (next-user w at left u h e (nextOf w at) refl) in
@@ -135,7 +135,7 @@ module _ {w : List ℕ} {c : Cell} {f : Frame} {start count : ℕ} {s : List ℕ
       split to q =
           rw en
           (ap (λ (l : List User). noneSet s (sparesFrom byte (computedSections c f l))) (next-user w at left u h e to q)
-          ∙ spares-clear s byte (computedBits c f u) (computedSections c f (usersFrom (drop to w) (left - 1))))
+          ∙ spares-clear s byte (computedBitCount c f u) (computedSections c f (usersFrom (drop to w) (left - 1))))
 
       pub clearing-set : (t : Bool) → t ≡ noneSet s (spareAt byte n) → t ≡ false → false ≡ noneSet s (sparesFrom first (computedSections c f (usersFrom (drop start w) count)))
       clearing-set t et q = sym (split (nextOf w at) refl ∙ rw (← et, q) refl) ∙ g .same
@@ -164,7 +164,7 @@ two-clear s a b =
     and-true true = refl
     and-true false = refl
 
-module _ (p : Plan) (s : List ℕ) (h : usersStart p ≤ length s) (a : ℕ) (ea : a ≡ pbchBits (p .cell) (p .frame)) where
+module _ (p : Plan) (s : List ℕ) (h : usersStart p ≤ length s) (a : ℕ) (ea : a ≡ pbchBitCount (p .cell) (p .frame)) where
   pub first-room : 0 + sectionBytes a ≤ length s
   unfolding usersStart heads bytesOf
   first-room = rw ea (omega arith)

@@ -9,7 +9,7 @@ use lib.Dec.{eqb}
 use lib.ListN.{length}
 use Rattle.base.specs.Choice.{if_then_else_, one}
 use Rattle.plan.specs.Lists.{Every}
-use Rattle.plan.specs.Fields.{unitsOf}
+use Rattle.plan.specs.Fields.{mappingUnits}
 use Rattle.plan.specs.Valid.{HiIn}
 use Rattle.plan.specs.declared.Cell.{Cell}
 use Rattle.plan.specs.declared.Hi.{Hi}
@@ -18,7 +18,7 @@ use Rattle.phich.specs.Units.{mappingUnit}
 use Rattle.phich.proofs.Units.{hi-unit}
 use Rattle.counts.specs.Sums.{sumTo, sumOf}
 use Rattle.counts.proofs.Sums.{sum-same, sum-none, sum-add}
-use Rattle.payload.specs.Bits.{occurs, unitBits}
+use Rattle.payload.specs.Bits.{occurs, mappingUnitBits}
 use Rattle.payload.proofs.Sums.{sum-one, occurs-nil}
 
 occurs-if : (t : Bool) (b x : ℕ) (rest : List ℕ) → occurs b (if t then x ∷ rest else rest) ≡ (if t then one (eqb x b) else 0) + occurs b rest
@@ -29,16 +29,16 @@ occurs-if false b x rest = omega arith
 -- the units' bits together are the HIs' bits, one position for each HI
 pub units-sum :
     (c : Cell) (b : ℕ) (hs : List Hi) (bs : List ℕ) → length hs ≡ length bs → Every (HiIn c) hs
-    → sumTo (unitsOf c) (λ m. occurs b (unitBits (spreadLength c) m hs bs)) ≡ occurs b bs
-unfolding unitBits
-units-sum c b [] [] e h = sum-none (unitsOf c) (λ m. occurs b []) (λ m l. occurs-nil b) ∙ sym (occurs-nil b)
+    → sumTo (mappingUnits c) (λ m. occurs b (mappingUnitBits (spreadLength c) m hs bs)) ≡ occurs b bs
+unfolding mappingUnitBits
+units-sum c b [] [] e h = sum-none (mappingUnits c) (λ m. occurs b []) (λ m l. occurs-nil b) ∙ sym (occurs-nil b)
 units-sum c b [] (x ∷ bs) e h = absurd (omega arith)
 units-sum c b (g ∷ hs) [] e h = absurd (omega arith)
 units-sum c b (g ∷ hs) (x ∷ bs) e h =
     let L : ℕ = spreadLength c in
     let X : ℕ → ℕ = λ m. if eqb (mappingUnit L g) m then one (eqb x b) else 0 in
-    let Y : ℕ → ℕ = λ m. occurs b (unitBits L m hs bs) in
-    sum-same (unitsOf c) (λ m. occurs b (unitBits L m (g ∷ hs) (x ∷ bs))) (λ m. X m + Y m) (λ m l. occurs-if (eqb (mappingUnit L g) m) b x (unitBits L m hs bs))
-    ∙ sym (sum-add (unitsOf c) X Y)
-    ∙ ap₂ (λ (i j : ℕ). i + j) (sum-one (mappingUnit L g) (one (eqb x b)) (unitsOf c) (hi-unit c g (h .0))) (units-sum c b hs bs (suc-inj e) (h .1))
+    let Y : ℕ → ℕ = λ m. occurs b (mappingUnitBits L m hs bs) in
+    sum-same (mappingUnits c) (λ m. occurs b (mappingUnitBits L m (g ∷ hs) (x ∷ bs))) (λ m. X m + Y m) (λ m l. occurs-if (eqb (mappingUnit L g) m) b x (mappingUnitBits L m hs bs))
+    ∙ sym (sum-add (mappingUnits c) X Y)
+    ∙ ap₂ (λ (i j : ℕ). i + j) (sum-one (mappingUnit L g) (one (eqb x b)) (mappingUnits c) (hi-unit c g (h .0))) (units-sum c b hs bs (suc-inj e) (h .1))
     ∙ sym (occurs-if true b x bs)

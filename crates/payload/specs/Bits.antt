@@ -21,15 +21,15 @@ unfoldable pub hiBits : List ℕ → Plan → List ℕ
 hiBits w p = sectionBits (sections w p) 1
 
 -- "A unit's bits are those of the HIs of its groups": of the positions bs, one for each of the HIs hs, those of unit m; l is N_SF
-unfoldable pub unitBits : ℕ → ℕ → List Hi → List ℕ → List ℕ
-unitBits l m [] bs = []
-unitBits l m (h ∷ hs) [] = []
-unitBits l m (h ∷ hs) (b ∷ bs) = if eqb (mappingUnit l h) m then b ∷ unitBits l m hs bs else unitBits l m hs bs
+unfoldable pub mappingUnitBits : ℕ → ℕ → List Hi → List ℕ → List ℕ
+mappingUnitBits l m [] bs = []
+mappingUnitBits l m (h ∷ hs) [] = []
+mappingUnitBits l m (h ∷ hs) (b ∷ bs) = if eqb (mappingUnit l h) m then b ∷ mappingUnitBits l m hs bs else mappingUnitBits l m hs bs
 
 -- THE BITS OF AN OWNER
 unfoldable pub ownerBits : List ℕ → Plan → Owner → List ℕ
 ownerBits w p Pbch = sectionBits (sections w p) 0
-ownerBits w p (Phich m) = unitBits (spreadLength (p .cell)) m (hisOf w p) (hiBits w p)
+ownerBits w p (Phich m) = mappingUnitBits (spreadLength (p .cell)) m (hisOf w p) (hiBits w p)
 ownerBits w p (UserOf i) = sectionBits (sections w p) (length (heads p) + i)
 ownerBits w p (Crs q) = []
 ownerBits w p (Sync m) = []

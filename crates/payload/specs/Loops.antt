@@ -7,9 +7,9 @@ use Rattle.plan.specs.declared.User.{User}
 use Rattle.counts.specs.Users.{userElements}
 
 -- a user's bits by the formula of its element count, and the sections of users one after the other
-unfoldable pub computedBits : Cell → Frame → User → ℕ
-computedBits c f u = u .order * userElements c f (u .first) (u .count)
+unfoldable pub computedBitCount : Cell → Frame → User → ℕ
+computedBitCount c f u = u .order * userElements c f (u .first) (u .count)
 
 unfoldable pub computedSections : Cell → Frame → List User → List ℕ
 computedSections c f [] = []
-computedSections c f (u ∷ us) = computedBits c f u ∷ computedSections c f us
+computedSections c f (u ∷ us) = computedBitCount c f u ∷ computedSections c f us

@@ -22,20 +22,20 @@ use Rattle.counts.specs.Counts.{countOf}
 use Rattle.payload.specs.Sections.{bytesOf, sparesFrom}
 
 -- "PBCH when f = 0 (480 bits, extended 432)"
-unfoldable pub pbchBits : Cell → Frame → ℕ
-pbchBits c f = if eqb (f .subframe) 0 then (if eqb (c .prefix) 1 then 432 else 480) else 0
+unfoldable pub pbchBitCount : Cell → Frame → ℕ
+pbchBitCount c f = if eqb (f .subframe) 0 then (if eqb (c .prefix) 1 then 432 else 480) else 0
 
 -- "per user Q × G bits, G its element count": of user i
-unfoldable pub userBits : List ℕ → Plan → ℕ → ℕ
-userBits w p i = nthUser w p i .order * countOf w p (UserOf i)
+unfoldable pub userBitCount : List ℕ → Plan → ℕ → ℕ
+userBitCount w p i = nthUser w p i .order * countOf w p (UserOf i)
 
 -- the sections before the users': PBCH, "one bit per HI in plan order, if there are HIs"
 unfoldable pub heads : Plan → List ℕ
-heads p = pbchBits (p .cell) (p .frame) ∷ p .his .count ∷ []
+heads p = pbchBitCount (p .cell) (p .frame) ∷ p .his .count ∷ []
 
 -- THE SECTIONS of a plan's payload, in their order
 unfoldable pub sections : List ℕ → Plan → List ℕ
-sections w p = heads p ++ table (length (usersOf w p)) (userBits w p)
+sections w p = heads p ++ table (length (usersOf w p)) (userBitCount w p)
 
 -- the payload's bytes
 unfoldable pub payloadLength : List ℕ → Plan → ℕ

@@ -7,7 +7,7 @@ ghost use Rattle.plan.specs.Rows.{usersFrom};
 ghost use Rattle.plan.specs.declared.Checked.the-variants.{Plan as accepted};
 ghost use Rattle.counts.specs.Shape.{countBy, ShapeIn};
 ghost use Rattle.payload.specs.Sections.{sectionBytes, bytesOf, spareAt, sparesFrom};
-ghost use Rattle.payload.specs.Payload.{pbchBits, heads, payloadLength, usersStart, gridLength, noneSet, spareClear};
+ghost use Rattle.payload.specs.Payload.{pbchBitCount, heads, payloadLength, usersStart, gridLength, noneSet, spareClear};
 ghost use Rattle.payload.specs.Loops.{computedSections};
 use base::wide;
 use counts::Shape;
@@ -29,7 +29,7 @@ pub fn section_bytes(bits: usize) -> usize
 
 // The bits of the PBCH section, two for each place: 0 where the subframe has none.
 pub fn pbch_bits(c: Cell, f: Frame) -> usize
-    ensures { λ r. ⌜ r ≡ pbchBits c f ⌝ }
+    ensures { λ r. ⌜ r ≡ pbchBitCount c f ⌝ }
 {
     2 * counts::pbch_count(c, f)
 }

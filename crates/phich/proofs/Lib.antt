@@ -14,5 +14,5 @@ pub mod Adding
 pub mod Own
 pub mod Quad
 pub mod Scrambled
-pub mod Turns
+pub mod HisLeft
 pub mod Places

@@ -17,7 +17,7 @@ use Rattle.base.proofs.Signs.{turn-add}
 use Rattle.plan.specs.declared.Hi.{Hi}
 use Rattle.phich.specs.His.{Distinct}
 use Rattle.phich.specs.Spreading.{Length, signAt, plainChip}
-use Rattle.phich.specs.Units.{mappingUnit, firstPlace, partAt, addedAt, sumAt, unitSums, Within}
+use Rattle.phich.specs.Units.{mappingUnit, firstPlace, partAt, addedAt, sumAt, mappingUnitSums, Within}
 use Rattle.phich.specs.Loops.{chipOf, unscrambled, residue, quadSum, QuadSums, levelsAt, Levels, scrambledSums}
 use Rattle.phich.proofs.Chips.{table-agree}
 use Rattle.phich.proofs.Few.{few}
@@ -99,8 +99,8 @@ module _ {l : ℕ} {bit : ℕ → ℕ} {hs : List Hi} {s : List ℕ} (q : QuadSu
       }
 
   -- THE LAW: the sums that the bytes give are those of the unit
-  pub unit-scrambled : (c : ℕ → ℕ) → scrambledSums l c part ≡ unitSums l c m bit hs
-  unfolding scrambledSums unitSums
+  pub unit-scrambled : (c : ℕ → ℕ) → scrambledSums l c part ≡ mappingUnitSums l c m bit hs
+  unfolding scrambledSums mappingUnitSums
   unit-scrambled c =
       table-agree nil 12 _ _ (λ i r.
       ap (turned (c (chipOf l i))) (levels-are (i % 4) (omega arith)) ∙ sym (sum-turned l ok c m bit i hs 0))

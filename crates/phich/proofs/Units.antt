@@ -19,11 +19,11 @@ use Rattle.base.proofs.Pairs.{plus-small}
 use Rattle.base.proofs.Tables.{table-at, table-same}
 use Rattle.plan.specs.declared.Cell.{Cell}
 use Rattle.plan.specs.declared.Hi.{Hi}
-use Rattle.plan.specs.Fields.{unitsOf, groupsOf}
+use Rattle.plan.specs.Fields.{mappingUnits, phichGroups}
 use Rattle.plan.specs.Valid.{HiIn}
 use Rattle.phich.specs.His.{hiNumber, Distinct}
 use Rattle.phich.specs.Spreading.{spreadLength, Length}
-use Rattle.phich.specs.Units.{mappingUnit, firstPlace, partAt, addedAt, sumAt, unitSums, countIn, Within, SameHiBits}
+use Rattle.phich.specs.Units.{mappingUnit, firstPlace, partAt, addedAt, sumAt, mappingUnitSums, countIn, Within, SameHiBits}
 use Rattle.phich.specs.Recovery.{bitIn}
 use Rattle.phich.proofs.Parts.{part-small}
 use Rattle.phich.proofs.Along.{along-same}
@@ -57,11 +57,11 @@ module _ (cell : Cell) where
       pick true = (omega arith, omega arith, omega arith)
       pick false = (omega arith, omega arith, omega arith)
 
-  pub hi-unit : (h : Hi) → HiIn cell h → mappingUnit (spreadLength cell) h < unitsOf cell
-  unfolding spreadLength groupsOf
+  pub hi-unit : (h : Hi) → HiIn cell h → mappingUnit (spreadLength cell) h < mappingUnits cell
+  unfolding spreadLength phichGroups
   hi-unit h i = pick (eqb (cell .prefix) 1) (i .group)
     where
-      pick : (t : Bool) → h .group < cond t (2 * unitsOf cell) (unitsOf cell) → mappingUnit (if t then 2 else 4) h < unitsOf cell
+      pick : (t : Bool) → h .group < cond t (2 * mappingUnits cell) (mappingUnits cell) → mappingUnit (if t then 2 else 4) h < mappingUnits cell
       pick true l = omega (arith, unit-extended h)
       pick false l = omega (arith, unit-normal h)
 
@@ -96,8 +96,8 @@ none-sum l c m bit i (h ∷ hs) k e = pick (eqb (mappingUnit l h) m) e (λ z. no
     pick true z ih = absurd (omega arith)
     pick false z ih = ap (plus nil) (ih (omega arith))
 
-pub empty : (l : ℕ) (c : ℕ → ℕ) (m : ℕ) (bit : ℕ → ℕ) (hs : List Hi) → countIn l m hs ≡ 0 → unitSums l c m bit hs ≡ table 12 (λ i. nil)
-unfolding unitSums
+pub empty : (l : ℕ) (c : ℕ → ℕ) (m : ℕ) (bit : ℕ → ℕ) (hs : List Hi) → countIn l m hs ≡ 0 → mappingUnitSums l c m bit hs ≡ table 12 (λ i. nil)
+unfolding mappingUnitSums
 empty l c m bit hs e = table-same 12 _ _ (λ i. none-sum l c m bit i hs 0 e)
 
 -- ---- the same bits of a unit's HIs make the same sums
@@ -116,29 +116,29 @@ agreed l c m bit bit′ i (g ∷ hs) k h =
         ap (λ (b : ℕ). cond (eqb (mappingUnit l g) m) (partAt l c g b i) nil) (subst (λ (x : ℕ). bit x ≡ bit′ x) z (h 0 (suc-le-suc zero-le) e))
     pick (no e) = simp (ne-eqb _ _ e)
 
-pub same-sums : (l : ℕ) (c : ℕ → ℕ) (m : ℕ) (bit bit′ : ℕ → ℕ) (hs : List Hi) → SameHiBits l m hs bit bit′ → unitSums l c m bit hs ≡ unitSums l c m bit′ hs
-unfolding SameHiBits unitSums
+pub same-sums : (l : ℕ) (c : ℕ → ℕ) (m : ℕ) (bit bit′ : ℕ → ℕ) (hs : List Hi) → SameHiBits l m hs bit bit′ → mappingUnitSums l c m bit hs ≡ mappingUnitSums l c m bit′ hs
+unfolding SameHiBits mappingUnitSums
 same-sums l c m bit bit′ hs same =
     table-same 12 _ _ (λ i. agreed l c m bit bit′ i hs 0 (λ n r u. let z : 0 + n ≡ n = omega arith in rw z (same n r u)))
 
 module _ (l : ℕ) (ok : Length l) (c : ℕ → ℕ) (hs : List Hi) (w : Within l hs) (d : Distinct hs) where
-  at-place : (m : ℕ) (bit : ℕ → ℕ) (i : ℕ) → i < 12 → getD (unitSums l c m bit hs) i nil ≡ sumAt l c m bit i hs 0
-  unfolding unitSums
+  at-place : (m : ℕ) (bit : ℕ → ℕ) (i : ℕ) → i < 12 → getD (mappingUnitSums l c m bit hs) i nil ≡ sumAt l c m bit i hs 0
+  unfolding mappingUnitSums
   at-place m bit i r = table-at 12 (λ j. sumAt l c m bit j hs 0) nil i r
 
   -- each sum is at most eight either way
-  pub small : (m : ℕ) (bit : ℕ → ℕ) (i : ℕ) → i < 12 → Small 8 (getD (unitSums l c m bit hs) i nil)
+  pub small : (m : ℕ) (bit : ℕ → ℕ) (i : ℕ) → i < 12 → Small 8 (getD (mappingUnitSums l c m bit hs) i nil)
   small m bit i r = rw (at-place m bit i r) (let s = sum-small l c m i bit hs 0 in (omega (arith, s .0, few l ok m hs w d), omega (arith, s .1, few l ok m hs w d)))
 
   -- THE LAW: the bit of each HI is read back from its unit's sums
-  pub recovered : (bit : ℕ → ℕ) (n : ℕ) → bit n ≤ 1 → n < length hs → bitIn l c (hiNumber hs n) (unitSums l c (mappingUnit l (hiNumber hs n)) bit hs) ≡ bit n
+  pub recovered : (bit : ℕ → ℕ) (n : ℕ) → bit n ≤ 1 → n < length hs → bitIn l c (hiNumber hs n) (mappingUnitSums l c (mappingUnit l (hiNumber hs n)) bit hs) ≡ bit n
   unfolding bitIn
   recovered bit n b r =
       ap below (along-same l c (hiNumber hs n) _ (λ i. sumAt l c (mappingUnit l (hiNumber hs n)) bit i hs 0) (λ i k. at-place (mappingUnit l (hiNumber hs n)) bit i (omega arith)))
       ∙ below-along l ok c hs n w d bit b r
 
   -- and so a unit's sums are the same exactly where its bits are
-  pub exactly : (m : ℕ) (bit bit′ : ℕ → ℕ) → ((n : ℕ) → bit n ≤ 1) → ((n : ℕ) → bit′ n ≤ 1) → (unitSums l c m bit hs ≡ unitSums l c m bit′ hs) ↔ SameHiBits l m hs bit bit′
+  pub exactly : (m : ℕ) (bit bit′ : ℕ → ℕ) → ((n : ℕ) → bit n ≤ 1) → ((n : ℕ) → bit′ n ≤ 1) → (mappingUnitSums l c m bit hs ≡ mappingUnitSums l c m bit′ hs) ↔ SameHiBits l m hs bit bit′
   unfolding SameHiBits
   exactly m bit bit′ b b′ = (
     (λ e n r u. sym (recovered bit n (b n) r) ∙ ap (bitIn l c (hiNumber hs n)) (rw u e) ∙ recovered bit′ n (b′ n) r),

@@ -43,8 +43,8 @@ sumAt l c m bit i [] k = nil
 sumAt l c m bit i (h ∷ hs) k = plus (addedAt l c m h (bit k) i) (sumAt l c m bit i hs (suc k))
 
 -- "summed per unit": the sums at the unit's twelve places
-unfoldable pub unitSums : ℕ → (ℕ → ℕ) → ℕ → (ℕ → ℕ) → List Hi → List Pair
-unitSums l c m bit hs = table 12 (λ (i : ℕ). sumAt l c m bit i hs 0)
+unfoldable pub mappingUnitSums : ℕ → (ℕ → ℕ) → ℕ → (ℕ → ℕ) → List Hi → List Pair
+mappingUnitSums l c m bit hs = table 12 (λ (i : ℕ). sumAt l c m bit i hs 0)
 
 -- the number of the unit's HIs
 unfoldable pub countIn : ℕ → ℕ → List Hi → ℕ

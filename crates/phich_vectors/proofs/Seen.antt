@@ -19,7 +19,7 @@ use Rattle.phich.specs.His.{hiNumber}
 use Rattle.phich.specs.Spreading.{Length}
 use Rattle.phich.specs.Units.{mappingUnit}
 use Rattle.phich.specs.Loops.{HiIn, HisIn, Levels}
-use Rattle.phich.proofs.Turns.{At, at-start, here, at-next}
+use Rattle.phich.proofs.HisLeft.{At, at-start, here, at-next}
 
 -- ---- `known`
 pub hi-known : {l q g : ℕ} {h : Hi} → Length l → q ≡ h .sequence → g ≡ h .group → q < 2 * l → g * l < 100 → HiIn l h

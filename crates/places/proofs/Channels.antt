@@ -4,7 +4,7 @@ use Prim.Native.Nat.{ℕ, _*_, _/_, _≤_, _<_}
 use mathlib.Core.Path.{_≡_, refl, sym, _∙_}
 use Rattle.base.proofs.Some.{isSome, some-in, in-some, all-apart}
 use Rattle.plan.specs.declared.Cell.{Cell}
-use Rattle.layout.specs.Rules.{formatGroup, isFormat, groupsLeft, unitGroup, unitHas}
+use Rattle.layout.specs.Rules.{formatGroup, isFormat, groupsLeft, quadGroup, mappingUnitHas}
 use Rattle.layout.proofs.Groups.{format-small, format-apart}
 use Rattle.layout.proofs.Units.{unit-small, unit-apart}
 use Rattle.places.proofs.Quads.{Groups}
@@ -13,8 +13,8 @@ format-some : (c : Cell) (t : ℕ) → isFormat c t ≡ isSome (formatGroup c) 4
 unfolding isFormat
 format-some c t = refl
 
-unit-some : (c : Cell) (m s t : ℕ) → unitHas c m s t ≡ isSome (unitGroup c m) 3 t
-unfolding unitHas
+unit-some : (c : Cell) (m s t : ℕ) → mappingUnitHas c m s t ≡ isSome (quadGroup c m) 3 t
+unfolding mappingUnitHas
 unit-some c m s t = refl
 
 module _ (c : Cell) (big : 6 ≤ c .blocks) where
@@ -27,11 +27,11 @@ module _ (c : Cell) (big : 6 ≤ c .blocks) where
         some = λ g l e. in-some (formatGroup c) 4 g (sym (format-some c g) ∙ e);
       }
 
-  pub unit-groups : (m : ℕ) → m < groupsLeft c / 3 → Groups 3 (2 * c .blocks) (unitGroup c m) (unitHas c m 0)
+  pub unit-groups : (m : ℕ) → m < groupsLeft c / 3 → Groups 3 (2 * c .blocks) (quadGroup c m) (mappingUnitHas c m 0)
   unit-groups m third =
       record {
         small = λ i l. unit-small c big m i;
-        has-group = λ i l. unit-some c m 0 (unitGroup c m i) ∙ some-in (unitGroup c m) 3 (unitGroup c m i) i l refl;
-        apart = all-apart (unitGroup c m) 3 (unit-apart c big m third);
-        some = λ g l e. in-some (unitGroup c m) 3 g (sym (unit-some c m 0 g) ∙ e);
+        has-group = λ i l. unit-some c m 0 (quadGroup c m i) ∙ some-in (quadGroup c m) 3 (quadGroup c m i) i l refl;
+        apart = all-apart (quadGroup c m) 3 (unit-apart c big m third);
+        some = λ g l e. in-some (quadGroup c m) 3 g (sym (unit-some c m 0 g) ∙ e);
       }

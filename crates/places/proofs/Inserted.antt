@@ -10,7 +10,7 @@ use borrow.Author.Tests.{lt-ltb, le-ltb, not-true}
 use Rattle.base.proofs.Tests.{clash}
 use Rattle.base.specs.Choice.{one}
 use Rattle.plan.specs.declared.Cell.{Cell}
-use Rattle.layout.specs.Rules.{formatGroup, isFormat, groupsLeft, isLeft, unitNumber, unitGroup}
+use Rattle.layout.specs.Rules.{formatGroup, isFormat, groupsLeft, isLeft, quadNumber, quadGroup}
 use Rattle.layout.specs.Chain.{belowOf, number}
 use Rattle.layout.proofs.Groups.{below, number-is, left-count}
 use Rattle.layout.proofs.Units.{number-lt}
@@ -68,6 +68,6 @@ module _ (c : Cell) (big : 6 ≤ c .blocks) where
         omega
         (arith, number-is c big G, below-is G, at .2, step-is 0 (omega arith), step-is 1 (omega arith), step-is 2 (omega arith), step-is 3 (omega arith))
 
-  pub unit-inserted : (m i : ℕ) → let n = unitNumber c m i in n + (step n (F 0) + step n (F 1) + step n (F 2) + step n (F 3)) ≡ unitGroup c m i
-  unfolding unitGroup
-  unit-inserted m i = inserted (unitNumber c m i) (number-lt c big m i)
+  pub unit-inserted : (m i : ℕ) → let n = quadNumber c m i in n + (step n (F 0) + step n (F 1) + step n (F 2) + step n (F 3)) ≡ quadGroup c m i
+  unfolding quadGroup
+  unit-inserted m i = inserted (quadNumber c m i) (number-lt c big m i)

@@ -11,12 +11,12 @@ use lib.Dec.{eqb, ltb}
 use borrow.Author.Tests.{eq-eqb, eqb-true, lt-ltb, le-ltb, ltb-true, ltb-false}
 use Rattle.base.proofs.Tests.{by-test}
 use Rattle.plan.specs.Check.{checkOf}
-use Rattle.plan.specs.Fields.{unitsOf}
+use Rattle.plan.specs.Fields.{mappingUnits}
 use Rattle.plan.specs.declared.Cell.{Cell}
 use Rattle.plan.specs.declared.Plan.{Plan}
 use Rattle.plan.specs.declared.Checked.the-variants.{Plan as accepted}
 use Rattle.plan.proofs.Listed.{and-left, and-right}
-use Rattle.layout.specs.Rules.{groupOf, inGroup, formatGroup, isFormat, pcfich, unitGroup, unitHas, phich}
+use Rattle.layout.specs.Rules.{elementGroup, inGroup, formatGroup, isFormat, pcfich, quadGroup, mappingUnitHas, phich}
 use Rattle.layout.specs.Owners.{carriers, fixedRule, owns}
 use Rattle.layout.specs.declared.Owner.{Owner}
 use Rattle.layout.specs.declared.Owner.the-variants.{Crs, Sync, Pbch, Pcfich, Phich, User as UserOf, Held, Idle}
@@ -24,7 +24,7 @@ use Rattle.layout.proofs.Few.{blocks-least, blocks-most, sixths-most}
 use Rattle.layout.proofs.Units.{units-fit}
 use Rattle.base.specs.Counts.{cnt, Listed}
 use Rattle.places.specs.Quads.{quadPlace, quadsPlace, quadsIndex, InQuads}
-use Rattle.places.specs.Places.{placeNumber, symbolAt, carrierAt, placesOf, ownsAt, FillingOrder, ascending, orderOf, placeBy, indexBy, placeOf, indexOf, PlacesListed}
+use Rattle.places.specs.Places.{placeNumber, symbolAt, carrierAt, placesOf, ownsAt, FillingOrder, ascending, placeOrder, placeBy, indexBy, placeOf, indexOf, PlacesListed}
 use Rattle.base.proofs.Counts.{listed-nth, listed-none, listed-count}
 use Rattle.places.proofs.Quads.{Groups, quads-listed, quads-exactly, quads-at}
 use Rattle.places.proofs.Channels.{format-groups, unit-groups}
@@ -63,56 +63,56 @@ module _ (own rule : ℕ → Bool) (W T m : ℕ) (at index : ℕ → ℕ) (some 
 
 -- ---- the rules of PCFICH and of a PHICH unit, at a place
 module _ (c : Cell) where
-  pub pcfich-is : (s k : ℕ) → pcfich c s k ≡ inGroup c s k && isFormat c (groupOf c s k)
+  pub pcfich-is : (s k : ℕ) → pcfich c s k ≡ inGroup c s k && isFormat c (elementGroup c s k)
   unfolding pcfich
   pcfich-is s k = refl
 
-  pub phich-is : (m s k : ℕ) → m < unitsOf c → phich c m s k ≡ inGroup c s k && unitHas c m 0 (groupOf c s k)
-  unfolding phich unitHas
-  phich-is m s k h = rw (lt-ltb m (unitsOf c) h) refl
+  pub phich-is : (m s k : ℕ) → m < mappingUnits c → phich c m s k ≡ inGroup c s k && mappingUnitHas c m 0 (elementGroup c s k)
+  unfolding phich mappingUnitHas
+  phich-is m s k h = rw (lt-ltb m (mappingUnits c) h) refl
 
-  phich-none : (m s k : ℕ) → unitsOf c ≤ m → phich c m s k ≡ false
+  phich-none : (m s k : ℕ) → mappingUnits c ≤ m → phich c m s k ≡ false
   unfolding phich
-  phich-none m s k h = rw (le-ltb m (unitsOf c) h) refl
+  phich-none m s k h = rw (le-ltb m (mappingUnits c) h) refl
 
   -- groups are symbol 0's
-  in-first : (has : ℕ → Bool) (s k : ℕ) → inGroup c s k && has (groupOf c s k) ≡ eqb s 0 && (inGroup c 0 k && has (groupOf c 0 k))
-  unfolding inGroup groupOf
+  in-first : (has : ℕ → Bool) (s k : ℕ) → inGroup c s k && has (elementGroup c s k) ≡ eqb s 0 && (inGroup c 0 k && has (elementGroup c 0 k))
+  unfolding inGroup elementGroup
   in-first has s k = and-assoc (eqb s 0) (not (eqb (k % 3) (c .identity % 3))) (has (k / 6))
 
 -- index 4i + j of PCFICH and of a unit
 module _ (w : List ℕ) (p : Plan) where
   pub pcfich-place : (i j : ℕ) → j < 4 → placeOf w p Pcfich (4 * i + j) ≡ placeNumber (p .cell) 0 (quadPlace (p .cell) 0 (formatGroup (p .cell) i) j)
-  unfolding placeOf placeBy orderOf
+  unfolding placeOf placeBy placeOrder
   pcfich-place i j h = ap (placeNumber (p .cell) 0) (quads-at (p .cell) (formatGroup (p .cell)) i j h)
 
-  pub phich-place : (m i j : ℕ) → j < 4 → placeOf w p (Phich m) (4 * i + j) ≡ placeNumber (p .cell) 0 (quadPlace (p .cell) 0 (unitGroup (p .cell) m i) j)
-  unfolding placeOf placeBy orderOf
-  phich-place m i j h = ap (placeNumber (p .cell) 0) (quads-at (p .cell) (unitGroup (p .cell) m) i j h)
+  pub phich-place : (m i j : ℕ) → j < 4 → placeOf w p (Phich m) (4 * i + j) ≡ placeNumber (p .cell) 0 (quadPlace (p .cell) 0 (quadGroup (p .cell) m i) j)
+  unfolding placeOf placeBy placeOrder
+  phich-place m i j h = ap (placeNumber (p .cell) 0) (quads-at (p .cell) (quadGroup (p .cell) m) i j h)
 
 -- ---- a channel of quads with the rule of its groups
 module _ (c : Cell) (n : ℕ) (group : ℕ → ℕ) (has : ℕ → Bool) (some : 0 < carriers c) (gs : Groups n (2 * c .blocks) group has) where
   pub by-quads :
-      (own : ℕ → Bool) → ((t : ℕ) → own t ≡ inGroup c (symbolAt c t) (carrierAt c t) && has (groupOf c (symbolAt c t) (carrierAt c t)))
+      (own : ℕ → Bool) → ((t : ℕ) → own t ≡ inGroup c (symbolAt c t) (carrierAt c t) && has (elementGroup c (symbolAt c t) (carrierAt c t)))
       → Listed own (placesOf c) (4 * n) (λ (j : ℕ). placeNumber c 0 (quadsPlace c group j)) (λ (t : ℕ). quadsIndex c n group (carrierAt c t))
   by-quads own same =
-      row-listed own (λ (k : ℕ). inGroup c 0 k && has (groupOf c 0 k)) (carriers c) (placesOf c) (4 * n) (quadsPlace c group) (quadsIndex c n group) some (first-row c)
+      row-listed own (λ (k : ℕ). inGroup c 0 k && has (elementGroup c 0 k)) (carriers c) (placesOf c) (4 * n) (quadsPlace c group) (quadsIndex c n group) some (first-row c)
       (λ t. same t ∙ in-first c has (symbolAt c t) (carrierAt c t)) (quads-listed c n group has gs)
 
   at-quads :
-      (s k : ℕ) → k < carriers c → (r : Bool) → r ≡ inGroup c s k && has (groupOf c s k)
+      (s k : ℕ) → k < carriers c → (r : Bool) → r ≡ inGroup c s k && has (elementGroup c s k)
       → (r ≡ true) ↔ ((s ≡ 0) × InQuads c n group k)
   at-quads s k in-k r e = (to, from)
     where
-      exactly : (inGroup c 0 k && has (groupOf c 0 k) ≡ true) ↔ InQuads c n group k
+      exactly : (inGroup c 0 k && has (elementGroup c 0 k) ≡ true) ↔ InQuads c n group k
       exactly = quads-exactly c n group has gs k in-k
 
-      first : r ≡ eqb s 0 && (inGroup c 0 k && has (groupOf c 0 k))
+      first : r ≡ eqb s 0 && (inGroup c 0 k && has (elementGroup c 0 k))
       first = e ∙ in-first c has s k
 
       to : r ≡ true → (s ≡ 0) × InQuads c n group k
       to h =
-          let a = inGroup c 0 k && has (groupOf c 0 k) in
+          let a = inGroup c 0 k && has (elementGroup c 0 k) in
           let both : eqb s 0 && a ≡ true = sym first ∙ h in
           (eqb-true s 0 (and-left (eqb s 0) a both), exactly .0 (and-right (eqb s 0) a both))
 
@@ -128,13 +128,13 @@ module _ (w : List ℕ) (p : Plan) (ok : checkOf w ≡ accepted p) where
   some-carriers = omega (arith, blocks-least w p ok)
 
   -- what the functions require
-  pub ranges : (6 ≤ p .cell .blocks) × (2 * p .cell .blocks < 512) × (unitsOf (p .cell) < 256)
+  pub ranges : (6 ≤ p .cell .blocks) × (2 * p .cell .blocks < 512) × (mappingUnits (p .cell) < 256)
   ranges = (omega (arith, blocks-least w p ok), omega (arith, blocks-most w p ok), omega (arith, blocks-most w p ok, units-fit (p .cell) (sixths-most w p ok) (omega (arith, blocks-least w p ok))))
 
   pub pcfich-groups : Groups 4 (2 * p .cell .blocks) (formatGroup (p .cell)) (isFormat (p .cell))
   pcfich-groups = format-groups (p .cell) (omega (arith, blocks-least w p ok))
 
-  pub phich-groups : (m : ℕ) → m < unitsOf (p .cell) → Groups 3 (2 * p .cell .blocks) (unitGroup (p .cell) m) (unitHas (p .cell) m 0)
+  pub phich-groups : (m : ℕ) → m < mappingUnits (p .cell) → Groups 3 (2 * p .cell .blocks) (quadGroup (p .cell) m) (mappingUnitHas (p .cell) m 0)
   phich-groups m h =
       unit-groups (p .cell) (omega (arith, blocks-least w p ok)) m
       (omega (arith, units-fit (p .cell) (sixths-most w p ok) (omega (arith, blocks-least w p ok))))
@@ -148,23 +148,23 @@ module _ (w : List ℕ) (p : Plan) (ok : checkOf w ≡ accepted p) where
   phich-at m t = refl
 
   pcfich-listed : Listed (ownsAt w p Pcfich) (placesOf (p .cell)) 16 (placeOf w p Pcfich) (indexOf w p Pcfich)
-  unfolding placeOf indexOf placeBy indexBy orderOf
+  unfolding placeOf indexOf placeBy indexBy placeOrder
   pcfich-listed =
       by-quads (p .cell) 4 (formatGroup (p .cell)) (isFormat (p .cell)) some-carriers pcfich-groups (ownsAt w p Pcfich)
       (λ t. pcfich-at t ∙ pcfich-is (p .cell) (symbolAt (p .cell) t) (carrierAt (p .cell) t))
 
   phich-listed :
-      (m : ℕ) → m < unitsOf (p .cell)
+      (m : ℕ) → m < mappingUnits (p .cell)
       → Listed (ownsAt w p (Phich m)) (placesOf (p .cell)) 12 (placeOf w p (Phich m)) (indexOf w p (Phich m))
-  unfolding placeOf indexOf placeBy indexBy orderOf
+  unfolding placeOf indexOf placeBy indexBy placeOrder
   phich-listed m h =
-      by-quads (p .cell) 3 (unitGroup (p .cell) m) (unitHas (p .cell) m 0) some-carriers (phich-groups m h) (ownsAt w p (Phich m))
+      by-quads (p .cell) 3 (quadGroup (p .cell) m) (mappingUnitHas (p .cell) m 0) some-carriers (phich-groups m h) (ownsAt w p (Phich m))
       (λ t. phich-at m t ∙ phich-is (p .cell) m (symbolAt (p .cell) t) (carrierAt (p .cell) t) h)
 
-  no-unit : (m : ℕ) → unitsOf (p .cell) ≤ m → (t : ℕ) → ownsAt w p (Phich m) t ≡ false
+  no-unit : (m : ℕ) → mappingUnits (p .cell) ≤ m → (t : ℕ) → ownsAt w p (Phich m) t ≡ false
   no-unit m h t = phich-at m t ∙ phich-none (p .cell) m (symbolAt (p .cell) t) (carrierAt (p .cell) t) h
 
-  ascending-listed : (o : Owner) → orderOf (p .cell) o ≡ ascending → PlacesListed w p o
+  ascending-listed : (o : Owner) → placeOrder (p .cell) o ≡ ascending → PlacesListed w p o
   unfolding placeOf indexOf placeBy indexBy
   ascending-listed o e =
       let own : ℕ → Bool = ownsAt w p o in
@@ -174,13 +174,13 @@ module _ (w : List ℕ) (p : Plan) (ok : checkOf w ≡ accepted p) where
 
   unit-listed : (m : ℕ) → PlacesListed w p (Phich m)
   unit-listed m =
-      by-test (ltb m (unitsOf (p .cell)))
-      (λ e. counted w p (Phich m) 12 (phich-listed m (ltb-true m (unitsOf (p .cell)) e)))
-      (λ e. counted w p (Phich m) 0 (listed-none (ownsAt w p (Phich m)) (placesOf (p .cell)) (placeOf w p (Phich m)) (indexOf w p (Phich m)) (no-unit m (ltb-false m (unitsOf (p .cell)) e))))
+      by-test (ltb m (mappingUnits (p .cell)))
+      (λ e. counted w p (Phich m) 12 (phich-listed m (ltb-true m (mappingUnits (p .cell)) e)))
+      (λ e. counted w p (Phich m) 0 (listed-none (ownsAt w p (Phich m)) (placesOf (p .cell)) (placeOf w p (Phich m)) (indexOf w p (Phich m)) (no-unit m (ltb-false m (mappingUnits (p .cell)) e))))
 
   -- THE LAW
   pub listed : (o : Owner) → PlacesListed w p o
-  unfolding orderOf
+  unfolding placeOrder
   listed (Crs q) = ascending-listed (Crs q) refl
   listed (Sync m) = ascending-listed (Sync m) refl
   listed Pbch = ascending-listed Pbch refl
@@ -197,8 +197,8 @@ module _ (w : List ℕ) (p : Plan) (ok : checkOf w ≡ accepted p) where
       at-quads (p .cell) 4 (formatGroup (p .cell)) (isFormat (p .cell)) some-carriers pcfich-groups s k in-k (pcfich (p .cell) s k) (pcfich-is (p .cell) s k)
 
   pub phich-exactly :
-      (m : ℕ) → m < unitsOf (p .cell) → (s k : ℕ) → k < carriers (p .cell)
-      → (owns w p (Phich m) s k ≡ true) ↔ ((s ≡ 0) × InQuads (p .cell) 3 (unitGroup (p .cell) m) k)
+      (m : ℕ) → m < mappingUnits (p .cell) → (s k : ℕ) → k < carriers (p .cell)
+      → (owns w p (Phich m) s k ≡ true) ↔ ((s ≡ 0) × InQuads (p .cell) 3 (quadGroup (p .cell) m) k)
   unfolding owns fixedRule
   phich-exactly m h s k in-k =
-      at-quads (p .cell) 3 (unitGroup (p .cell) m) (unitHas (p .cell) m 0) some-carriers (phich-groups m h) s k in-k (phich (p .cell) m s k) (phich-is (p .cell) m s k h)
+      at-quads (p .cell) 3 (quadGroup (p .cell) m) (mappingUnitHas (p .cell) m 0) some-carriers (phich-groups m h) s k in-k (phich (p .cell) m s k) (phich-is (p .cell) m s k h)

@@ -15,7 +15,7 @@ use Rattle.base.proofs.Counts.{cnt-none, cnt-add, cnt-same, cnt-skip, cnt-lt, n
 use Rattle.base.proofs.Tests.{both}
 use Rattle.plan.specs.declared.Cell.{Cell}
 use Rattle.plan.proofs.Listed.{and-left, and-right}
-use Rattle.layout.specs.Rules.{groupOf, inGroup}
+use Rattle.layout.specs.Rules.{elementGroup, inGroup}
 use Rattle.layout.specs.Owners.{carriers}
 use Rattle.places.specs.Quads.{groupHas, quadPlace, quadIndex, quadsPlace, quadsIndex, InQuads}
 
@@ -31,28 +31,28 @@ module _ (c : Cell) (s t j : ℕ) (in-j : j < cnt (groupHas c s t) (carriers c))
 
   place-in : inGroup c s (quadPlace c s t j) ≡ true
   unfolding groupHas
-  place-in = and-left (inGroup c s (quadPlace c s t j)) (eqb (groupOf c s (quadPlace c s t j)) t) place-has
+  place-in = and-left (inGroup c s (quadPlace c s t j)) (eqb (elementGroup c s (quadPlace c s t j)) t) place-has
 
-  group-place : groupOf c s (quadPlace c s t j) ≡ t
+  group-place : elementGroup c s (quadPlace c s t j) ≡ t
   unfolding groupHas
-  group-place = eqb-true _ _ (and-right (inGroup c s (quadPlace c s t j)) (eqb (groupOf c s (quadPlace c s t j)) t) place-has)
+  group-place = eqb-true _ _ (and-right (inGroup c s (quadPlace c s t j)) (eqb (elementGroup c s (quadPlace c s t j)) t) place-has)
 
   index-of-place : quadIndex c s (quadPlace c s t j) ≡ j
   unfolding quadIndex quadPlace
   index-of-place = ap (λ (x : ℕ). cnt (groupHas c s x) (quadPlace c s t j)) group-place ∙ nth-is (groupHas c s t) (carriers c) j in-j .2
 
 module _ (c : Cell) (s k : ℕ) (in-k : k < carriers c) (kept : inGroup c s k ≡ true) where
-  own-group : groupHas c s (groupOf c s k) k ≡ true
+  own-group : groupHas c s (elementGroup c s k) k ≡ true
   unfolding groupHas
-  own-group = both kept (eq-eqb (groupOf c s k) (groupOf c s k) refl)
+  own-group = both kept (eq-eqb (elementGroup c s k) (elementGroup c s k) refl)
 
-  index-below : quadIndex c s k < cnt (groupHas c s (groupOf c s k)) (carriers c)
+  index-below : quadIndex c s k < cnt (groupHas c s (elementGroup c s k)) (carriers c)
   unfolding quadIndex
-  index-below = cnt-lt (groupHas c s (groupOf c s k)) k (carriers c) own-group in-k
+  index-below = cnt-lt (groupHas c s (elementGroup c s k)) k (carriers c) own-group in-k
 
-  pub index-place : quadPlace c s (groupOf c s k) (quadIndex c s k) ≡ k
+  pub index-place : quadPlace c s (elementGroup c s k) (quadIndex c s k) ≡ k
   unfolding quadPlace quadIndex
-  index-place = nth-of (groupHas c s (groupOf c s k)) (carriers c) k own-group in-k
+  index-place = nth-of (groupHas c s (elementGroup c s k)) (carriers c) k own-group in-k
 
 -- ---- the four places of a group of symbol 0: of six subcarriers all but two, v is C mod 3
 abbrev keeps : ℕ → ℕ → Bool
@@ -67,14 +67,14 @@ module _ (c : Cell) (t : ℕ) (in-t : t < 2 * c .blocks) where
   v = c .identity % 3
 
   in-six : (r : ℕ) → r < 6 → groupHas c 0 t (6 * t + r) ≡ keeps v r
-  unfolding groupHas inGroup groupOf
+  unfolding groupHas inGroup elementGroup
   in-six r h =
       let e : (6 * t + r) % 3 ≡ r % 3 = omega arith in
       let d : (6 * t + r) / 6 ≡ t = omega arith in
       rw (e, eq-eqb _ _ d) (and-true (keeps v r))
 
   outside : (k : ℕ) → (k / 6 ≡ t → ⊥) → groupHas c 0 t k ≡ false
-  unfolding groupHas groupOf
+  unfolding groupHas elementGroup
   outside k n = rw (ne-eqb (k / 6) t n) (and-false (inGroup c 0 k))
 
   up-to : (d : ℕ) → d ≤ 6 → cnt (groupHas c 0 t) (6 * t + d) ≡ cnt (keeps v) d
@@ -98,7 +98,7 @@ module _ (c : Cell) (t : ℕ) (in-t : t < 2 * c .blocks) where
     small : j < cnt (groupHas c 0 t) (carriers c)
     small = omega (arith, four)
 
-    pub place-group : groupOf c 0 (quadPlace c 0 t j) ≡ t
+    pub place-group : elementGroup c 0 (quadPlace c 0 t j) ≡ t
     place-group = group-place c 0 t j small
 
     pub place-kept : inGroup c 0 (quadPlace c 0 t j) ≡ true
@@ -111,12 +111,12 @@ module _ (c : Cell) (t : ℕ) (in-t : t < 2 * c .blocks) where
     place-index = index-of-place c 0 t j small
 
 -- the group of a subcarrier of the grid, and its index there
-pub group-below : (c : Cell) (k : ℕ) → k < carriers c → groupOf c 0 k < 2 * c .blocks
-unfolding groupOf
+pub group-below : (c : Cell) (k : ℕ) → k < carriers c → elementGroup c 0 k < 2 * c .blocks
+unfolding elementGroup
 group-below c k h = omega arith
 
 pub index-small : (c : Cell) (k : ℕ) → k < carriers c → inGroup c 0 k ≡ true → quadIndex c 0 k < 4
-index-small c k h e = omega (arith, index-below c 0 k h e, four c (groupOf c 0 k) (group-below c k h))
+index-small c k h e = omega (arith, index-below c 0 k h e, four c (elementGroup c 0 k) (group-below c k h))
 
 -- the j-th place by its offset: two of each three subcarriers
 unfoldable offset : ℕ → ℕ → ℕ
@@ -151,7 +151,7 @@ pub record Groups (n H : ℕ) (group : ℕ → ℕ) (has : ℕ → Bool) : Type 
 
 module _ (c : Cell) (n : ℕ) (group : ℕ → ℕ) (has : ℕ → Bool) (gs : Groups n (2 * c .blocks) group has) where
   abbrev pub rule : ℕ → Bool
-  rule k = inGroup c 0 k && has (groupOf c 0 k)
+  rule k = inGroup c 0 k && has (elementGroup c 0 k)
 
   module _ (j : ℕ) (in-j : j < 4 * n) where
     in-quad : j % 4 < 4
@@ -160,7 +160,7 @@ module _ (c : Cell) (n : ℕ) (group : ℕ → ℕ) (has : ℕ → Bool) (gs : G
     quad : j / 4 < n
     quad = omega arith
 
-    of-group : groupOf c 0 (quadsPlace c group j) ≡ group (j / 4)
+    of-group : elementGroup c 0 (quadsPlace c group j) ≡ group (j / 4)
     unfolding quadsPlace
     of-group = place-group c (group (j / 4)) (gs .small (j / 4) quad) (j % 4) in-quad
 
@@ -185,12 +185,12 @@ module _ (c : Cell) (n : ℕ) (group : ℕ → ℕ) (has : ℕ → Bool) (gs : G
 
   module _ (k : ℕ) (in-k : k < carriers c) (e : rule k ≡ true) where
     kept : inGroup c 0 k ≡ true
-    kept = and-left (inGroup c 0 k) (has (groupOf c 0 k)) e
+    kept = and-left (inGroup c 0 k) (has (elementGroup c 0 k)) e
 
-    found : (i : ℕ) × (i < n) × (group i ≡ groupOf c 0 k)
-    found = gs .some (groupOf c 0 k) (group-below c k in-k) (and-right (inGroup c 0 k) (has (groupOf c 0 k)) e)
+    found : (i : ℕ) × (i < n) × (group i ≡ elementGroup c 0 k)
+    found = gs .some (elementGroup c 0 k) (group-below c k in-k) (and-right (inGroup c 0 k) (has (elementGroup c 0 k)) e)
 
-    which-one : which group n (groupOf c 0 k) ≡ found .0
+    which-one : which group n (elementGroup c 0 k) ≡ found .0
     which-one = ap (which group n) (sym (found .2)) ∙ which-is group n (gs .apart) (found .0) (found .1)
 
     below : quadsIndex c n group k < 4 * n
@@ -200,7 +200,7 @@ module _ (c : Cell) (n : ℕ) (group : ℕ → ℕ) (has : ℕ → Bool) (gs : G
     again : quadsPlace c group (quadsIndex c n group k) ≡ k
     unfolding quadsPlace quadsIndex
     again =
-        let q = which group n (groupOf c 0 k) in
+        let q = which group n (elementGroup c 0 k) in
         let r = quadIndex c 0 k in
         let d : (4 * q + r) / 4 ≡ q = omega (arith, index-small c k in-k kept) in
         let m : (4 * q + r) % 4 ≡ r = omega (arith, index-small c k in-k kept) in
@@ -224,7 +224,7 @@ module _ (c : Cell) (n : ℕ) (group : ℕ → ℕ) (has : ℕ → Bool) (gs : G
   -- no two quads have a place in common, and no two places of a quad are one
   pub quads-apart : (i i′ j j′ : ℕ) → i < n → i′ < n → j < 4 → j′ < 4 → quadPlace c 0 (group i) j ≡ quadPlace c 0 (group i′) j′ → (i ≡ i′) × (j ≡ j′)
   quads-apart i i′ j j′ a a′ b b′ e = (
-    gs .apart i i′ a a′ (sym (place-group c (group i) (gs .small i a) j b) ∙ ap (groupOf c 0) e ∙ place-group c (group i′) (gs .small i′ a′) j′ b′),
+    gs .apart i i′ a a′ (sym (place-group c (group i) (gs .small i a) j b) ∙ ap (elementGroup c 0) e ∙ place-group c (group i′) (gs .small i′ a′) j′ b′),
     sym (place-index c (group i) (gs .small i a) j b) ∙ ap (quadIndex c 0) e ∙ place-index c (group i′) (gs .small i′ a′) j′ b′,
   )
 

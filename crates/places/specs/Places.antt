@@ -5,7 +5,7 @@ use mathlib.Core.Bool.{Bool}
 use mathlib.Core.List.{List}
 use Rattle.plan.specs.declared.Cell.{Cell}
 use Rattle.plan.specs.declared.Plan.{Plan}
-use Rattle.layout.specs.Rules.{formatGroup, unitGroup}
+use Rattle.layout.specs.Rules.{formatGroup, quadGroup}
 use Rattle.layout.specs.Owners.{symbols, carriers, owns}
 use Rattle.layout.specs.declared.Owner.{Owner}
 use Rattle.layout.specs.declared.Owner.the-variants.{Crs, Sync, Pbch, Pcfich, Phich, User as UserOf, Held, Idle}
@@ -35,15 +35,15 @@ pub data FillingOrder : Type 0 where
   ascending : FillingOrder
   quads : ℕ → (ℕ → ℕ) → FillingOrder
 
-unfoldable pub orderOf : Cell → Owner → FillingOrder
-orderOf c (Crs q) = ascending
-orderOf c (Sync m) = ascending
-orderOf c Pbch = ascending
-orderOf c Pcfich = quads 4 (formatGroup c)
-orderOf c (Phich m) = quads 3 (unitGroup c m)
-orderOf c (UserOf i) = ascending
-orderOf c Held = ascending
-orderOf c Idle = ascending
+unfoldable pub placeOrder : Cell → Owner → FillingOrder
+placeOrder c (Crs q) = ascending
+placeOrder c (Sync m) = ascending
+placeOrder c Pbch = ascending
+placeOrder c Pcfich = quads 4 (formatGroup c)
+placeOrder c (Phich m) = quads 3 (quadGroup c m)
+placeOrder c (UserOf i) = ascending
+placeOrder c Held = ascending
+placeOrder c Idle = ascending
 
 unfoldable pub placeBy : Cell → (ℕ → Bool) → FillingOrder → ℕ → ℕ
 placeBy c own ascending j = nth own (placesOf c) j
@@ -55,10 +55,10 @@ indexBy c own (quads n group) t = quadsIndex c n group (carrierAt c t)
 
 -- THE PLACE of the owner's index j, and the index of its place t
 unfoldable pub placeOf : List ℕ → Plan → Owner → ℕ → ℕ
-placeOf w p o j = placeBy (p .cell) (ownsAt w p o) (orderOf (p .cell) o) j
+placeOf w p o j = placeBy (p .cell) (ownsAt w p o) (placeOrder (p .cell) o) j
 
 unfoldable pub indexOf : List ℕ → Plan → Owner → ℕ → ℕ
-indexOf w p o t = indexBy (p .cell) (ownsAt w p o) (orderOf (p .cell) o) t
+indexOf w p o t = indexBy (p .cell) (ownsAt w p o) (placeOrder (p .cell) o) t
 
 -- the two undo each other on the owner's places and on the indices below its count. proofs/Listing.antt: so for every owner of an
 -- accepted plan

@@ -6,19 +6,19 @@ use mathlib.Core.Bool.{Bool, _&&_}
 use lib.Dec.{eqb}
 use Rattle.base.specs.Counts.{cnt, nth, which}
 use Rattle.plan.specs.declared.Cell.{Cell}
-use Rattle.layout.specs.Rules.{groupOf, inGroup}
+use Rattle.layout.specs.Rules.{elementGroup, inGroup}
 use Rattle.layout.specs.Owners.{carriers}
 
 -- k is one of the four places of group t
 unfoldable pub groupHas : Cell → ℕ → ℕ → ℕ → Bool
-groupHas c s t k = inGroup c s k && eqb (groupOf c s k) t
+groupHas c s t k = inGroup c s k && eqb (elementGroup c s k) t
 
 -- the subcarrier of its j-th place, in ascending k (36.211 6.2.4), and which of its group's places k is
 unfoldable pub quadPlace : Cell → ℕ → ℕ → ℕ → ℕ
 quadPlace c s t j = nth (groupHas c s t) (carriers c) j
 
 unfoldable pub quadIndex : Cell → ℕ → ℕ → ℕ
-quadIndex c s k = cnt (groupHas c s (groupOf c s k)) k
+quadIndex c s k = cnt (groupHas c s (elementGroup c s k)) k
 
 -- a channel of n quads, quad i in group `group i` of symbol 0: the subcarrier of its index j, which is 4 × quad + position in the
 -- group, and the index of subcarrier k
@@ -26,7 +26,7 @@ unfoldable pub quadsPlace : Cell → (ℕ → ℕ) → ℕ → ℕ
 quadsPlace c group j = quadPlace c 0 (group (j / 4)) (j % 4)
 
 unfoldable pub quadsIndex : Cell → ℕ → (ℕ → ℕ) → ℕ → ℕ
-quadsIndex c n group k = 4 * which group n (groupOf c 0 k) + quadIndex c 0 k
+quadsIndex c n group k = 4 * which group n (elementGroup c 0 k) + quadIndex c 0 k
 
 -- k is a place of one of its quads
 abbrev pub InQuads : Cell → ℕ → (ℕ → ℕ) → ℕ → Type 0

@@ -2,7 +2,7 @@
 // functions here are for the channels whose order is not that of the grid: PCFICH and the PHICH units, which go quad by quad.
 ghost use mathlib.Core.Path.{_≡_};
 ghost use Prim.Native.Nat.{ℕ, _+_, _*_, _≤_, _<_};
-ghost use Rattle.layout.specs.Rules.{unitNumber, unitGroup};
+ghost use Rattle.layout.specs.Rules.{quadNumber, quadGroup};
 ghost use Rattle.places.specs.Quads.{quadPlace};
 ghost use Rattle.places.specs.Steps.{stepOf};
 use plan::Cell;
@@ -10,7 +10,7 @@ use plan::Cell;
 // The number that quad i of PHICH unit m takes, of the groups left.
 fn unit_number(cell: Cell, m: usize, i: usize) -> usize
     requires { ⌜ (6 ≤ cell .blocks) × (m < 256) × (i < 3) ⌝ }
-    ensures { λ r. ⌜ (r ≡ unitNumber cell m i) × (r < 512) ⌝ }
+    ensures { λ r. ⌜ (r ≡ quadNumber cell m i) × (r < 512) ⌝ }
 {
     let h = layout::groups_left(cell);
     ((cell.identity as usize) + m + i * h / 3) % h
@@ -27,7 +27,7 @@ fn step(a: usize, b: usize, c: usize, d: usize, n: usize, t: usize) -> usize
 // The group of quad i of PHICH unit m. Every accepted plan has 15 blocks or more, and 25 units at most.
 pub fn unit_group(cell: Cell, m: usize, i: usize) -> usize
     requires { ⌜ (6 ≤ cell .blocks) × (m < 256) × (i < 3) ⌝ }
-    ensures { λ r. ⌜ r ≡ unitGroup cell m i ⌝ }
+    ensures { λ r. ⌜ r ≡ quadGroup cell m i ⌝ }
 {
     let a = layout::format_group(cell, 0);
     let b = layout::format_group(cell, 1);

@@ -15,7 +15,7 @@ use Rattle.base.proofs.Tests.{both}
 use Rattle.bitset.specs.Sets.{member, meet}
 use Rattle.plan.specs.Lists.{oneOf, noneOf, Every}
 use Rattle.plan.specs.Commands.{commandOf}
-use Rattle.plan.specs.Fields.{widths, portCounts, sixthCounts, orders, groupsOf, sequencesOf, samePair, clash}
+use Rattle.plan.specs.Fields.{widths, portCounts, sixthCounts, orders, phichGroups, sequencesOf, samePair, clash}
 use Rattle.plan.specs.Finding.{demand, cellCause, frameCause, hiCause, sameRnti, sharesBlock, userCause}
 use Rattle.plan.specs.Loops.{brokenFor, lateFor, lateCause, pairOf, PairsUsed, blocksOf, UsersUsed}
 use Rattle.plan.specs.Valid.{CellIn, FrameIn, HiIn, UserIn}
@@ -84,7 +84,7 @@ frame-in f e =
     }
 
 -- ---- HI
-module _ (c : Cell) (h : Hi) {g : ℕ} (eg : g ≡ groupsOf c) where
+module _ (c : Cell) (h : Hi) {g : ℕ} (eg : g ≡ phichGroups c) where
   pub hi-group : g ≤ h .group → (hs : List Hi) → Is Group ≡ hiCause c hs h
   unfolding hiCause
   hi-group k hs = rw (← eg, le-ltb _ _ k) refl
@@ -106,7 +106,7 @@ module _ (c : Cell) (h : Hi) {g : ℕ} (eg : g ≡ groupsOf c) where
 pub hi-passed : (c : Cell) (hs : List Hi) (h : Hi) → Nothing ≡ hiCause c hs h → HiIn c h × (noneOf (samePair h) hs ≡ true)
 unfolding hiCause
 hi-passed c hs h e =
-    let t₁ = passed (ltb (h .group) (groupsOf c)) Group _ e in
+    let t₁ = passed (ltb (h .group) (phichGroups c)) Group _ e in
     let t₂ = passed (ltb (h .sequence) (sequencesOf c)) Sequence _ (t₁ .1) in
     (record { group = ltb-true _ _ (t₁ .0); sequence = ltb-true _ _ (t₂ .0) }, passed (noneOf (samePair h) hs) PairUsed _ (t₂ .1) .0)
 

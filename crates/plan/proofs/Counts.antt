@@ -8,7 +8,7 @@ use native.Mathlib.Omega.{arith}
 use lib.Dec.{leb, leb→le, eqb}
 use lib.ListN.{length}
 use Rattle.plan.specs.Lists.{Every, Apart}
-use Rattle.plan.specs.Fields.{widths, portCounts, sixthCounts, unitsOf, groupsOf, sequencesOf}
+use Rattle.plan.specs.Fields.{widths, portCounts, sixthCounts, mappingUnits, phichGroups, sequencesOf}
 use Rattle.plan.specs.Check.{checkOf}
 use Rattle.plan.specs.Rows.{hisOf, usersOf}
 use Rattle.plan.specs.Valid.{CellIn, HiIn, UserIn, OtherPair, Disjoint}
@@ -42,32 +42,32 @@ module _ (c : Cell) (h : CellIn c) where
   pub sixths-most : c .sixths ≤ 12
   sixths-most = leb→le (c .sixths) 12 (among-holds (λ (n : ℕ). leb n 12) sixthCounts (c .sixths) tt (h .sixths))
 
-  pub units-most : unitsOf c ≤ 25
-  unfolding unitsOf
+  pub units-most : mappingUnits c ≤ 25
+  unfolding mappingUnits
   units-most =
       let product : c .sixths * c .blocks ≤ 12 * 100 = mul-le-mul sixths-most blocks-most in
       omega arith
 
-  pub units-least : 1 ≤ unitsOf c
-  unfolding unitsOf
+  pub units-least : 1 ≤ mappingUnits c
+  unfolding mappingUnits
   units-least =
       let product : 1 * 15 ≤ c .sixths * c .blocks = mul-le-mul sixths-least blocks-least in
       omega arith
 
-  pub groups-most : groupsOf c ≤ 50
-  unfolding groupsOf
-  groups-most = choose (λ (n : ℕ). n ≤ 50) (eqb (c .prefix) 1) (2 * unitsOf c) (unitsOf c) (λ t. omega (arith, units-most)) (λ t. omega (arith, units-most))
+  pub groups-most : phichGroups c ≤ 50
+  unfolding phichGroups
+  groups-most = choose (λ (n : ℕ). n ≤ 50) (eqb (c .prefix) 1) (2 * mappingUnits c) (mappingUnits c) (λ t. omega (arith, units-most)) (λ t. omega (arith, units-most))
 
   pub sequences-most : sequencesOf c ≤ 8
   unfolding sequencesOf
   sequences-most = choose (λ (n : ℕ). n ≤ 8) (eqb (c .prefix) 1) 4 8 (λ t. omega arith) (λ t. omega arith)
 
   -- the pairs (group, sequence)
-  pub pairs-most : groupsOf c * sequencesOf c ≤ 200
-  unfolding groupsOf sequencesOf
+  pub pairs-most : phichGroups c * sequencesOf c ≤ 200
+  unfolding phichGroups sequencesOf
   pairs-most = by (eqb (c .prefix) 1)
     where
-      by : (t : Bool) → cond t (2 * unitsOf c) (unitsOf c) * cond t 4 8 ≤ 200
+      by : (t : Bool) → cond t (2 * mappingUnits c) (mappingUnits c) * cond t 4 8 ≤ 200
       by true = omega (arith, units-most)
       by false = omega (arith, units-most)
 
@@ -105,15 +105,15 @@ few-users c us all apart =
     (apart-imp (UserIn c) Disjoint (Keys (λ (u : User). u .first)) (λ u t i j d z. d .blocks (u .first) (omega (arith, i .some)) (omega (arith, j .some))) us all apart)
 
 module _ (w : List ℕ) (p : Plan) (r : checkOf w ≡ accepted p) where
-  pub his-few : p .his .count ≤ groupsOf (p .cell) * sequencesOf (p .cell)
+  pub his-few : p .his .count ≤ phichGroups (p .cell) * sequencesOf (p .cell)
   his-few =
       let v = valid w p r in
       let q = sequencesOf (p .cell) in
-      let all : Every (λ (h : Hi). numbered q h < groupsOf (p .cell) * q) (hisOf w p) =
-      every-imp (HiIn (p .cell)) (λ (h : Hi). numbered q h < groupsOf (p .cell) * q) (λ h i. numbers (p .cell) .below (groupsOf (p .cell)) h (i .group) (i .sequence)) (hisOf w p) (v .his) in
+      let all : Every (λ (h : Hi). numbered q h < phichGroups (p .cell) * q) (hisOf w p) =
+      every-imp (HiIn (p .cell)) (λ (h : Hi). numbered q h < phichGroups (p .cell) * q) (λ h i. numbers (p .cell) .below (phichGroups (p .cell)) h (i .group) (i .sequence)) (hisOf w p) (v .his) in
       let apart : Apart (Keys (numbered q)) (hisOf w p) =
       apart-imp (HiIn (p .cell)) OtherPair (Keys (numbered q)) (λ h e i j d. numbers (p .cell) .other h e (i .sequence) (j .sequence) d) (hisOf w p) (v .his) (v .pairs) in
-      omega (arith, few (numbered q) (groupsOf (p .cell) * q) (hisOf w p) all apart, v .his-count)
+      omega (arith, few (numbered q) (phichGroups (p .cell) * q) (hisOf w p) all apart, v .his-count)
 
   pub his-most : p .his .count ≤ 200
   his-most = omega (arith, his-few, pairs-most (p .cell) (valid w p r .cell))

@@ -11,7 +11,7 @@ use borrow.Author.Tests.{eq-eqb}
 use Rattle.base.proofs.Tests.{both}
 use Rattle.plan.specs.Lists.{oneOf, noneOf}
 use Rattle.plan.specs.Commands.{byte, hiOf, userOf, sizeOf, commandOf, commandsAfter, commands}
-use Rattle.plan.specs.Fields.{orders, groupsOf, sequencesOf, samePair}
+use Rattle.plan.specs.Fields.{orders, phichGroups, sequencesOf, samePair}
 use Rattle.plan.specs.Check.{State, begin, stateAfter, planOf}
 use Rattle.plan.specs.Finding.{demand, cellCause, frameCause, hiCause, sameRnti, sharesBlock, userCause, brokenCause, inOrder, fieldCause, causeAt, causeOf, refusedAt, stopAt, walkFrom, walkOf}
 use Rattle.plan.specs.Finding.{sharedBy, clashes, firstFrom, earlierOf, findingAt, explainedBy, findingOf, EarlierIs, EarlierNamed}
@@ -118,7 +118,7 @@ module _ (P : Shared → Type 0) where
     on-hi : (c : Cell) (hs : List Hi) (h : Hi) → (noneOf (samePair h) hs ≡ false → P Pair) → P (sharedIn (hiCause c hs h))
     unfolding hiCause
     on-hi c hs h p =
-        on-demand (ltb (h .group) (groupsOf c)) Group _ (λ q. a)
+        on-demand (ltb (h .group) (phichGroups c)) Group _ (λ q. a)
         (on-demand (ltb (h .sequence) (sequencesOf c)) Sequence _ (λ q. a)
         (on-demand (noneOf (samePair h) hs) PairUsed faultless p a))
 

@@ -9,7 +9,7 @@ mod FieldLaws
 mod CauseLaws
 mod Kept
 pub mod Verdict
-mod Turns
+mod OneCommand
 mod Opening
 pub mod Valid
 pub mod Counts

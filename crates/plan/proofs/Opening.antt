@@ -26,7 +26,7 @@ use Rattle.plan.specs.declared.Walked.the-variants.{Refused}
 use Rattle.plan.proofs.Command.{the-type}
 use Rattle.plan.proofs.OneOf.{not-in}
 use Rattle.plan.proofs.Entries.{told}
-use Rattle.plan.proofs.Turns.{stopped, turned, fits, late}
+use Rattle.plan.proofs.OneCommand.{stopped, turned, fits, late}
 
 -- ---- before CELL
 module _ (w : List ℕ) where

@@ -26,9 +26,9 @@ use Rattle.plan.specs.declared.Walked.the-variants.{Refused}
 use Rattle.plan.proofs.Entries.{told}
 use Rattle.plan.proofs.Reading.{no-hi-stands, no-user-stands}
 use Rattle.plan.proofs.RowLaws.{row-length, past-none}
-use Rattle.plan.proofs.Turns.{Standing, standing-first, on-no-lists}
-use Rattle.plan.proofs.Turns.{hi-refused, hi-next, hi-room, standing-hi, on-more-his, hi-turn}
-use Rattle.plan.proofs.Turns.{user-refused, user-next, user-room, standing-user, on-more-users, user-turn}
+use Rattle.plan.proofs.OneCommand.{Standing, standing-first, on-no-lists}
+use Rattle.plan.proofs.OneCommand.{hi-refused, hi-next, hi-room, standing-hi, on-more-his, hi-turn}
+use Rattle.plan.proofs.OneCommand.{user-refused, user-next, user-room, standing-user, on-more-users, user-turn}
 use Rattle.plan.proofs.CauseLaws.{hi-passed, user-passed}
 use Rattle.plan.proofs.Kept.{Kept, kept-first, kept-user}
 use Rattle.plan.proofs.Counts.{blocks-most, few-users}

@@ -33,8 +33,8 @@ use Rattle.plan.proofs.RowLaws.{row-length}
 use Rattle.plan.proofs.Kept.{Kept, kept-first, kept-hi, kept-user}
 use Rattle.plan.proofs.CauseLaws.{passed, cell-in, frame-in}
 use Rattle.plan.proofs.Verdict.{accepted-both}
-use Rattle.plan.proofs.Turns.{fits, late, stage-first, stage-second, stage-last, Standing, standing-first, on-no-lists, end-room, end-turn, not-last, last}
-use Rattle.plan.proofs.Turns.{hi-refused, standing-hi, on-more-his, hi-next, hi-turn, user-refused, standing-user, on-more-users, user-next, user-turn}
+use Rattle.plan.proofs.OneCommand.{fits, late, stage-first, stage-second, stage-last, Standing, standing-first, on-no-lists, end-room, end-turn, not-last, last}
+use Rattle.plan.proofs.OneCommand.{hi-refused, standing-hi, on-more-his, hi-next, hi-turn, user-refused, standing-user, on-more-users, user-next, user-turn}
 use Rattle.plan.proofs.Opening.{cell-refused, cell-turn, frame-room, frame-refused, frame-turn}
 
 -- ---- answers

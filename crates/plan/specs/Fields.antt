@@ -34,11 +34,11 @@ unfoldable pub frameOk : Frame → Bool
 frameOk f = leb (f .number) 1023 && leb (f .subframe) 9 && leb 1 (f .cfi) && leb (f .cfi) 3
 
 -- document 01's units: "PHICH: ceil(gN/48) groups (extended twice that); normal unit = group, extended unit = groups 2m, 2m+1"
-unfoldable pub unitsOf : Cell → ℕ
-unitsOf c = (c .sixths * c .blocks + 47) / 48
+unfoldable pub mappingUnits : Cell → ℕ
+mappingUnits c = (c .sixths * c .blocks + 47) / 48
 
-unfoldable pub groupsOf : Cell → ℕ
-groupsOf c = cond (eqb (c .prefix) 1) (2 * unitsOf c) (unitsOf c)
+unfoldable pub phichGroups : Cell → ℕ
+phichGroups c = cond (eqb (c .prefix) 1) (2 * mappingUnits c) (mappingUnits c)
 
 -- "sequences 0–7, extended 0–3"
 unfoldable pub sequencesOf : Cell → ℕ
@@ -46,7 +46,7 @@ sequencesOf c = cond (eqb (c .prefix) 1) 4 8
 
 -- "5 HI group or sequence beyond the count, or pair used before": the first part, and two HIs of one pair
 unfoldable pub hiOk : Cell → Hi → Bool
-hiOk c h = ltb (h .group) (groupsOf c) && ltb (h .sequence) (sequencesOf c)
+hiOk c h = ltb (h .group) (phichGroups c) && ltb (h .sequence) (sequencesOf c)
 
 unfoldable pub samePair : Hi → Hi → Bool
 samePair h e = eqb (h .group) (e .group) && eqb (h .sequence) (e .sequence)

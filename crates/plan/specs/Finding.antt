@@ -10,7 +10,7 @@ use lib.Dec.{leb, ltb, eqb}
 use lib.ListN.{drop}
 use Rattle.plan.specs.Lists.{oneOf, noneOf}
 use Rattle.plan.specs.Commands.{byte, hiOf, userOf, Entry, entries, sizeOf, commands}
-use Rattle.plan.specs.Fields.{widths, portCounts, sixthCounts, orders, groupsOf, sequencesOf, samePair}
+use Rattle.plan.specs.Fields.{widths, portCounts, sixthCounts, orders, phichGroups, sequencesOf, samePair}
 use Rattle.plan.specs.Check.{State, begin, due, stateAfter, planOf}
 use Rattle.plan.specs.Rows.{past, nextOf}
 use Rattle.plan.specs.declared.Cell.{Cell}
@@ -90,7 +90,7 @@ frameCause f =
 -- "5 HI group or sequence beyond the count, or pair used before", by the HIs before
 unfoldable pub hiCause : Cell → List Hi → Hi → Reason
 hiCause c his h =
-    demand (ltb (h .group) (groupsOf c)) Group
+    demand (ltb (h .group) (phichGroups c)) Group
     (demand (ltb (h .sequence) (sequencesOf c)) Sequence
     (demand (noneOf (samePair h) his) PairUsed Nothing))
 

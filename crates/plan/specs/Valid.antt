@@ -4,7 +4,7 @@ use mathlib.Core.Path.{_≡_}
 use mathlib.Core.List.{List, [], _∷_}
 use lib.ListN.{length, drop}
 use Rattle.plan.specs.Lists.{Among, Every, Apart}
-use Rattle.plan.specs.Fields.{widths, portCounts, sixthCounts, orders, groupsOf, sequencesOf}
+use Rattle.plan.specs.Fields.{widths, portCounts, sixthCounts, orders, phichGroups, sequencesOf}
 use Rattle.plan.specs.Rows.{past, hisOf, usersOf}
 use Rattle.plan.specs.declared.Cell.{Cell}
 use Rattle.plan.specs.declared.Frame.{Frame}
@@ -26,7 +26,7 @@ pub record FrameIn (f : Frame) : Type 0 where
   pub most : f .cfi ≤ 3
 
 pub record HiIn (c : Cell) (h : Hi) : Type 0 where
-  pub group : h .group < groupsOf c
+  pub group : h .group < phichGroups c
   pub sequence : h .sequence < sequencesOf c
 
 pub record UserIn (c : Cell) (u : User) : Type 0 where

@@ -7,7 +7,7 @@ ghost use mathlib.Core.List.{List};
 ghost use lib.ListN.{length, drop};
 ghost use Rattle.plan.specs.Lists.{oneOf};
 ghost use Rattle.plan.specs.Commands.{byte, cellOf, frameOf, hiOf, userOf, entryFor, commandOf};
-ghost use Rattle.plan.specs.Fields.{unitsOf, groupsOf, sequencesOf, samePair};
+ghost use Rattle.plan.specs.Fields.{mappingUnits, phichGroups, sequencesOf, samePair};
 ghost use Rattle.plan.specs.Check.{refusalNumber, checkOf, refusalOf};
 ghost use Rattle.plan.specs.Rows.{nextOf};
 ghost use Rattle.plan.specs.Valid.{CellIn};
@@ -432,14 +432,14 @@ fn broken_cause(plan: &[u8], at: usize) -> Cause
 
 // The number of PHICH units of a cell.
 pub fn units(c: Cell) -> usize
-    ensures { λ r. ⌜ r ≡ unitsOf c ⌝ }
+    ensures { λ r. ⌜ r ≡ mappingUnits c ⌝ }
 {
     ((c.sixths as usize) * (c.blocks as usize) + 47) / 48
 }
 
 // The number of PHICH groups of a cell.
 pub fn groups(c: Cell) -> usize
-    ensures { λ r. ⌜ r ≡ groupsOf c ⌝ }
+    ensures { λ r. ⌜ r ≡ phichGroups c ⌝ }
 {
     if c.prefix == 1 {
         2 * units(c)

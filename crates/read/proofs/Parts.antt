@@ -12,7 +12,7 @@ use Rattle.base.proofs.Tests.{by-test}
 use Rattle.plan.specs.Rows.{usersOf, nthUser}
 use Rattle.plan.specs.declared.Plan.{Plan}
 use Rattle.payload.specs.Sections.{sectionBytes, bytesOf, startOf}
-use Rattle.payload.specs.Payload.{pbchBits, userBits, heads, sections, payloadLength, usersStart}
+use Rattle.payload.specs.Payload.{pbchBitCount, userBitCount, heads, sections, payloadLength, usersStart}
 use Rattle.payload.proofs.Sections.{userStart, user-number}
 use Rattle.recovery.specs.Recovery.{pbchBit, ackBit, userBit, sectionOf, sectionBit, payloadIn}
 use Rattle.recovery.proofs.Sections.{sections-part}
@@ -58,20 +58,20 @@ module _ (w : List ℕ) (p : Plan) (g : List ℕ) where
       let m : end - start ≡ sectionBytes (getD (sections w p) k 0) = omega arith in
       ap₂ (λ (x y : ℕ). take x (drop y (payloadIn w p g))) m es ∙ sections-part (sectionBit w p g) (sections w p) k l
 
-  pub pbch-part : (end : ℕ) → end ≡ sectionBytes (pbchBits (p .cell) (p .frame)) → take (end - 0) (drop 0 (payloadIn w p g)) ≡ sectionOf (pbchBit w p g) (pbchBits (p .cell) (p .frame))
+  pub pbch-part : (end : ℕ) → end ≡ sectionBytes (pbchBitCount (p .cell) (p .frame)) → take (end - 0) (drop 0 (payloadIn w p g)) ≡ sectionOf (pbchBit w p g) (pbchBitCount (p .cell) (p .frame))
   unfolding sections heads startOf bytesOf sectionBit
   pbch-part end ee = section-part 0 0 end (omega arith) refl (omega arith)
 
   pub acks-part :
-      (start end : ℕ) → start ≡ sectionBytes (pbchBits (p .cell) (p .frame)) → end ≡ usersStart p
+      (start end : ℕ) → start ≡ sectionBytes (pbchBitCount (p .cell) (p .frame)) → end ≡ usersStart p
       → take (end - start) (drop start (payloadIn w p g)) ≡ sectionOf (ackBit w p g) (p .his .count)
   unfolding usersStart sections heads startOf bytesOf sectionBit
   acks-part start end es ee = section-part 1 start end (omega arith) (omega arith) (omega arith)
 
   pub user-part :
       (i : ℕ) → i < length (usersOf w p) → (start end : ℕ) → start ≡ userStart w p i
-      → end ≡ start + sectionBytes (userBits w p i)
-      → take (end - start) (drop start (payloadIn w p g)) ≡ sectionOf (userBit w p g i (nthUser w p i)) (userBits w p i)
+      → end ≡ start + sectionBytes (userBitCount w p i)
+      → take (end - start) (drop start (payloadIn w p g)) ≡ sectionOf (userBit w p g i (nthUser w p i)) (userBitCount w p i)
   unfolding heads sectionBit
   user-part i in-i start end es ee =
       let k : ℕ = length (heads p) + i in

@@ -22,7 +22,7 @@ use Rattle.layout.specs.Owners.{symbols}
 use Rattle.layout.specs.declared.Mark.{Mark}
 use Rattle.layout.specs.declared.Mark.the-variants.{Primary, Secondary}
 use Rattle.payload.specs.Sections.{sectionBytes, bytesOf}
-use Rattle.payload.specs.Payload.{pbchBits, userBits, heads, payloadLength, usersStart}
+use Rattle.payload.specs.Payload.{pbchBitCount, userBitCount, heads, payloadLength, usersStart}
 use Rattle.payload.proofs.Lengths.{pbch-none}
 use Rattle.payload.proofs.Sections.{userStart, user-start, user-start-end}
 use Rattle.subframe.proofs.OwnerBits.{pbch-size, user-order}
@@ -60,7 +60,7 @@ module _ {w : List ℕ} {p : Plan} {g before : List ℕ} (start : Readable w p g
 
   -- the bytes of PBCH's section
   abbrev H : ℕ
-  H = sectionBytes (pbchBits (p .cell) (p .frame))
+  H = sectionBytes (pbchBitCount (p .cell) (p .frame))
 
   -- ---- the HIs, before the first turn
   pub acks-begin : CellIn (p .cell) × FrameIn (p .frame) × Among p (Phich 0)
@@ -68,7 +68,7 @@ module _ {w : List ℕ} {p : Plan} {g before : List ℕ} (start : Readable w p g
   acks-begin = (valid w p ok .cell, valid w p ok .frame, omega (arith, units-least (p .cell) (valid w p ok .cell)))
 
   module _ (x : Section) (ex : x ≡ sectionOf p 0 (Phich 0)) where
-    from-is : x .start ≡ sectionBytes (pbchBits (p .cell) (p .frame))
+    from-is : x .start ≡ sectionBytes (pbchBitCount (p .cell) (p .frame))
     unfolding sectionOf
     from-is = ap (λ (s : Section). s .start) ex
 
@@ -107,7 +107,7 @@ module _ {w : List ℕ} {p : Plan} {g before : List ℕ} (start : Readable w p g
 
   -- ---- what PBCH and the users need
   pbch-needs :
-      (n : ℕ) → TurnOf w p n Pbch → p .frame .subframe ≡ 0 → (part : List ℕ) → length part ≡ sectionBytes (pbchBits (p .cell) (p .frame))
+      (n : ℕ) → TurnOf w p n Pbch → p .frame .subframe ≡ 0 → (part : List ℕ) → length part ≡ sectionBytes (pbchBitCount (p .cell) (p .frame))
       → PartIn p Pbch (pbchArea (p .cell) (p .frame)) 2 g part
   pbch-needs n y z part size =
       record {
@@ -134,8 +134,8 @@ module _ {w : List ℕ} {p : Plan} {g before : List ℕ} (start : Readable w p g
     unfolding TurnOf
     user-is = y .2
 
-    user-needs : (part : List ℕ) → length part ≡ sectionBytes (userBits w p (n - usersFirst p)) → PartIn p (UserOf u) (userArea (p .cell) (p .frame) u) (u .order) g part
-    unfolding nthUser userBits
+    user-needs : (part : List ℕ) → length part ≡ sectionBytes (userBitCount w p (n - usersFirst p)) → PartIn p (UserOf u) (userArea (p .cell) (p .frame) u) (u .order) g part
+    unfolding nthUser userBitCount
     user-needs part size =
         subst (λ (v : User). PartIn p (UserOf u) (userArea (p .cell) (p .frame) v) (v .order) g part) (sym user-is)
         (record {
@@ -155,7 +155,7 @@ module _ {w : List ℕ} {p : Plan} {g before : List ℕ} (start : Readable w p g
     abbrev Part : Channel → List ℕ
     Part ch = partOf (sectionOf p (t .start) ch) payload
 
-    user-ends : (u : User) → TurnOf w p (t .number) (UserOf u) → sectionOf p (t .start) (UserOf u) .end ≡ t .start + sectionBytes (userBits w p (t .number - usersFirst p))
+    user-ends : (u : User) → TurnOf w p (t .number) (UserOf u) → sectionOf p (t .start) (UserOf u) .end ≡ t .start + sectionBytes (userBitCount w p (t .number - usersFirst p))
     unfolding sectionOf
     user-ends u y = section-end w p ok before (t .number - usersFirst p) (in-i (t .number) u y) u (t .start) _ (user-is (t .number) u y) refl
 

@@ -11,7 +11,7 @@ use Rattle.plan.specs.declared.Plan.{Plan}
 use Rattle.plan.specs.declared.Checked.the-variants.{Plan as accepted}
 use Rattle.places.specs.Places.{placesOf}
 use Rattle.payload.specs.Sections.{sectionBytes}
-use Rattle.payload.specs.Payload.{pbchBits, payloadLength}
+use Rattle.payload.specs.Payload.{pbchBitCount, payloadLength}
 use Rattle.grid.specs.Writing.{Room}
 use Rattle.subframe.specs.Grid.{gridOf}
 use Rattle.recovery.specs.Recovery.{payloadIn, sectionOf}
@@ -40,8 +40,8 @@ pub record BytesRead (w : List ℕ) (p : Plan) (grid : List ℕ) (a b : ℕ) (pa
 -- before turn t: the HIs' section and those of the users before it; and PBCH's, which is the first one, once its turn is over
 pub record ReadBefore (w : List ℕ) (p : Plan) (grid : List ℕ) (t : Turn) (payload : List ℕ) : Type 0 where
   pub size : length payload ≡ payloadLength w p
-  pub pbch : signalTurns (p .cell) + 2 < t .number → BytesRead w p grid 0 (sectionBytes (pbchBits (p .cell) (p .frame))) payload
-  pub others : BytesRead w p grid (sectionBytes (pbchBits (p .cell) (p .frame))) (t .start) payload
+  pub pbch : signalTurns (p .cell) + 2 < t .number → BytesRead w p grid 0 (sectionBytes (pbchBitCount (p .cell) (p .frame))) payload
+  pub others : BytesRead w p grid (sectionBytes (pbchBitCount (p .cell) (p .frame))) (t .start) payload
 
 -- ---- A CHANNEL'S SECTION
 -- what reading it from the area a needs, with symbols of q bits

@@ -19,7 +19,7 @@ use Rattle.codeword.specs.Codewords.{scrambled, dataSymbol}
 use Rattle.codeword.proofs.Laws.{scrambled-lt, order-symbol}
 use Rattle.precoding.specs.Layers.{Occurs}
 use Rattle.precoding.specs.Matrices.{precoded}
-use Rattle.precoding.specs.Places.{ownPort, beside}
+use Rattle.precoding.specs.Places.{ownPort, partnerIndex}
 use Rattle.precoding.proofs.Ports.{own-inside}
 use Rattle.precoding.proofs.Diversity.{by-place}
 use Rattle.plan.specs.Check.{checkOf}
@@ -31,7 +31,7 @@ use Rattle.layout.specs.declared.Owner.the-variants.{Pbch, User as UserOf}
 use Rattle.counts.specs.Counts.{countOf}
 use Rattle.places.specs.Places.{symbolAt, carrierAt, placeOf}
 use Rattle.payload.specs.Sections.{startOf, sectionBits}
-use Rattle.payload.specs.Payload.{pbchBits, userBits, heads, sections}
+use Rattle.payload.specs.Payload.{pbchBitCount, userBitCount, heads, sections}
 use Rattle.payload.specs.Bits.{ownerBits}
 use Rattle.payload.proofs.Sections.{span-length}
 use Rattle.subframe.specs.Elements.{ownerBit, pbchFirst, pbchSymbol, userInit, userSymbol, elementFor}
@@ -84,7 +84,7 @@ module _
         (sends q s k
         ∙ ap (λ (n : ℕ). precoded (p .cell .ports) (countOf w p o) u d n q) (index-back w p ok o j l)
         ∙ by-place occurs u d j q l in-port)
-        ∙ own-read (p .cell .ports) (j / 2) u (j % 2) (d j) (d (beside j)) (omega arith, omega arith)
+        ∙ own-read (p .cell .ports) (j / 2) u (j % 2) (d j) (d (partnerIndex j)) (omega arith, omega arith)
 
     data-back : (i : ℕ) → i < Q * countOf w p o → dataBit w p (gridOf w p A) o Q x i ≡ ownerBit w p A o i
     unfolding dataBit
@@ -96,25 +96,25 @@ module _
 
 -- ---- how many bits
 module _ (w : List ℕ) (p : Plan) (ok : checkOf w ≡ accepted p) where
-  pub pbch-length : length (ownerBits w p Pbch) ≡ pbchBits (p .cell) (p .frame)
+  pub pbch-length : length (ownerBits w p Pbch) ≡ pbchBitCount (p .cell) (p .frame)
   unfolding ownerBits sectionBits sections heads
-  pbch-length = span-length (8 * startOf (sections w p) 0) (pbchBits (p .cell) (p .frame))
+  pbch-length = span-length (8 * startOf (sections w p) 0) (pbchBitCount (p .cell) (p .frame))
 
-  pbch-fits : (i : ℕ) → i < pbchBits (p .cell) (p .frame) → i < 2 * countOf w p Pbch
+  pbch-fits : (i : ℕ) → i < pbchBitCount (p .cell) (p .frame) → i < 2 * countOf w p Pbch
   pbch-fits i l = omega (arith, pbch-length, pbch-size w p ok)
 
 -- ---- THE LAWS
 module _ (w : List ℕ) (p : Plan) (ok : checkOf w ≡ accepted p) where
-  pub pbch-recovered : (A : List ℕ) (i : ℕ) → i < pbchBits (p .cell) (p .frame) → pbchBit w p (gridOf w p A) i ≡ ownerBit w p A Pbch i
+  pub pbch-recovered : (A : List ℕ) (i : ℕ) → i < pbchBitCount (p .cell) (p .frame) → pbchBit w p (gridOf w p A) i ≡ ownerBit w p A Pbch i
   unfolding pbchBit elementFor pbchSymbol
   pbch-recovered A i l =
       data-back w p ok A Pbch 2 2 (λ (n : ℕ). c (p .cell .identity) (n + pbchFirst (p .cell) (p .frame))) (omega arith) (pbch-occurs w p ok)
       (λ port s k. refl) i (pbch-fits w p ok i l)
 
   pub user-recovered :
-      (i : ℕ) → i < length (usersOf w p) → (A : List ℕ) (n : ℕ) → n < userBits w p i
+      (i : ℕ) → i < length (usersOf w p) → (A : List ℕ) (n : ℕ) → n < userBitCount w p i
       → userBit w p (gridOf w p A) i (nthUser w p i) n ≡ ownerBit w p A (UserOf i) n
-  unfolding userBits userBit elementFor userSymbol
+  unfolding userBitCount userBit elementFor userSymbol
   user-recovered i in-i A n l =
       data-back w p ok A (UserOf i) (nthUser w p i .order) (unitOf (nthUser w p i .order)) (c (userInit (p .cell) (p .frame) (nthUser w p i)))
       (user-order w p ok i in-i) (user-occurs w p ok i in-i) (λ port s k. refl) n l

@@ -17,7 +17,7 @@ use Rattle.plan.specs.declared.User.{User}
 use Rattle.plan.specs.declared.Plan.{Plan}
 use Rattle.layout.specs.declared.Owner.the-variants.{Pbch, User as UserOf}
 use Rattle.payload.specs.Sections.{startOf, sectionBits}
-use Rattle.payload.specs.Payload.{pbchBits, userBits, heads, sections, payloadLength, spareBits, AcceptedPayload}
+use Rattle.payload.specs.Payload.{pbchBitCount, userBitCount, heads, sections, payloadLength, spareBits, AcceptedPayload}
 use Rattle.payload.specs.Bits.{ownerBits}
 use Rattle.payload.proofs.Sections.{span-length, span-at, hi-at, userStart, user-bits-at}
 use Rattle.subframe.specs.Elements.{ownerBit, hiBit}
@@ -75,30 +75,30 @@ module _ (w : List ℕ) (p : Plan) (g : List ℕ) where
   unfolding payloadIn
   bit-of k i l = sections-bit (sectionBit w p g) (sections w p) bits-two k i l
 
-  pub pbch-bit : (i : ℕ) → i < pbchBits (p .cell) (p .frame) → ownerBit w p (payloadIn w p g) Pbch i ≡ pbchBit w p g i
+  pub pbch-bit : (i : ℕ) → i < pbchBitCount (p .cell) (p .frame) → ownerBit w p (payloadIn w p g) Pbch i ≡ pbchBit w p g i
   unfolding ownerBit ownerBits sectionBits sections heads sectionBit
   pbch-bit i l =
-      ap (bitAt (payloadIn w p g)) (span-at (8 * startOf (sections w p) 0) (pbchBits (p .cell) (p .frame)) i l) ∙ bit-of 0 i l
+      ap (bitAt (payloadIn w p g)) (span-at (8 * startOf (sections w p) 0) (pbchBitCount (p .cell) (p .frame)) i l) ∙ bit-of 0 i l
 
   pub hi-bit : (n : ℕ) → n < p .his .count → hiBit w p (payloadIn w p g) n ≡ ackBit w p g n
   unfolding hiBit sections heads sectionBit
   hi-bit n l = ap (bitAt (payloadIn w p g)) (hi-at w p n l) ∙ bit-of 1 n l
 
   module _ (i : ℕ) (in-i : i < length (usersOf w p)) where
-    pub user-length : length (ownerBits w p (UserOf i)) ≡ userBits w p i
-    user-length = ap length (user-bits-at w p i in-i) ∙ span-length (8 * userStart w p i) (userBits w p i)
+    pub user-length : length (ownerBits w p (UserOf i)) ≡ userBitCount w p i
+    user-length = ap length (user-bits-at w p i in-i) ∙ span-length (8 * userStart w p i) (userBitCount w p i)
 
-    pub user-section : getD (sections w p) (length (heads p) + i) 0 ≡ userBits w p i
+    pub user-section : getD (sections w p) (length (heads p) + i) 0 ≡ userBitCount w p i
     unfolding ownerBits sectionBits
     user-section = sym (span-length (8 * userStart w p i) (getD (sections w p) (length (heads p) + i) 0)) ∙ user-length
 
     pub user-bit :
-        (n : ℕ) → n < userBits w p i
+        (n : ℕ) → n < userBitCount w p i
         → ownerBit w p (payloadIn w p g) (UserOf i) n ≡ userBit w p g i (nthUser w p i) n
     unfolding ownerBit heads sectionBit
     user-bit n l =
         let e : length (heads p) + i ≡ suc (suc i) = omega arith in
         ap (bitAt (payloadIn w p g))
-        (ap (λ (x : List ℕ). getD x n 0) (user-bits-at w p i in-i) ∙ span-at (8 * userStart w p i) (userBits w p i) n l)
+        (ap (λ (x : List ℕ). getD x n 0) (user-bits-at w p i in-i) ∙ span-at (8 * userStart w p i) (userBitCount w p i) n l)
         ∙ bit-of (length (heads p) + i) n (rw user-section l)
         ∙ ap (λ (k : ℕ). sectionBit w p g k n) e

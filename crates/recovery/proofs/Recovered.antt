@@ -19,7 +19,7 @@ use Rattle.plan.proofs.Valid.{valid}
 use Rattle.layout.specs.declared.Owner.{Owner}
 use Rattle.layout.specs.declared.Owner.the-variants.{Crs, Sync, Pbch, Pcfich, Phich, User as UserOf, Held, Idle}
 use Rattle.payload.specs.Sections.{span, sectionBits}
-use Rattle.payload.specs.Payload.{pbchBits, userBits, heads, sections, payloadLength, AcceptedPayload}
+use Rattle.payload.specs.Payload.{pbchBitCount, userBitCount, heads, sections, payloadLength, AcceptedPayload}
 use Rattle.payload.specs.Bits.{hiBits, ownerBits}
 use Rattle.payload.proofs.Sections.{userStart, Users, users-length}
 use Rattle.payload.proofs.EveryBit.{same-bits}
@@ -51,7 +51,7 @@ module _ (w : List ℕ) (p : Plan) (ok : checkOf w ≡ accepted-plan p) (A : Lis
   pbch-same =
       bits-same w p Pbch B A .1
       (λ i l.
-      let k : i < pbchBits (p .cell) (p .frame) = omega (arith, pbch-length w p ok) in
+      let k : i < pbchBitCount (p .cell) (p .frame) = omega (arith, pbch-length w p ok) in
       pbch-bit w p (gridOf w p A) i k ∙ pbch-recovered w p ok A i k)
 
   unit-same : (m : ℕ) → SameBits w p (Phich m) B A
@@ -69,7 +69,7 @@ module _ (w : List ℕ) (p : Plan) (ok : checkOf w ≡ accepted-plan p) (A : Lis
       let in-i : i < length (usersOf w p) = ltb-true i (length (usersOf w p)) e in
       bits-same w p (UserOf i) B A .1
       (λ n l.
-      let k : n < userBits w p i = omega (arith, user-length w p (gridOf w p A) i in-i) in
+      let k : n < userBitCount w p i = omega (arith, user-length w p (gridOf w p A) i in-i) in
       user-bit w p (gridOf w p A) i in-i n k ∙ user-recovered w p ok i in-i A n k))
       (λ e.
       subst (Every (λ (b : ℕ). bitAt B b ≡ bitAt A b)) (sym (no-user w p i (ltb-false i (length (usersOf w p)) e))) tt)

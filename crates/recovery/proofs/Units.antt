@@ -12,15 +12,15 @@ use Rattle.base.proofs.Tables.{table-length, filled}
 use Rattle.gold.specs.Sequence.{c}
 use Rattle.precoding.specs.Layers.{Occurs}
 use Rattle.precoding.specs.Phich.{phichPrecoded}
-use Rattle.precoding.specs.Places.{ownPort, beside}
+use Rattle.precoding.specs.Places.{ownPort, partnerIndex}
 use Rattle.precoding.proofs.Ports.{own-inside}
 use Rattle.precoding.proofs.Diversity.{phich-by-place}
 use Rattle.phich.specs.His.{hiNumber}
-use Rattle.phich.specs.Units.{mappingUnit, sumAt, unitSums}
+use Rattle.phich.specs.Units.{mappingUnit, sumAt, mappingUnitSums}
 use Rattle.phich.specs.Recovery.{bitIn}
 use Rattle.phich.proofs.Units.{hi-unit, bit-le, recovered}
 use Rattle.phich.specs.Spreading.{spreadLength}
-use Rattle.plan.specs.Fields.{unitsOf}
+use Rattle.plan.specs.Fields.{mappingUnits}
 use Rattle.plan.specs.Rows.{hisOf}
 use Rattle.plan.specs.Check.{checkOf}
 use Rattle.plan.specs.Valid.{HiIn}
@@ -42,7 +42,7 @@ use Rattle.recovery.proofs.Symbols.{own-read, symbol-in}
 
 module _ (w : List ℕ) (p : Plan) (ok : checkOf w ≡ accepted p) (A : List ℕ) where
   -- ---- a unit's sums
-  module _ (m : ℕ) (in-m : m < unitsOf (p .cell)) where
+  module _ (m : ℕ) (in-m : m < mappingUnits (p .cell)) where
     sum-back : (i : ℕ) → i < 12 → symbolIn w p (gridOf w p A) (Phich m) (i / 4 + m) i ≡ phichSum w p A m i
     unfolding elementFor
     sum-back i r =
@@ -58,15 +58,15 @@ module _ (w : List ℕ) (p : Plan) (ok : checkOf w ≡ accepted p) (A : List ℕ
         ∙ ap pairOf
         (ap (λ (j : ℕ). phichPrecoded (p .cell .ports) m 2 d (j / 4) (j % 4) q) (index-back w p ok (Phich m) i l)
         ∙ phich-by-place occurs m 2 d (i / 4) (i % 4) q (omega arith) (omega arith) in-port)
-        ∙ own-read (p .cell .ports) (i / 4 + m) 2 (n % 2) (d n) (d (beside n)) (omega arith, omega arith)
+        ∙ own-read (p .cell .ports) (i / 4 + m) 2 (n % 2) (d n) (d (partnerIndex n)) (omega arith, omega arith)
         ∙ ap d e
 
-    sums-back : sumsIn w p (gridOf w p A) m ≡ unitSums (spreadLength (p .cell)) (c (controlInit (p .cell) (p .frame))) m (hiBit w p A) (hisOf w p)
-    unfolding sumsIn unitSums phichSum
+    sums-back : sumsIn w p (gridOf w p A) m ≡ mappingUnitSums (spreadLength (p .cell)) (c (controlInit (p .cell) (p .frame))) m (hiBit w p A) (hisOf w p)
+    unfolding sumsIn mappingUnitSums phichSum
     sums-back =
         sym
         (filled nil (λ (i : ℕ). symbolIn w p (gridOf w p A) (Phich m) (i / 4 + m) i) 12
-        (unitSums (spreadLength (p .cell)) (c (controlInit (p .cell) (p .frame))) m (hiBit w p A) (hisOf w p))
+        (mappingUnitSums (spreadLength (p .cell)) (c (controlInit (p .cell) (p .frame))) m (hiBit w p A) (hisOf w p))
         (table-length 12 (λ (i : ℕ). sumAt (spreadLength (p .cell)) (c (controlInit (p .cell) (p .frame))) m (hiBit w p A) i (hisOf w p) 0))
         (λ i l. sym (sum-back i l)))
 
@@ -75,7 +75,7 @@ module _ (w : List ℕ) (p : Plan) (ok : checkOf w ≡ accepted p) (A : List ℕ
     listed : n < length (hisOf w p)
     listed = omega (arith, valid w p ok .his-count)
 
-    in-unit : mappingUnit (spreadLength (p .cell)) (hiNumber (hisOf w p) n) < unitsOf (p .cell)
+    in-unit : mappingUnit (spreadLength (p .cell)) (hiNumber (hisOf w p) n) < mappingUnits (p .cell)
     in-unit = hi-unit (p .cell) (hiNumber (hisOf w p) n) (every-at (HiIn (p .cell)) (record { group = 0; sequence = 0 }) (hisOf w p) n (valid w p ok .his) listed)
 
     pub ack-recovered : ackBit w p (gridOf w p A) n ≡ hiBit w p A n

@@ -9,7 +9,7 @@ use Rattle.gold.specs.Sequence.{pairAt}
 use Rattle.phich.specs.Spreading.{spreadLength}
 use Rattle.phich.specs.Loops.{QuadSums}
 use Rattle.plan.specs.Check.{checkOf}
-use Rattle.plan.specs.Fields.{unitsOf}
+use Rattle.plan.specs.Fields.{mappingUnits}
 use Rattle.plan.specs.Rows.{hisOf}
 use Rattle.plan.specs.declared.Plan.{Plan}
 use Rattle.plan.specs.declared.Checked.the-variants.{Plan as accepted}
@@ -37,7 +37,7 @@ module _ (w : List ℕ) (p : Plan) (ok : checkOf w ≡ accepted p) (payload : Li
       let o = and-true (ownsAt w p Pcfich (e % T)) (sends (p .cell .ports) (indexOf w p Pcfich (e % T) / 2 % 2) (e / T)) (sym (pcfich-owned w p ok e) ∙ h) in
       pcfich-value w p ok payload e h (sends-port room (indexOf w p Pcfich (e % T) / 2 % 2) (e / T) (o .1)) ∙ sym (numbered w p ok payload Pcfich e (o .0))
 
-  module _ (m : ℕ) (in-m : m < unitsOf (p .cell)) where
+  module _ (m : ℕ) (in-m : m < mappingUnits (p .cell)) where
     pub phich-numbered :
         {bit : ℕ → ℕ} {s : List ℕ} → QuadSums (spreadLength (p .cell)) bit (hisOf w p) s → ((n : ℕ) → n < p .his .count → bit n ≡ hiBit w p payload n)
         → (e : ℕ) → phichSends (p .cell) m e ≡ true

@@ -15,7 +15,7 @@ use Rattle.modulation.specs.Symbols.{unitOf}
 use Rattle.precoding.specs.Layers.{Occurs}
 use Rattle.precoding.specs.Matrices.{precoded}
 use Rattle.precoding.specs.Phich.{phichPrecoded}
-use Rattle.precoding.specs.Places.{beside}
+use Rattle.precoding.specs.Places.{partnerIndex}
 use Rattle.precoding.proofs.Diversity.{by-place, phich-by-place}
 use Rattle.plan.specs.Check.{checkOf}
 use Rattle.plan.specs.Rows.{nthUser}
@@ -49,13 +49,13 @@ use Rattle.schedule.proofs.Numbered.{port-lt, place-in, numbered, place
 
 -- a port without a term
 quiet-data : {P M : ℕ} → Occurs P M → (u : ℕ) (d : ℕ → Pair) (j q : ℕ) → j < M → q < P → sends P (j / 2 % 2) q ≡ false → precoded P M u d j q ≡ silent
-quiet-data {P = P} c u d j q l k h = by-place c u d j q l k ∙ silent-port P (j / 2 % 2) u (j % 2) (d j) (d (beside j)) q h
+quiet-data {P = P} c u d j q l k h = by-place c u d j q l k ∙ silent-port P (j / 2 % 2) u (j % 2) (d j) (d (partnerIndex j)) q h
 
 quiet-unit : {P : ℕ} → Occurs P 12 → (m u : ℕ) (d : ℕ → Pair) (j q : ℕ) → j < 12 → q < P → sends P ((j / 4 + m) % 2) q ≡ false → phichPrecoded P m u d (j / 4) (j % 4) q ≡ silent
 quiet-unit {P = P} c m u d j q l k h =
     let n : ℕ = 4 * (j / 4) + j % 4 in
     phich-by-place c m u d (j / 4) (j % 4) q (omega arith) (omega arith) k
-    ∙ silent-port P ((j / 4 + m) % 2) u (n % 2) (d n) (d (beside n)) q h
+    ∙ silent-port P ((j / 4 + m) % 2) u (n % 2) (d n) (d (partnerIndex n)) q h
 
 and-false : (a b : Bool) → a && b ≡ false → a ≡ true → b ≡ false
 and-false true b h e = h

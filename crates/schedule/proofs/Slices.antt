@@ -19,9 +19,9 @@ use Rattle.plan.proofs.Valid.{valid}
 use Rattle.layout.specs.declared.Owner.the-variants.{Pbch, User as UserOf}
 use Rattle.counts.specs.Counts.{countOf}
 use Rattle.payload.specs.Sections.{sectionBytes, bytesOf, startOf, sectionBits}
-use Rattle.payload.specs.Payload.{pbchBits, userBits, heads, sections, payloadLength, usersStart}
+use Rattle.payload.specs.Payload.{pbchBitCount, userBitCount, heads, sections, payloadLength, usersStart}
 use Rattle.payload.specs.Bits.{ownerBits}
-use Rattle.payload.specs.Loops.{computedBits}
+use Rattle.payload.specs.Loops.{computedBitCount}
 use Rattle.payload.proofs.Sections.{span-length, span-at, hi-at, Users, length-is, userStart, user-start, user-start-next, user-bits-at, bits-computed}
 use Rattle.subframe.specs.Elements.{ownerBit, hiBit}
 use Rattle.subframe.proofs.OwnerBits.{pbch-size}
@@ -85,38 +85,38 @@ module _ (w : List ℕ) (p : Plan) (ok : checkOf w ≡ accepted p) (payload : Li
     unfolding nthUser
     user-valid = every-at (UserIn (p .cell)) _ (usersOf w p) i (valid w p ok .users) in-i
 
-    pub start-next : userStart w p (i + 1) ≡ userStart w p i + sectionBytes (userBits w p i)
+    pub start-next : userStart w p (i + 1) ≡ userStart w p i + sectionBytes (userBitCount w p i)
     start-next = let e : i + 1 ≡ suc i = omega arith in ap (userStart w p) e ∙ user-start-next w p i in-i
 
     -- the end of the user's section, as the code computes it
-    pub section-end : (v : User) (start end : ℕ) → v ≡ nthUser w p i → end ≡ start + sectionBytes (computedBits (p .cell) (p .frame) v) → end ≡ start + sectionBytes (userBits w p i)
+    pub section-end : (v : User) (start end : ℕ) → v ≡ nthUser w p i → end ≡ start + sectionBytes (computedBitCount (p .cell) (p .frame) v) → end ≡ start + sectionBytes (userBitCount w p i)
     section-end v start end ev ee =
-        ee ∙ ap (λ (n : ℕ). start + sectionBytes n) (ap (computedBits (p .cell) (p .frame)) ev ∙ sym (bits-computed w p ok i in-i))
+        ee ∙ ap (λ (n : ℕ). start + sectionBytes n) (ap (computedBitCount (p .cell) (p .frame)) ev ∙ sym (bits-computed w p ok i in-i))
 
     pub user-slice :
-        (start end : ℕ) → start ≡ userStart w p i → end ≡ start + sectionBytes (userBits w p i)
+        (start end : ℕ) → start ≡ userStart w p i → end ≡ start + sectionBytes (userBitCount w p i)
         → (n : ℕ) → n < nthUser w p i .order * countOf w p (UserOf i) → bitAt (take (end - start) (drop start payload)) n ≡ ownerBit w p payload (UserOf i) n
-    unfolding ownerBit userBits
+    unfolding ownerBit userBitCount
     user-slice start end es ee n l =
         bit-slice payload start (end - start) n (omega arith)
-        ∙ ap (bitAt payload) (sym (ap (λ (x : List ℕ). getD x n 0) (user-bits-at w p i in-i) ∙ span-at (8 * userStart w p i) (userBits w p i) n l ∙ ap (λ (x : ℕ). 8 * x + n) (sym es)))
+        ∙ ap (bitAt payload) (sym (ap (λ (x : List ℕ). getD x n 0) (user-bits-at w p i in-i) ∙ span-at (8 * userStart w p i) (userBitCount w p i) n l ∙ ap (λ (x : ℕ). 8 * x + n) (sym es)))
 
   -- PBCH's section is the first, the HIs' the second
-  pub pbch-slice : (end : ℕ) → end ≡ sectionBytes (pbchBits (p .cell) (p .frame)) → (n : ℕ) → n < 2 * countOf w p Pbch → bitAt (take (end - 0) (drop 0 payload)) n ≡ ownerBit w p payload Pbch n
+  pub pbch-slice : (end : ℕ) → end ≡ sectionBytes (pbchBitCount (p .cell) (p .frame)) → (n : ℕ) → n < 2 * countOf w p Pbch → bitAt (take (end - 0) (drop 0 payload)) n ≡ ownerBit w p payload Pbch n
   unfolding ownerBit ownerBits sectionBits sections heads startOf bytesOf
   pbch-slice end ee n l =
-      let less : n < pbchBits (p .cell) (p .frame) = omega (arith, span-length 0 (pbchBits (p .cell) (p .frame)), pbch-size w p ok) in
+      let less : n < pbchBitCount (p .cell) (p .frame) = omega (arith, span-length 0 (pbchBitCount (p .cell) (p .frame)), pbch-size w p ok) in
       bit-slice payload 0 (end - 0) n (omega arith)
-      ∙ ap (bitAt payload) (sym (span-at (8 * 0) (pbchBits (p .cell) (p .frame)) n less))
+      ∙ ap (bitAt payload) (sym (span-at (8 * 0) (pbchBitCount (p .cell) (p .frame)) n less))
 
   pub hi-slice :
-      (start end : ℕ) → start ≡ sectionBytes (pbchBits (p .cell) (p .frame)) → end ≡ usersStart p
+      (start end : ℕ) → start ≡ sectionBytes (pbchBitCount (p .cell) (p .frame)) → end ≡ usersStart p
       → (n : ℕ) → n < p .his .count → bitAt (take (end - start) (drop start payload)) n ≡ hiBit w p payload n
   unfolding hiBit usersStart sections heads startOf bytesOf
   hi-slice start end es ee n l =
       bit-slice payload start (end - start) n (omega arith)
-      ∙ (let e : 8 * start + n ≡ 8 * (sectionBytes (pbchBits (p .cell) (p .frame)) + 0) + n = omega arith in ap (bitAt payload) (e ∙ sym (hi-at w p n l)))
+      ∙ (let e : 8 * start + n ≡ 8 * (sectionBytes (pbchBitCount (p .cell) (p .frame)) + 0) + n = omega arith in ap (bitAt payload) (e ∙ sym (hi-at w p n l)))
 
-  pub heads-room : (start end : ℕ) → start ≡ sectionBytes (pbchBits (p .cell) (p .frame)) → end ≡ usersStart p → (start ≤ end) × (end ≤ payloadLength w p)
+  pub heads-room : (start end : ℕ) → start ≡ sectionBytes (pbchBitCount (p .cell) (p .frame)) → end ≡ usersStart p → (start ≤ end) × (end ≤ payloadLength w p)
   unfolding usersStart heads bytesOf
   heads-room start end es ee = (omega arith, omega (arith, length-is w p))

@@ -9,7 +9,7 @@ use types.Run.{OneOf}
 use denote.Enum.Declared.{tagOf}
 use Rattle.plan.specs.Check.{checkOf}
 use Rattle.plan.specs.Commands.{userOf}
-use Rattle.plan.specs.Fields.{unitsOf}
+use Rattle.plan.specs.Fields.{mappingUnits}
 use Rattle.plan.specs.Lists.{oneOf}
 use Rattle.plan.specs.Rows.{nextOf, nthUser}
 use Rattle.plan.specs.declared.Plan.{Plan}
@@ -58,16 +58,16 @@ module _ {w : List ℕ} {p : Plan} {t : Turn} (due : Due w p t) where
 
   -- of a later one
   module _ (n : ℕ) where
-    pub unit-few : {m : ℕ} → m ≡ unitsOf (p .cell) → n - 4 < m → n - 4 < 25
+    pub unit-few : {m : ℕ} → m ≡ mappingUnits (p .cell) → n - 4 < m → n - 4 < 25
     unit-few e l = omega (arith, units-most (p .cell) (valid w p ok .cell))
 
-    pub unit-found : {m : ℕ} → m ≡ unitsOf (p .cell) → 4 ≤ n → n - 4 < m → Phich (n - 4) ≡ laterAt w p n
+    pub unit-found : {m : ℕ} → m ≡ mappingUnits (p .cell) → 4 ≤ n → n - 4 < m → Phich (n - 4) ≡ laterAt w p n
     unit-found e l k = let d : 4 + (n - 4) ≡ n = omega arith in sym (ap (laterAt w p) (sym d) ∙ unit-is w p (n - 4) (omega arith))
 
-    pub user-found : t .number ≡ signalTurns (p .cell) + n → {m : ℕ} (u : User) → m ≡ unitsOf (p .cell) → 4 ≤ n → m ≤ n - 4 → u ≡ userOf (drop (t .at) w) → UserOf u ≡ laterAt w p n
+    pub user-found : t .number ≡ signalTurns (p .cell) + n → {m : ℕ} (u : User) → m ≡ mappingUnits (p .cell) → 4 ≤ n → m ≤ n - 4 → u ≡ userOf (drop (t .at) w) → UserOf u ≡ laterAt w p n
     user-found from u e l k eu =
         let d : 4 + (n - 4) ≡ n = omega arith in
-        let i : t .number - usersFirst p ≡ n - 4 - unitsOf (p .cell) = omega arith in
+        let i : t .number - usersFirst p ≡ n - 4 - mappingUnits (p .cell) = omega arith in
         ap UserOf (eu ∙ due-user w p ok t (due .turn) (omega arith) (due .more) ∙ ap (nthUser w p) i)
         ∙ sym (ap (laterAt w p) (sym d) ∙ user-is w p (n - 4) (omega arith))
 

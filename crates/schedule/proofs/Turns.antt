@@ -11,7 +11,7 @@ use lib.ListN.{length, drop}
 use Rattle.base.proofs.Tests.{on-if}
 use Rattle.plan.specs.Check.{checkOf}
 use Rattle.plan.specs.Commands.{userOf}
-use Rattle.plan.specs.Fields.{unitsOf}
+use Rattle.plan.specs.Fields.{mappingUnits}
 use Rattle.plan.specs.Rows.{nextOf, usersOf, nthUser}
 use Rattle.plan.specs.Valid.{CellIn, FrameIn}
 use Rattle.plan.specs.declared.Plan.{Plan}
@@ -21,7 +21,7 @@ use Rattle.plan.proofs.Valid.{valid}
 use Rattle.layout.specs.Owners.{symbols}
 use Rattle.layout.specs.declared.Mark.the-variants.{Primary, Secondary}
 use Rattle.payload.specs.Sections.{sectionBytes}
-use Rattle.payload.specs.Loops.{computedBits}
+use Rattle.payload.specs.Loops.{computedBitCount}
 use Rattle.payload.proofs.Sections.{user-start-first}
 use Rattle.schedule.specs.Schedule.{signalTurns, usersFirst, channelCount, laterAt, channelAt, TurnOf, HasSequence, Among}
 use Rattle.schedule.specs.Cursor.{usersBefore, TurnIn, firstTurn}
@@ -38,7 +38,7 @@ module _ (w : List ℕ) (p : Plan) where
   R = signalTurns (p .cell)
 
   abbrev U : ℕ
-  U = unitsOf (p .cell)
+  U = mappingUnits (p .cell)
 
   -- ---- the channel of turn n
   later-of : (n m : ℕ) → n ≡ R + m → n < channelCount p → TurnOf w p n (laterAt w p m)
@@ -148,7 +148,7 @@ module _ (w : List ℕ) (p : Plan) where
 
     pub moved :
         (r : Turn) (u : User) → r .number ≡ t .number + 1 → u ≡ nthUser w p (usersBefore p (t .number)) → r .at ≡ nextOf w (t .at)
-        → r .start ≡ t .start + sectionBytes (computedBits (p .cell) (p .frame) u) → TurnIn w p r
+        → r .start ≡ t .start + sectionBytes (computedBitCount (p .cell) (p .frame) u) → TurnIn w p r
     unfolding channelCount
     moved r u one eu ea es =
         let z : i + 1 ≡ usersBefore p (r .number) = omega arith in

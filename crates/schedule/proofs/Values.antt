@@ -21,8 +21,8 @@ use Rattle.counts.specs.Counts.{countOf}
 use Rattle.places.specs.Places.{placesOf}
 use Rattle.grid.specs.Writing.{Room}
 use Rattle.payload.specs.Sections.{sectionBytes}
-use Rattle.payload.specs.Payload.{pbchBits, userBits, payloadLength, usersStart}
-use Rattle.payload.specs.Loops.{computedBits}
+use Rattle.payload.specs.Payload.{pbchBitCount, userBitCount, payloadLength, usersStart}
+use Rattle.payload.specs.Loops.{computedBitCount}
 use Rattle.subframe.specs.Elements.{ownerBit}
 use Rattle.subframe.specs.Grid.{elementNumbered}
 use Rattle.schedule.specs.Schedule.{usersFirst, TurnOf, initOf, firstBit, startPair, presentIn, elementsOf, sendsOf, sentOf, sectionOf, SumsOf, BitsOf, partOf, lentTo}
@@ -69,7 +69,7 @@ module _ (w : List ℕ) (p : Plan) (ok : checkOf w ≡ accepted p) (payload : Li
   -- ---- the sections
   -- the sums of all units, made of the HIs' section
   pub sums-of :
-      {l : ℕ} {s : List ℕ} → l ≡ spreadLength (p .cell) → (start end : ℕ) → start ≡ sectionBytes (pbchBits (p .cell) (p .frame)) → end ≡ usersStart p
+      {l : ℕ} {s : List ℕ} → l ≡ spreadLength (p .cell) → (start end : ℕ) → start ≡ sectionBytes (pbchBitCount (p .cell) (p .frame)) → end ≡ usersStart p
       → QuadSums l (bitAt (take (end - start) (drop start payload))) (hisOf w p) s → SumsOf w p payload s
   sums-of el start end es ee q = record { bit = bitAt (take (end - start) (drop start payload)); sums = rw (← el) q; same = hi-slice w p ok payload start end es ee }
 
@@ -79,10 +79,10 @@ module _ (w : List ℕ) (p : Plan) (ok : checkOf w ≡ accepted p) (payload : Li
 
     user-ends :
         (u : User) → TurnOf w p (t .number) (UserOf u)
-        → t .start + sectionBytes (computedBits (p .cell) (p .frame) u) ≡ t .start + sectionBytes (userBits w p (t .number - usersFirst p))
+        → t .start + sectionBytes (computedBitCount (p .cell) (p .frame) u) ≡ t .start + sectionBytes (userBitCount w p (t .number - usersFirst p))
     unfolding TurnOf
     user-ends u y =
-        section-end w p ok payload i (user-in w p ok room (t .number) (y .0) (y .1)) u (t .start) (t .start + sectionBytes (computedBits (p .cell) (p .frame) u)) (y .2) refl
+        section-end w p ok payload i (user-in w p ok room (t .number) (y .0) (y .1)) u (t .start) (t .start + sectionBytes (computedBitCount (p .cell) (p .frame) u)) (y .2) refl
 
     -- a turn's section lies in the payload
     pub section-room : (ch : Channel) → TurnOf w p (t .number) ch → (sectionOf p (t .start) ch .start ≤ sectionOf p (t .start) ch .end) × (sectionOf p (t .start) ch .end ≤ payloadLength w p)

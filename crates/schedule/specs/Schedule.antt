@@ -17,7 +17,7 @@ use Rattle.modulation.specs.Symbols.{unitOf}
 use Rattle.crs.specs.Crs.{crsInit}
 use Rattle.phich.specs.Spreading.{spreadLength}
 use Rattle.phich.specs.Loops.{QuadSums}
-use Rattle.plan.specs.Fields.{unitsOf}
+use Rattle.plan.specs.Fields.{mappingUnits}
 use Rattle.plan.specs.Rows.{hisOf, nthUser}
 use Rattle.plan.specs.Valid.{UserIn}
 use Rattle.plan.specs.declared.Cell.{Cell}
@@ -30,8 +30,8 @@ use Rattle.layout.specs.declared.Owner.{Owner}
 use Rattle.layout.specs.declared.Owner.the-variants as owner
 use Rattle.counts.specs.Counts.{countOf}
 use Rattle.payload.specs.Sections.{sectionBytes}
-use Rattle.payload.specs.Payload.{pbchBits, usersStart}
-use Rattle.payload.specs.Loops.{computedBits}
+use Rattle.payload.specs.Payload.{pbchBitCount, usersStart}
+use Rattle.payload.specs.Loops.{computedBitCount}
 use Rattle.subframe.specs.Elements.{pbchFirst, controlInit, userInit, ownerBit, hiBit}
 use Rattle.areas.specs.Areas.{areaSends, areaElement, pbchArea, userArea}
 use Rattle.signals.specs.Signals.{crsSends, crsSent, markSends, pssSent, sssSent}
@@ -48,7 +48,7 @@ signalTurns c = symbols c * c .ports
 
 -- the turn of the first user, and how many turns there are
 abbrev pub usersFirst : Plan → ℕ
-usersFirst p = signalTurns (p .cell) + 4 + unitsOf (p .cell)
+usersFirst p = signalTurns (p .cell) + 4 + mappingUnits (p .cell)
 
 unfoldable pub channelCount : Plan → ℕ
 channelCount p = usersFirst p + p .users .count
@@ -59,7 +59,7 @@ laterAt w p zero = Sync Primary
 laterAt w p (suc zero) = Sync Secondary
 laterAt w p (suc (suc zero)) = Pbch
 laterAt w p (suc (suc (suc zero))) = Pcfich
-laterAt w p (suc (suc (suc (suc m)))) = if ltb m (unitsOf (p .cell)) then Phich m else User (nthUser w p (m - unitsOf (p .cell)))
+laterAt w p (suc (suc (suc (suc m)))) = if ltb m (mappingUnits (p .cell)) then Phich m else User (nthUser w p (m - mappingUnits (p .cell)))
 
 -- the channel of turn n
 unfoldable pub channelAt : List ℕ → Plan → ℕ → Channel
@@ -77,7 +77,7 @@ TurnOf w p n (Sync Primary) = n ≡ signalTurns (p .cell)
 TurnOf w p n (Sync Secondary) = n ≡ signalTurns (p .cell) + 1
 TurnOf w p n Pbch = n ≡ signalTurns (p .cell) + 2
 TurnOf w p n Pcfich = n ≡ signalTurns (p .cell) + 3
-TurnOf w p n (Phich m) = (m < unitsOf (p .cell)) × (n ≡ signalTurns (p .cell) + 4 + m)
+TurnOf w p n (Phich m) = (m < mappingUnits (p .cell)) × (n ≡ signalTurns (p .cell) + 4 + m)
 TurnOf w p n (User u) = (usersFirst p ≤ n) × (n < channelCount p) × (u ≡ nthUser w p (n - usersFirst p))
 
 -- its owner: a user is the plan's user of its number
@@ -127,7 +127,7 @@ Among p (Crs s q) = (s < symbols (p .cell)) × (q < p .cell .ports)
 Among p (Sync m) = ⊥
 Among p Pbch = Unit {0}
 Among p Pcfich = Unit {0}
-Among p (Phich m) = m < unitsOf (p .cell)
+Among p (Phich m) = m < mappingUnits (p .cell)
 Among p (User u) = UserIn (p .cell) u
 
 -- ---- WHAT IT SENDS
@@ -183,10 +183,10 @@ allSend w p e = sentBelow w p (channelCount p) e
 unfoldable pub sectionOf : Plan → ℕ → Channel → Section
 sectionOf p start (Crs s q) = record { start = 0; end = 0 }
 sectionOf p start (Sync m) = record { start = 0; end = 0 }
-sectionOf p start Pbch = record { start = 0; end = sectionBytes (pbchBits (p .cell) (p .frame)) }
+sectionOf p start Pbch = record { start = 0; end = sectionBytes (pbchBitCount (p .cell) (p .frame)) }
 sectionOf p start Pcfich = record { start = 0; end = 0 }
-sectionOf p start (Phich m) = record { start = sectionBytes (pbchBits (p .cell) (p .frame)); end = usersStart p }
-sectionOf p start (User u) = record { start = start; end = start + sectionBytes (computedBits (p .cell) (p .frame) u) }
+sectionOf p start (Phich m) = record { start = sectionBytes (pbchBitCount (p .cell) (p .frame)); end = usersStart p }
+sectionOf p start (User u) = record { start = start; end = start + sectionBytes (computedBitCount (p .cell) (p .frame) u) }
 
 -- the sums s of all units' quads are made of the payload's HIs
 pub record SumsOf (w : List ℕ) (p : Plan) (payload s : List ℕ) : Type 0 where

@@ -9,7 +9,7 @@ use lib.Dec.{ltb}
 use lib.ListN.{length, getD}
 use Rattle.base.specs.declared.Element.{Element}
 use Rattle.base.specs.Bytes.{byteIn}
-use Rattle.plan.specs.Fields.{unitsOf}
+use Rattle.plan.specs.Fields.{mappingUnits}
 use Rattle.plan.specs.Check.{checkOf}
 use Rattle.plan.specs.Rows.{usersOf}
 use Rattle.plan.specs.declared.Plan.{Plan}
@@ -38,9 +38,9 @@ SameElements w p o A B =
 
 -- a unit or a user that has a place is one of the plan's
 module _ (w : List ℕ) (p : Plan) where
-  pub unit-owner : (m s k : ℕ) → owns w p (Phich m) s k ≡ true → m < unitsOf (p .cell)
+  pub unit-owner : (m s k : ℕ) → owns w p (Phich m) s k ≡ true → m < mappingUnits (p .cell)
   unfolding owns fixedRule phich
-  unit-owner m s k h = ltb-true m (unitsOf (p .cell)) (and-left (ltb m (unitsOf (p .cell))) _ (and-left _ _ h))
+  unit-owner m s k h = ltb-true m (mappingUnits (p .cell)) (and-left (ltb m (mappingUnits (p .cell))) _ (and-left _ _ h))
 
   pub user-owner : (i s k : ℕ) → owns w p (UserOf i) s k ≡ true → i < length (usersOf w p)
   unfolding owns userRule

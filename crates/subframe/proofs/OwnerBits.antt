@@ -28,7 +28,7 @@ use Rattle.layout.specs.declared.Owner.the-variants.{Pbch, User as UserOf}
 use Rattle.counts.proofs.FixedCounts.{pbch-count}
 use Rattle.counts.specs.Counts.{countOf}
 use Rattle.payload.specs.Sections.{startOf, span, sectionBits}
-use Rattle.payload.specs.Payload.{pbchBits, userBits, heads, sections}
+use Rattle.payload.specs.Payload.{pbchBitCount, userBitCount, heads, sections}
 use Rattle.payload.specs.Bits.{ownerBits}
 use Rattle.payload.proofs.Sections.{span-length, userStart, user-bits-at}
 use Rattle.subframe.specs.Elements.{ownerBit}
@@ -80,21 +80,21 @@ order-of q (inr (inr (inr e))) = absurd e
 
 module _ (w : List ℕ) (p : Plan) where
   pub user-size : (i : ℕ) → i < length (usersOf w p) → length (ownerBits w p (UserOf i)) ≡ nthUser w p i .order * countOf w p (UserOf i)
-  unfolding userBits
-  user-size i l = ap length (user-bits-at w p i l) ∙ span-length (8 * userStart w p i) (userBits w p i)
+  unfolding userBitCount
+  user-size i l = ap length (user-bits-at w p i l) ∙ span-length (8 * userStart w p i) (userBitCount w p i)
 
-  pbch-span : ownerBits w p Pbch ≡ span (8 * startOf (sections w p) 0) (pbchBits (p .cell) (p .frame))
+  pbch-span : ownerBits w p Pbch ≡ span (8 * startOf (sections w p) 0) (pbchBitCount (p .cell) (p .frame))
   unfolding ownerBits sectionBits sections heads
   pbch-span = refl
 
 module _ (w : List ℕ) (p : Plan) (ok : checkOf w ≡ accepted p) where
   -- PBCH has two bits to a place
-  pub pbch-both : pbchBits (p .cell) (p .frame) ≡ 2 * countOf w p Pbch
-  unfolding pbchBits
+  pub pbch-both : pbchBitCount (p .cell) (p .frame) ≡ 2 * countOf w p Pbch
+  unfolding pbchBitCount
   pbch-both = pbch-twice (eqb (p .frame .subframe) 0) (eqb (p .cell .prefix) 1) ∙ ap (λ (n : ℕ). 2 * n) (sym (pbch-count w p ok))
 
   pub pbch-size : length (ownerBits w p Pbch) ≡ 2 * countOf w p Pbch
-  pbch-size = ap length (pbch-span w p) ∙ span-length (8 * startOf (sections w p) 0) (pbchBits (p .cell) (p .frame)) ∙ pbch-both
+  pbch-size = ap length (pbch-span w p) ∙ span-length (8 * startOf (sections w p) 0) (pbchBitCount (p .cell) (p .frame)) ∙ pbch-both
 
   pub user-order : (i : ℕ) → i < length (usersOf w p) → Order (nthUser w p i .order)
   unfolding nthUser

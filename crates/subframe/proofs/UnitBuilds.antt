@@ -21,11 +21,11 @@ use Rattle.precoding.specs.Layers.{Occurs}
 use Rattle.precoding.specs.Phich.{phichPrecoded}
 use Rattle.precoding.proofs.Diversity.{phich-elements, phich-symbols}
 use Rattle.phich.specs.His.{hiNumber}
-use Rattle.phich.specs.Units.{mappingUnit, sumAt, unitSums, SameHiBits as SameHis}
+use Rattle.phich.specs.Units.{mappingUnit, sumAt, mappingUnitSums, SameHiBits as SameHis}
 use Rattle.phich.proofs.Units.{bit-le, exactly}
 use Rattle.phich.specs.Spreading.{spreadLength}
 use Rattle.plan.specs.Lists.{Every}
-use Rattle.plan.specs.Fields.{unitsOf}
+use Rattle.plan.specs.Fields.{mappingUnits}
 use Rattle.plan.specs.Rows.{hisOf}
 use Rattle.plan.specs.Check.{checkOf}
 use Rattle.plan.specs.declared.Hi.{Hi}
@@ -37,7 +37,7 @@ use Rattle.layout.specs.declared.Owner.the-variants.{Phich}
 use Rattle.counts.specs.Counts.{countOf}
 use Rattle.counts.proofs.FixedCounts.{phich-count}
 use Rattle.places.specs.Places.{placeNumber, symbolAt, carrierAt, placeOf, indexOf}
-use Rattle.payload.specs.Bits.{hiBits, unitBits, ownerBits}
+use Rattle.payload.specs.Bits.{hiBits, mappingUnitBits, ownerBits}
 use Rattle.payload.proofs.Sections.{hi-length}
 use Rattle.subframe.specs.Elements.{controlInit, hiBit, phichSum, elementFor}
 use Rattle.subframe.specs.Grid.{gridOf}
@@ -52,30 +52,30 @@ module _ (l m : ℕ) (F : ℕ → Type 0) where
   OfHis hs bs = (n : ℕ) → n < length hs → mappingUnit l (hiNumber hs n) ≡ m → F (getD bs n 0)
 
   module _ (h : Hi) (hs : List Hi) (b : ℕ) (bs : List ℕ) where
-    later : Every F (unitBits l m (h ∷ hs) (b ∷ bs)) → Every F (unitBits l m hs bs)
-    unfolding unitBits
+    later : Every F (mappingUnitBits l m (h ∷ hs) (b ∷ bs)) → Every F (mappingUnitBits l m hs bs)
+    unfolding mappingUnitBits
     later = pick (eqb (mappingUnit l h) m)
       where
-        pick : (t : Bool) → Every F (if t then b ∷ unitBits l m hs bs else unitBits l m hs bs) → Every F (unitBits l m hs bs)
+        pick : (t : Bool) → Every F (if t then b ∷ mappingUnitBits l m hs bs else mappingUnitBits l m hs bs) → Every F (mappingUnitBits l m hs bs)
         pick true e = e .1
         pick false e = e
 
-    first : mappingUnit l h ≡ m → Every F (unitBits l m (h ∷ hs) (b ∷ bs)) → F b
-    unfolding unitBits
-    first u e = (subst (λ (t : Bool). Every F (if t then b ∷ unitBits l m hs bs else unitBits l m hs bs)) (eq-eqb (mappingUnit l h) m u) e) .0
+    first : mappingUnit l h ≡ m → Every F (mappingUnitBits l m (h ∷ hs) (b ∷ bs)) → F b
+    unfolding mappingUnitBits
+    first u e = (subst (λ (t : Bool). Every F (if t then b ∷ mappingUnitBits l m hs bs else mappingUnitBits l m hs bs)) (eq-eqb (mappingUnit l h) m u) e) .0
 
-  to-his : (hs : List Hi) (bs : List ℕ) → length hs ≡ length bs → Every F (unitBits l m hs bs) → OfHis hs bs
+  to-his : (hs : List Hi) (bs : List ℕ) → length hs ≡ length bs → Every F (mappingUnitBits l m hs bs) → OfHis hs bs
   to-his [] bs q e n k u = absurd (not-suc-le-zero k)
   to-his (h ∷ hs) [] q e n k u = absurd (omega arith)
   to-his (h ∷ hs) (b ∷ bs) q e zero k u = first h hs b bs u e
   to-his (h ∷ hs) (b ∷ bs) q e (suc n) k u = to-his hs bs (suc-inj q) (later h hs b bs e) n (le-of-suc-le-suc k) u
 
-  pub from-his : (hs : List Hi) (bs : List ℕ) → OfHis hs bs → Every F (unitBits l m hs bs)
-  unfolding unitBits
+  pub from-his : (hs : List Hi) (bs : List ℕ) → OfHis hs bs → Every F (mappingUnitBits l m hs bs)
+  unfolding mappingUnitBits
   from-his [] bs f = tt
   from-his (h ∷ hs) [] f = tt
   from-his (h ∷ hs) (b ∷ bs) f =
-      let rest : Every F (unitBits l m hs bs) = from-his hs bs (λ n k u. f (suc n) (suc-le-suc k) u) in
+      let rest : Every F (mappingUnitBits l m hs bs) = from-his hs bs (λ n k u. f (suc n) (suc-le-suc k) u) in
       on-if (Every F) (eqb (mappingUnit l h) m) (λ t. (f 0 (suc-le-suc zero-le) (eqb-true (mappingUnit l h) m t), rest)) (λ t. rest)
 
 -- ---- an accepted plan
@@ -100,7 +100,7 @@ module _ (w : List ℕ) (p : Plan) (ok : checkOf w ≡ accepted p) where
 
     -- at the i-th of its places
     at-place :
-        m < unitsOf (p .cell) → SameElements w p (Phich m) A B → (i : ℕ) → i < 12 → (port : ℕ) → port < p .cell .ports
+        m < mappingUnits (p .cell) → SameElements w p (Phich m) A B → (i : ℕ) → i < 12 → (port : ℕ) → port < p .cell .ports
         → phichPrecoded (p .cell .ports) m 2 (phichSum w p A m) (i / 4) (i % 4) port ≡ phichPrecoded (p .cell .ports) m 2 (phichSum w p B m) (i / 4) (i % 4) port
     unfolding elementFor
     at-place in-m same i l port in-port =
@@ -111,7 +111,7 @@ module _ (w : List ℕ) (p : Plan) (ok : checkOf w ≡ accepted p) where
         (index-back w p ok (Phich m) i r)
         (same port (symbolAt (p .cell) t) (carrierAt (p .cell) t) in-port (index-place w p ok (Phich m) i r) (index-owned w p ok (Phich m) i r))
 
-    to-sums : m < unitsOf (p .cell) → SameElements w p (Phich m) A B → SameSums
+    to-sums : m < mappingUnits (p .cell) → SameElements w p (Phich m) A B → SameSums
     to-sums in-m same i l =
         let e : 4 * (i / 4) + i % 4 ≡ i = omega arith in
         let n : ℕ = 4 * (i / 4) + i % 4 in
@@ -123,10 +123,10 @@ module _ (w : List ℕ) (p : Plan) (ok : checkOf w ≡ accepted p) where
 
     -- ---- its sums and its HIs' bits
     abbrev sumsOf : List ℕ → List Pair
-    sumsOf payload = unitSums (spreadLength (p .cell)) (c (controlInit (p .cell) (p .frame))) m (hiBit w p payload) (hisOf w p)
+    sumsOf payload = mappingUnitSums (spreadLength (p .cell)) (c (controlInit (p .cell) (p .frame))) m (hiBit w p payload) (hisOf w p)
 
     twelve : (payload : List ℕ) → length (sumsOf payload) ≡ 12
-    unfolding unitSums
+    unfolding mappingUnitSums
     twelve payload = table-length 12 (λ i. sumAt (spreadLength (p .cell)) (c (controlInit (p .cell) (p .frame))) m (hiBit w p payload) i (hisOf w p) 0)
 
     as-list : SameSums ↔ (sumsOf A ≡ sumsOf B)
@@ -150,12 +150,12 @@ module _ (w : List ℕ) (p : Plan) (ok : checkOf w ≡ accepted p) where
       to-his (spreadLength (p .cell)) m (λ b. bitAt A b ≡ bitAt B b) (hisOf w p) (hiBits w p) (valid w p ok .his-count ∙ sym (hi-length w p)),
     )
 
-    pub unit-elements : m < unitsOf (p .cell) → SameElements w p (Phich m) A B ↔ SameBits w p (Phich m) A B
+    pub unit-elements : m < mappingUnits (p .cell) → SameElements w p (Phich m) A B ↔ SameBits w p (Phich m) A B
     unit-elements in-m = Iff·trans (to-sums in-m, to-elements) (Iff·trans as-list (Iff·trans by-his by-bits))
 
 -- THE LAW: "For .. each acknowledgement unit .., the two grids hold the same bytes at all of that owner's elements, on all ports, exactly
 -- when A and B agree in all of that owner's bits"
 pub unit-builds :
-    (w : List ℕ) (p : Plan) → checkOf w ≡ accepted p → (A B : List ℕ) (m : ℕ) → m < unitsOf (p .cell)
+    (w : List ℕ) (p : Plan) → checkOf w ≡ accepted p → (A B : List ℕ) (m : ℕ) → m < mappingUnits (p .cell)
     → SameBytes w p (Phich m) (gridOf w p A) (gridOf w p B) ↔ SameBits w p (Phich m) A B
 unit-builds w p ok A B m in-m = Iff·trans (same-bytes w p ok (Phich m) A B) (unit-elements w p ok A B m in-m)

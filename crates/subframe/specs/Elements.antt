@@ -20,7 +20,7 @@ use Rattle.crs.specs.Crs.{crsValue}
 use Rattle.sync.specs.Pss.{pssPhase}
 use Rattle.sync.specs.Sss.{sssLevel}
 use Rattle.phich.specs.Spreading.{spreadLength}
-use Rattle.phich.specs.Units.{unitSums}
+use Rattle.phich.specs.Units.{mappingUnitSums}
 use Rattle.plan.specs.Rows.{hisOf, nthUser}
 use Rattle.plan.specs.declared.Cell.{Cell}
 use Rattle.plan.specs.declared.Frame.{Frame}
@@ -82,7 +82,7 @@ hiBit w p payload n = bitAt payload (getD (hiBits w p) n 0)
 
 unfoldable pub phichSum : List ℕ → Plan → List ℕ → ℕ → ℕ → Pair
 phichSum w p payload m i =
-    getD (unitSums (spreadLength (p .cell)) (c (controlInit (p .cell) (p .frame))) m (hiBit w p payload) (hisOf w p)) i nil
+    getD (mappingUnitSums (spreadLength (p .cell)) (c (controlInit (p .cell) (p .frame))) m (hiBit w p payload) (hisOf w p)) i nil
 
 -- ---- USER (6.3, 6.4): "c_init = RNTI×16384+512f+C", Q bits a symbol
 unfoldable pub userInit : Cell → Frame → User → ℕ

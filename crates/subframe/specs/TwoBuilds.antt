@@ -10,7 +10,7 @@ use mathlib.Core.List.{List}
 use lib.ListN.{length, getD}
 use Rattle.base.specs.Bits.{bitAt}
 use Rattle.plan.specs.Lists.{Every}
-use Rattle.plan.specs.Fields.{unitsOf}
+use Rattle.plan.specs.Fields.{mappingUnits}
 use Rattle.plan.specs.Rows.{usersOf}
 use Rattle.plan.specs.declared.Plan.{Plan}
 use Rattle.layout.specs.Owners.{gridPlace, symbols, carriers, owns}
@@ -50,5 +50,5 @@ pub record TwoBuilds (w : List ℕ) (p : Plan) (A B g h : List ℕ) : Type 0 whe
   -- "For the broadcast channel, each acknowledgement unit and each user, the two grids hold the same bytes at all of that owner's
   -- elements, on all ports, exactly when A and B agree in all of that owner's bits."
   pub pbch : SameBytes w p Pbch g h ↔ SameBits w p Pbch A B
-  pub unit : (m : ℕ) → m < unitsOf (p .cell) → SameBytes w p (Phich m) g h ↔ SameBits w p (Phich m) A B
+  pub unit : (m : ℕ) → m < mappingUnits (p .cell) → SameBytes w p (Phich m) g h ↔ SameBits w p (Phich m) A B
   pub user : (i : ℕ) → i < length (usersOf w p) → SameBytes w p (UserOf i) g h ↔ SameBits w p (UserOf i) A B

@@ -10,26 +10,26 @@ use Rattle.sync.specs.Inner.{indicesOf}
 use Rattle.sync.specs.declared.Indices.{Indices}
 
 -- D from its indices a < b: m' = 31q + a and D = m' - q(q+1)/2, where q = b - a - 1
-unfoldable pub groupOf : ℕ → ℕ → ℕ
-groupOf a b = 31 * (b - a - 1) + a - (b - a - 1) * (b - a) / 2
+unfoldable pub groupIdentity : ℕ → ℕ → ℕ
+groupIdentity a b = 31 * (b - a - 1) + a - (b - a - 1) * (b - a) / 2
 
 right : ℕ → Bool
-right D = ltb (m0Of D) (m1Of D) && eqb (groupOf (m0Of D) (m1Of D)) D
+right D = ltb (m0Of D) (m1Of D) && eqb (groupIdentity (m0Of D) (m1Of D)) D
 
 -- one computed test over the 168 groups
 tested : (D : ℕ) → D < 168 → T (right D)
-unfolding right groupOf m0Of m1Of eOf qOf qPrime
+unfolding right groupIdentity m0Of m1Of eOf qOf qPrime
 tested = below-at right 168 tt
 
 pub indices-rise : (D : ℕ) → D < 168 → m0Of D < m1Of D
 unfolding right
 indices-rise D h = ltb→lt _ _ (and-l (ltb (m0Of D) (m1Of D)) _ (tested D h))
 
-pub group-back : (D : ℕ) → D < 168 → groupOf (m0Of D) (m1Of D) ≡ D
+pub group-back : (D : ℕ) → D < 168 → groupIdentity (m0Of D) (m1Of D) ≡ D
 unfolding right
 group-back D h = eqb→eq _ _ (and-r (ltb (m0Of D) (m1Of D)) _ (tested D h))
 
 pub indices-differ : (D E : ℕ) → D < 168 → E < 168 → indicesOf D ≡ indicesOf E → D ≡ E
 unfolding indicesOf
 indices-differ D E h k e =
-    sym (group-back D h) ∙ ap (λ (p : Indices). groupOf (p .m0) (p .m1)) e ∙ group-back E k
+    sym (group-back D h) ∙ ap (λ (p : Indices). groupIdentity (p .m0) (p .m1)) e ∙ group-back E k

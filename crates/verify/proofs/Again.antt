@@ -24,7 +24,7 @@ use Rattle.codeword.specs.Codewords.{scrambled, dataSymbol}
 use Rattle.codeword.proofs.Laws.{scrambled-lt, order-symbol}
 use Rattle.precoding.specs.Layers.{Occurs}
 use Rattle.precoding.specs.Matrices.{precoded}
-use Rattle.precoding.specs.Places.{ownPort, beside, placed}
+use Rattle.precoding.specs.Places.{ownPort, partnerIndex, placed}
 use Rattle.plan.specs.Check.{checkOf}
 use Rattle.plan.specs.declared.Plan.{Plan}
 use Rattle.plan.specs.declared.Checked.the-variants.{Plan as accepted}
@@ -161,7 +161,7 @@ module _
           ∙ sym (sent-due d (λ n r. refl) at at-sent)
           ∙ ap (λ (n : ℕ). placed P (n / 2 % 2) u d n (at / T)) at-index
           ∙ ap (placed P (j / 2 % 2) u d j) at-port)
-          ∙ own-read P (j / 2) u (j % 2) (d j) (d (beside j)) (omega arith, omega arith)
+          ∙ own-read P (j / 2) u (j % 2) (d j) (d (partnerIndex j)) (omega arith, omega arith)
 
     -- ---- THE LAWS: the grid holds what its own symbols give, and some bits have these, just where it holds the payload's elements
     pub to-due : ((j : ℕ) → j < M → isSymbol Q (S j) ≡ true) → Holds (ownerSends w p o) (sentBy w p o u S) g → Holds (ownerSends w p o) (elementDue w p g) g

@@ -21,7 +21,7 @@ use Rattle.plan.specs.declared.Checked.the-variants.{Plan as accepted}
 use Rattle.layout.specs.declared.Owner.{Owner}
 use Rattle.layout.specs.declared.Owner.the-variants.{Pbch, User as UserOf}
 use Rattle.counts.specs.Counts.{countOf}
-use Rattle.places.specs.Places.{placesOf, ownsAt, placeOf, placeBy, orderOf, indexOf}
+use Rattle.places.specs.Places.{placesOf, ownsAt, placeOf, placeBy, placeOrder, indexOf}
 use Rattle.base.proofs.Counts.{nth-same}
 use Rattle.grid.specs.Elements.{elementIn}
 use Rattle.grid.specs.Writing.{sends, Room}
@@ -29,7 +29,7 @@ use Rattle.compare.specs.declared.Seen.{Seen}
 use Rattle.compare.specs.declared.Seen.the-variants.{Weight, Differs}
 use Rattle.compare.specs.Comparing.{Holds, Compared}
 use Rattle.compare.proofs.Comparing.{weight-same, holds-of, differs}
-use Rattle.payload.specs.Payload.{userBits}
+use Rattle.payload.specs.Payload.{userBitCount}
 use Rattle.subframe.specs.Elements.{ownerBit, pbchFirst, pbchSymbol, userInit, userSymbol, elementFor}
 use Rattle.subframe.proofs.DataBuilds.{Sends}
 use Rattle.subframe.proofs.Occurs.{pbch-occurs, user-occurs}
@@ -120,7 +120,7 @@ module _ (w : List ℕ) (p : Plan) (ok : checkOf w ≡ accepted p) (g : List ℕ
     pbch = pbchArea (p .cell) (p .frame)
 
     pbch-symbols : (j : ℕ) → areaSymbol pbch g j ≡ symbolIn w p g Pbch (j / 2) j
-    unfolding areaSymbol areaPlace symbolIn placeOf placeBy orderOf
+    unfolding areaSymbol areaPlace symbolIn placeOf placeBy placeOrder
     pbch-symbols j =
         ap (λ (t : ℕ). pairOf (elementIn g (ownPort P (j / 2) * T + t)))
         (nth-same (areaAt pbch) (ownsAt w p Pbch) T (λ t l. pbch-place w p ok zero-th t) j)
@@ -156,7 +156,7 @@ module _ (w : List ℕ) (p : Plan) (ok : checkOf w ≡ accepted p) (g : List ℕ
     scrambling = c (userInit (p .cell) (p .frame) u)
 
     user-bits : (n : ℕ) → n < Q * countOf w p (UserOf i) → ownerBit w p A (UserOf i) n ≡ dataBit w p g (UserOf i) Q scrambling n
-    unfolding userBits userBit
+    unfolding userBitCount userBit
     user-bits n l = user-bit w p g i in-i n l
 
     user-turns : (t q : ℕ) → active w p (UserOf i) t q ≡ sends P (indexOf w p (UserOf i) t / 2 % 2) q
@@ -180,7 +180,7 @@ module _ (w : List ℕ) (p : Plan) (ok : checkOf w ≡ accepted p) (g : List ℕ
     user-count = area-count w p ok i in-i _
 
     user-symbols : (j : ℕ) → areaSymbol area g j ≡ symbolIn w p g (UserOf i) (j / 2) j
-    unfolding areaSymbol areaPlace symbolIn placeOf placeBy orderOf
+    unfolding areaSymbol areaPlace symbolIn placeOf placeBy placeOrder
     user-symbols j =
         ap (λ (t : ℕ). pairOf (elementIn g (ownPort P (j / 2) * T + t))) (nth-same (areaAt area) (ownsAt w p (UserOf i)) T place-is j)
 

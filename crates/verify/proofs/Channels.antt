@@ -16,7 +16,7 @@ use Rattle.phich.specs.Spreading.{spreadLength}
 use Rattle.phich.specs.Loops.{QuadSums}
 use Rattle.phich.proofs.Scrambled.{part-is}
 use Rattle.plan.specs.Check.{checkOf}
-use Rattle.plan.specs.Fields.{unitsOf}
+use Rattle.plan.specs.Fields.{mappingUnits}
 use Rattle.plan.specs.Rows.{hisFrom, hisOf, usersOf, nthUser}
 use Rattle.plan.specs.Valid.{CellIn, FrameIn}
 use Rattle.plan.specs.declared.User.{User}
@@ -117,7 +117,7 @@ module _ {w : List ℕ} {p : Plan} {g : List ℕ} where
     module _ {r : Registers} {s masks : List ℕ} (h : Shared w p g r s masks) where
       -- a unit, with its part of the sums
       module _ {m y : ℕ} (e : ch ≡ Phich m) (ey : y ≡ m) where
-        in-m : m < unitsOf (p .cell)
+        in-m : m < mappingUnits (p .cell)
         unfolding TurnOf
         in-m = turn-as e .0
 

@@ -2,7 +2,7 @@
 use Prim.Native.Nat.{_-_}
 use native.Mathlib.Omega.{arith}
 use Rattle.base.specs.Bits.{bitAt}
-use Rattle.phich.proofs.Turns.{Turn, start, here-in, next, finish}
+use Rattle.phich.proofs.HisLeft.{Turn, start, here-in, next, finish}
 use Rattle.phich.proofs.quad_sums.Statement.{statement}
 use Rattle.phich.proofs.quad_sums.Tie as tie
 

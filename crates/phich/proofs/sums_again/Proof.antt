@@ -5,7 +5,7 @@ use lib.ListN.{drop}
 use Rattle.plan.specs.Rows.{hisFrom}
 use Rattle.phich.specs.Spreading.{wordBit}
 use Rattle.phich.specs.Loops.{bitsFrom}
-use Rattle.phich.proofs.Turns.{Turn, start, here-in, next, bit-here, finish}
+use Rattle.phich.proofs.HisLeft.{Turn, start, here-in, next, bit-here, finish}
 use Rattle.phich.proofs.sums_again.Statement.{statement}
 use Rattle.phich.proofs.sums_again.Tie as tie
 

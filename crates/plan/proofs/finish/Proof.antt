@@ -1,6 +1,6 @@
 -- `plan::finish` meets its contract: END, and nothing after it. Assumes nothing.
 use mathlib.Core.Path.{sym, _∙_}
-use Rattle.plan.proofs.Turns.{end-more, end-last, end-late}
+use Rattle.plan.proofs.OneCommand.{end-more, end-last, end-late}
 use borrow.Author.Needs.{needs}
 use Rattle.plan.proofs.finish.Statement.{statement}
 use Rattle.plan.proofs.finish.Tie as tie

@@ -1,7 +1,7 @@
 -- `plan::units` meets its contract: a product of two bytes fits. Assumes nothing.
 use native.Mathlib.Omega.{arith}
 use mathlib.Core.Path.{refl}
-use Rattle.plan.specs.Fields.{unitsOf}
+use Rattle.plan.specs.Fields.{mappingUnits}
 use Rattle.plan.proofs.FieldLaws.{bytes-mul}
 use borrow.Author.Needs.{needs}
 use Rattle.plan.proofs.units.Statement.{statement}
@@ -24,7 +24,7 @@ add-result c =
     omega (arith, bytes-mul (at-args .args .c .sixths) (at-args .args .c .blocks) (omega arith) (omega arith))
 
 returns : tie.Need-returns
-unfolding unitsOf
+unfolding mappingUnits
 returns c = refl
 
 pub units-spec : {M : Type 1} → statement M

@@ -1,4 +1,4 @@
--- `channels::fill` meets its contract: a walk of its MIR, by hand. The pair is read whole, the core is called by value, the tables and
+-- `channel_write::fill` meets its contract: a walk of its MIR, by hand. The pair is read whole, the core is called by value, the tables and
 -- the slices are passed on, and the new pair is stored whole.
 -- Assumes nothing.
 use mathlib.Core.Path.{_≡_, refl}
@@ -52,18 +52,18 @@ use Rattle.plan.proofs.Plan as P
 use Rattle.plan.proofs.Plan.Laws as P′
 use Rattle.grid.specs.Writing.{Written}
 use Rattle.schedule.specs.Schedule.{sendsOf, sentOf}
-use Rattle.channels.specs.Channels.{bitsUsed, SequenceIn}
+use Rattle.channel_write.specs.Channels.{bitsUsed, SequenceIn}
 use Rattle.schedule.specs.declared.Channel.{Channel}
 use Rattle.schedule.proofs.Channel as E
 use Rattle.schedule.proofs.Channel.Laws as E′
-use Rattle.channels.proofs.filled as core
-use Rattle.channels.proofs.filled.Symbol as core-def
-use Rattle.channels.proofs.filled.Symbol.{name as #channels·filled}
-use Rattle.channels.proofs.filled.Met as core-thm
-use Rattle.channels.proofs.fill.Key.{name as #channels·fill}
-use Rattle.channels.proofs.fill as f
-use Rattle.channels.proofs.fill.Statement as stated
-use Rattle.channels.proofs.fill.Code as code
+use Rattle.channel_write.proofs.filled as core
+use Rattle.channel_write.proofs.filled.Symbol as core-def
+use Rattle.channel_write.proofs.filled.Symbol.{name as #channels·filled}
+use Rattle.channel_write.proofs.filled.Met as core-thm
+use Rattle.channel_write.proofs.fill.Key.{name as #channels·fill}
+use Rattle.channel_write.proofs.fill as f
+use Rattle.channel_write.proofs.fill.Statement as stated
+use Rattle.channel_write.proofs.fill.Code as code
 
 abbrev R : RattleType
 R = T.the-row

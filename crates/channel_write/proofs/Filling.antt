@@ -30,7 +30,7 @@ use Rattle.layout.specs.declared.Mark.{Mark}
 use Rattle.layout.proofs.Pilot.{slot-length}
 use Rattle.counts.specs.Users.{userElements}
 use Rattle.counts.proofs.UserElements.{user-elements}
-use Rattle.payload.specs.Payload.{pbchBits}
+use Rattle.payload.specs.Payload.{pbchBitCount}
 use Rattle.grid.specs.Writing.{Written}
 use Rattle.grid.proofs.Writing.{same}
 use Rattle.subframe.proofs.OwnerBits.{pbch-both}
@@ -50,7 +50,7 @@ use Rattle.schedule.proofs.Channel.{the-type}
 use Rattle.schedule.proofs.Senders.{present-sends}
 use Rattle.schedule.proofs.Turns as turns
 use Rattle.schedule.proofs.Owners.{user-in as one-of}
-use Rattle.channels.specs.Channels.{bitsUsed, LevelsIn, TableFor, ChannelIn, SequenceIn}
+use Rattle.channel_write.specs.Channels.{bitsUsed, LevelsIn, TableFor, ChannelIn, SequenceIn}
 
 -- ---- a user's order is a modulation's
 pub order-ok : (q : ℕ) → IsOneOf q orders → Order q
@@ -176,7 +176,7 @@ module _ {p : Plan} {ch : Channel} {t masks bits grid : List ℕ} (ok : ChannelI
     unfolding elementsOf sentOf bitsUsed TableFor
     pbch-filled a e ea k =
         let f : AreaFilled (pbchArea (p .cell) (p .frame)) 2 t bits r grid x h = subst (λ (b : Area). AreaFilled b 2 t bits r grid x h) ea k in
-        let n : 2 * areaCount (pbchArea (p .cell) (p .frame)) ≡ pbchBits (p .cell) (p .frame) = ap (λ (m : ℕ). 2 * m) (pbch-count w p (ok .plan) (zeroth e)) ∙ sym (pbch-both w p (ok .plan)) in
+        let n : 2 * areaCount (pbchArea (p .cell) (p .frame)) ≡ pbchBitCount (p .cell) (p .frame) = ap (λ (m : ℕ). 2 * m) (pbch-count w p (ok .plan) (zeroth e)) ∙ sym (pbch-both w p (ok .plan)) in
         sent Pbch e (f .written 2 (subst (λ (c : Channel). TableFor p c t) e (ok .table))) (f .pair ∙ ap (after r) n)
 
     pub pcfich-filled : ch ≡ Pcfich → Written (pcfichSends (p .cell)) (pcfichSent (p .cell) (p .frame .cfi) r) grid h × (x ≡ after r 32) → Fills r x h ch

@@ -1,10 +1,10 @@
--- `channels::filled` meets its contract: a case for each channel. Assumes nothing.
+-- `channel_write::filled` meets its contract: a case for each channel. Assumes nothing.
 use mathlib.Core.Path.{refl}
-use Rattle.channels.proofs.Filling.{crs-in, pbch-wide, pbch-in, pcfich-in, phich-in, user-in, no-mark}
-use Rattle.channels.proofs.Filling.{crs-filled, pbch-filled, pcfich-filled, phich-filled, user-filled}
+use Rattle.channel_write.proofs.Filling.{crs-in, pbch-wide, pbch-in, pcfich-in, phich-in, user-in, no-mark}
+use Rattle.channel_write.proofs.Filling.{crs-filled, pbch-filled, pcfich-filled, phich-filled, user-filled}
 use borrow.Author.Needs.{needs}
-use Rattle.channels.proofs.filled.Statement.{statement}
-use Rattle.channels.proofs.filled.Tie as tie
+use Rattle.channel_write.proofs.filled.Statement.{statement}
+use Rattle.channel_write.proofs.filled.Tie as tie
 
 enum-known-ch : tie.Need-enum-known-ch
 enum-known-ch c = search needs

@@ -1,8 +1,8 @@
--- `channels::write_mark` meets its contract: a case for each mark. Assumes nothing.
-use Rattle.channels.proofs.Filling.{mark-put}
+-- `channel_write::write_mark` meets its contract: a case for each mark. Assumes nothing.
+use Rattle.channel_write.proofs.Filling.{mark-put}
 use borrow.Author.Needs.{needs}
-use Rattle.channels.proofs.write_mark.Statement.{statement}
-use Rattle.channels.proofs.write_mark.Tie as tie
+use Rattle.channel_write.proofs.write_mark.Statement.{statement}
+use Rattle.channel_write.proofs.write_mark.Tie as tie
 
 enum-told : tie.Need-enum-told
 enum-told c = search needs

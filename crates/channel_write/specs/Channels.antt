@@ -13,7 +13,7 @@ use Rattle.plan.specs.declared.Checked.the-variants.{Plan as accepted}
 use Rattle.counts.specs.Users.{userElements}
 use Rattle.places.specs.Places.{placesOf}
 use Rattle.grid.specs.Writing.{Room}
-use Rattle.payload.specs.Payload.{pbchBits}
+use Rattle.payload.specs.Payload.{pbchBitCount}
 use Rattle.areas.specs.Tables.{RowMasks}
 use Rattle.data_write.specs.Sent.{TableOf}
 use Rattle.schedule.specs.Schedule.{TurnOf, HasSequence, presentIn}
@@ -26,7 +26,7 @@ unfoldable pub bitsUsed : Plan → Channel → ℕ
 bitsUsed p (Crs s q) = 4 * p .cell .blocks
 bitsUsed p (Sync m) = 0
 -- "PBCH when f = 0 (480 bits, extended 432)"
-bitsUsed p Pbch = pbchBits (p .cell) (p .frame)
+bitsUsed p Pbch = pbchBitCount (p .cell) (p .frame)
 -- "32-bit codewords repeat 011, 101, 110 for CFI 1, 2, 3"
 bitsUsed p Pcfich = 32
 -- "The bit is sent three times, BPSK, spread and scrambled by 36.211 6.9.1": three times N_SF

@@ -1,9 +1,9 @@
--- `channels::write` meets its contract: a mark, a unit, or another channel. Assumes nothing.
+-- `channel_write::write` meets its contract: a mark, a unit, or another channel. Assumes nothing.
 use native.Mathlib.Omega.{arith}
-use Rattle.channels.proofs.Filling.{mark-in, mark-written, unit-few, unit-ok, unit-written, other-ok, other-written}
+use Rattle.channel_write.proofs.Filling.{mark-in, mark-written, unit-few, unit-ok, unit-written, other-ok, other-written}
 use borrow.Author.Needs.{needs}
-use Rattle.channels.proofs.write.Statement.{statement}
-use Rattle.channels.proofs.write.Tie as tie
+use Rattle.channel_write.proofs.write.Statement.{statement}
+use Rattle.channel_write.proofs.write.Tie as tie
 
 enum-known-ch : tie.Need-enum-known-ch
 enum-known-ch c = search needs

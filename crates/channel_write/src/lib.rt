@@ -11,7 +11,7 @@ ghost use Rattle.grid.specs.Writing.{Written};
 ghost use Rattle.signals.specs.Rows.{MarkIn};
 ghost use Rattle.signals.specs.Signals.{markSends};
 ghost use Rattle.schedule.specs.Schedule.{startPair, sendsOf, markRow, markSent, sentOf, lentTo};
-ghost use Rattle.channels.specs.Channels.{bitsUsed, ChannelIn, SequenceIn};
+ghost use Rattle.channel_write.specs.Channels.{bitsUsed, ChannelIn, SequenceIn};
 
 // The channel filled with the pair r, and the pair after it. PBCH has masks of its own: it leaves out the reference signals of four ports,
 // whatever the cell has. Callers have the plan from the plan check, and have compared the grid's length.

@@ -1,4 +1,4 @@
--- `channels::map` meets its contract: a walk of its MIR, by hand. A local that holds the pair is lent by `&mut` to `fill`, for a lifetime of the call,
+-- `channel_write::map` meets its contract: a walk of its MIR, by hand. A local that holds the pair is lent by `&mut` to `fill`, for a lifetime of the call,
 -- and the tables and the slices are passed on.
 -- Assumes nothing.
 use mathlib.Core.Path.{_≡_, refl, subst}
@@ -54,23 +54,23 @@ use Rattle.plan.proofs.Plan as P
 use Rattle.plan.proofs.Plan.Laws as P′
 use Rattle.grid.specs.Writing.{Written}
 use Rattle.schedule.specs.Schedule.{initOf, firstBit, sendsOf, sentOf}
-use Rattle.channels.specs.Channels.{bitsUsed, SequenceIn}
+use Rattle.channel_write.specs.Channels.{bitsUsed, SequenceIn}
 use Rattle.schedule.specs.declared.Channel.{Channel}
 use Rattle.schedule.proofs.Channel as E
 use Rattle.schedule.proofs.Channel.Laws as E′
-use Rattle.channels.proofs.Filling.{begins}
+use Rattle.channel_write.proofs.Filling.{begins}
 use Rattle.schedule.proofs.started as begin
 use Rattle.schedule.proofs.started.Symbol as begin-def
 use Rattle.schedule.proofs.started.Symbol.{name as #schedule·started}
 use Rattle.schedule.proofs.started.Met as begin-thm
-use Rattle.channels.proofs.fill as lent
-use Rattle.channels.proofs.fill.Symbol as lent-def
-use Rattle.channels.proofs.fill.Symbol.{name as #channels·fill}
-use Rattle.channels.proofs.fill.Met as lent-thm
-use Rattle.channels.proofs.map.Key.{name as #channels·map}
-use Rattle.channels.proofs.map as f
-use Rattle.channels.proofs.map.Statement as stated
-use Rattle.channels.proofs.map.Code as code
+use Rattle.channel_write.proofs.fill as lent
+use Rattle.channel_write.proofs.fill.Symbol as lent-def
+use Rattle.channel_write.proofs.fill.Symbol.{name as #channels·fill}
+use Rattle.channel_write.proofs.fill.Met as lent-thm
+use Rattle.channel_write.proofs.map.Key.{name as #channels·map}
+use Rattle.channel_write.proofs.map as f
+use Rattle.channel_write.proofs.map.Statement as stated
+use Rattle.channel_write.proofs.map.Code as code
 
 abbrev R : RattleType
 R = T.the-row
