@@ -58,9 +58,9 @@ use Rattle.schedule.proofs.Channel as E
 use Rattle.schedule.proofs.Channel.Laws as E′
 use Rattle.channel_write.proofs.filled as core
 use Rattle.channel_write.proofs.filled.Symbol as core-def
-use Rattle.channel_write.proofs.filled.Symbol.{name as #channels·filled}
+use Rattle.channel_write.proofs.filled.Symbol.{name as #channel_write·filled}
 use Rattle.channel_write.proofs.filled.Met as core-thm
-use Rattle.channel_write.proofs.fill.Key.{name as #channels·fill}
+use Rattle.channel_write.proofs.fill.Key.{name as #channel_write·fill}
 use Rattle.channel_write.proofs.fill as f
 use Rattle.channel_write.proofs.fill.Statement as stated
 use Rattle.channel_write.proofs.fill.Code as code
@@ -178,7 +178,7 @@ module _ {M : Type 1} (𝓤 : URA M) (H : Heap 𝓤) (A : Atoms 𝓤) (W : Given
   goes : ent 𝓤 (⋆ 𝓤 H A (tokens ∷ ‵ (R .own h (val ∷ [])) ∷ ‵ rest-own ∷ [])) (Core 𝓤 H A at-mem run .pre to-core)
   goes = qed W (tokens ∷ ‵ (R .own h (val ∷ [])) ∷ ‵ rest-own ∷ []) ∵ says ! ok $ move ! (1 ∷ 2 ∷ []) $ fjoin ! $ move ! (1 ∷ 0 ∷ []) $ frame ! $ done !
 
-  module _ (C : Calls 𝓤 H) (Λ : Loops 𝓤 H) (fm : FmC 𝓤 H (W .laws) C) (known : Triple 𝓤 (C #channels·filled) (Core 𝓤 H A at-mem run)) where
+  module _ (C : Calls 𝓤 H) (Λ : Loops 𝓤 H) (fm : FmC 𝓤 H (W .laws) C) (known : Triple 𝓤 (C #channel_write·filled) (Core 𝓤 H A at-mem run)) where
     walk : ent 𝓤 (onEntry 𝓤 H A f.signature (κ, (κ₁, (κ₂, (κ₃, (κ₄, tt))))) (q, (q₁, (q₂, (q₃, (q₄, tt))))) x (vptr b o ∷ [], at-rest))
         (WpFn 𝓤 H C Λ code.function (vptr b o ∷ pv ∷ ev ∷ tv ∷ mv ∷ bv ∷ s ∷ []) Post)
     walk =
@@ -236,7 +236,7 @@ module _ {M : Type 1} (𝓤 : URA M) (H : Heap 𝓤) (A : Atoms 𝓤) (W : Given
         keep ! (0 ∷ 1 ∷ 2 ∷ 3 ∷ 4 ∷ []) $ by ! (exits r (zs .1 .1 .1 .1 .1 .1 .0) e l)))))))))))))))))))))
 
 fill-meets : {M : Type 1} (𝓤 : URA M) (H : Heap 𝓤) (A : Atoms 𝓤) (W : Given 𝓤 H A) (at-mem : Memory → SProp 𝓤) (run : Routine → Fun 𝓤) (𝓣 : Tables 𝓤 H)
-    → Triple 𝓤 (𝓣 .C #channels·filled) (Core 𝓤 H A at-mem run) → Meets 𝓤 H A f.signature (WpFn 𝓤 H (𝓣 .C) (𝓣 .Λ) code.function) (f.spec 𝓤 H A at-mem run)
+    → Triple 𝓤 (𝓣 .C #channel_write·filled) (Core 𝓤 H A at-mem run) → Meets 𝓤 H A f.signature (WpFn 𝓤 H (𝓣 .C) (𝓣 .Λ) code.function) (f.spec 𝓤 H A at-mem run)
 fill-meets 𝓤 H A W at-mem run 𝓣 known =
     walk-meets 𝓤 H A f.ended stayed W (
       goes-ref 𝓤 H A W 5 0 tt (plain (λ _. R)),
@@ -286,6 +286,6 @@ pub fill-spec : {M : Type 1} → stated.statement M
 unfolding code.routine tablesOf
 fill-spec 𝓤 H 𝓜 𝓖 𝓡 =
     entered 𝓤 H (tripleOf 𝓤 H (𝓖 .A) f.signature (f.spec 𝓤 H (𝓖 .A) (𝓜 .mem) (𝓡 .run)))
-    (tables 𝓤 H 𝓜 𝓡 code.env .C) (tables 𝓤 H 𝓜 𝓡 code.env .Λ) #channels·fill code.function (code.unfolded 𝓤 H 𝓜 𝓡)
+    (tables 𝓤 H 𝓜 𝓡 code.env .C) (tables 𝓤 H 𝓜 𝓡 code.env .Λ) #channel_write·fill code.function (code.unfolded 𝓤 H 𝓜 𝓡)
     (fill-meets 𝓤 H (𝓖 .A) (givenOf 𝓤 H 𝓜 𝓖) (𝓜 .mem) (𝓡 .run) (tablesOf 𝓤 H 𝓜 (tables 𝓤 H 𝓜 𝓡 code.env))
-    (cited 𝓤 H (Core 𝓤 H (𝓖 .A) (𝓜 .mem) (𝓡 .run)) 𝓜 𝓡 code.env #channels·filled core-def.routine code.calls-channels·filled (core-thm.met 𝓤 H 𝓜 𝓖 𝓡)))
+    (cited 𝓤 H (Core 𝓤 H (𝓖 .A) (𝓜 .mem) (𝓡 .run)) 𝓜 𝓡 code.env #channel_write·filled core-def.routine code.calls-channel_write·filled (core-thm.met 𝓤 H 𝓜 𝓖 𝓡)))

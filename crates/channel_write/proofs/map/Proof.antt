@@ -65,9 +65,9 @@ use Rattle.schedule.proofs.started.Symbol.{name as #schedule·started}
 use Rattle.schedule.proofs.started.Met as begin-thm
 use Rattle.channel_write.proofs.fill as lent
 use Rattle.channel_write.proofs.fill.Symbol as lent-def
-use Rattle.channel_write.proofs.fill.Symbol.{name as #channels·fill}
+use Rattle.channel_write.proofs.fill.Symbol.{name as #channel_write·fill}
 use Rattle.channel_write.proofs.fill.Met as lent-thm
-use Rattle.channel_write.proofs.map.Key.{name as #channels·map}
+use Rattle.channel_write.proofs.map.Key.{name as #channel_write·map}
 use Rattle.channel_write.proofs.map as f
 use Rattle.channel_write.proofs.map.Statement as stated
 use Rattle.channel_write.proofs.map.Code as code
@@ -195,7 +195,7 @@ module _ {M : Type 1} (𝓤 : URA M) (H : Heap 𝓤) (A : Atoms 𝓤) (W : Given
   goes-lent l ν δ r = qed W ((‵ (flft (ν ∷ []) fullShare) ⊛ tokens) ∷ ‵ (own-at l ν δ r) ∷ ‵ rest-own ∷ []) ∵ says ! ok $ move ! (1 ∷ 2 ∷ []) $ fjoin ! $ move ! (1 ∷ 0 ∷ []) $ frame ! $ done !
 
   module _ (C : Calls 𝓤 H) (Λ : Loops 𝓤 H) (fm : FmC 𝓤 H (W .laws) C) (known-begin : Triple 𝓤 (C #schedule·started) (Begin 𝓤 H A at-mem run))
-      (known-lent : Triple 𝓤 (C #channels·fill) (Lent 𝓤 H A at-mem run)) where
+      (known-lent : Triple 𝓤 (C #channel_write·fill) (Lent 𝓤 H A at-mem run)) where
     walk : ent 𝓤 (onEntry 𝓤 H A f.signature (κ₁, (κ₂, (κ₃, (κ₄, tt)))) (q₁, (q₂, (q₃, (q₄, tt)))) x at)
         (WpFn 𝓤 H C Λ code.function (pv ∷ ev ∷ tv ∷ mv ∷ bv ∷ s ∷ []) Post)
     walk =
@@ -255,7 +255,7 @@ module _ {M : Type 1} (𝓤 : URA M) (H : Heap 𝓤) (A : Atoms 𝓤) (W : Given
         keep ! (0 ∷ 1 ∷ []) $ by ! (exits (zs .1 .1 .1 .1 .1 .1 .0) (subst (λ (z : Registers). Says z (zs .1 .1 .1 .1 .1 .1 .0)) e₁ (e .0)) l))))))))))))))))))))))))))
 
 map-meets : {M : Type 1} (𝓤 : URA M) (H : Heap 𝓤) (A : Atoms 𝓤) (W : Given 𝓤 H A) (at-mem : Memory → SProp 𝓤) (run : Routine → Fun 𝓤) (𝓣 : Tables 𝓤 H)
-    → Triple 𝓤 (𝓣 .C #schedule·started) (Begin 𝓤 H A at-mem run) → Triple 𝓤 (𝓣 .C #channels·fill) (Lent 𝓤 H A at-mem run)
+    → Triple 𝓤 (𝓣 .C #schedule·started) (Begin 𝓤 H A at-mem run) → Triple 𝓤 (𝓣 .C #channel_write·fill) (Lent 𝓤 H A at-mem run)
     → Meets 𝓤 H A f.signature (WpFn 𝓤 H (𝓣 .C) (𝓣 .Λ) code.function) (f.spec 𝓤 H A at-mem run)
 map-meets 𝓤 H A W at-mem run 𝓣 known-begin known-lent =
     walk-meets 𝓤 H A f.ended stayed W (
@@ -297,7 +297,7 @@ pub map-spec : {M : Type 1} → stated.statement M
 unfolding code.routine tablesOf
 map-spec 𝓤 H 𝓜 𝓖 𝓡 =
     entered 𝓤 H (tripleOf 𝓤 H (𝓖 .A) f.signature (f.spec 𝓤 H (𝓖 .A) (𝓜 .mem) (𝓡 .run)))
-    (tables 𝓤 H 𝓜 𝓡 code.env .C) (tables 𝓤 H 𝓜 𝓡 code.env .Λ) #channels·map code.function (code.unfolded 𝓤 H 𝓜 𝓡)
+    (tables 𝓤 H 𝓜 𝓡 code.env .C) (tables 𝓤 H 𝓜 𝓡 code.env .Λ) #channel_write·map code.function (code.unfolded 𝓤 H 𝓜 𝓡)
     (map-meets 𝓤 H (𝓖 .A) (givenOf 𝓤 H 𝓜 𝓖) (𝓜 .mem) (𝓡 .run) (tablesOf 𝓤 H 𝓜 (tables 𝓤 H 𝓜 𝓡 code.env))
     (cited 𝓤 H (Begin 𝓤 H (𝓖 .A) (𝓜 .mem) (𝓡 .run)) 𝓜 𝓡 code.env #schedule·started begin-def.routine code.calls-schedule·started (begin-thm.met 𝓤 H 𝓜 𝓖 𝓡))
-    (cited 𝓤 H (Lent 𝓤 H (𝓖 .A) (𝓜 .mem) (𝓡 .run)) 𝓜 𝓡 code.env #channels·fill lent-def.routine code.calls-channels·fill (lent-thm.met 𝓤 H 𝓜 𝓖 𝓡)))
+    (cited 𝓤 H (Lent 𝓤 H (𝓖 .A) (𝓜 .mem) (𝓡 .run)) 𝓜 𝓡 code.env #channel_write·fill lent-def.routine code.calls-channel_write·fill (lent-thm.met 𝓤 H 𝓜 𝓖 𝓡)))
