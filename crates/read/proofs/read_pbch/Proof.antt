@@ -19,9 +19,7 @@ set-axis-requires : tie.Need-set-axis-requires
 set-axis-requires c κs = search needs
 
 started-requires : tie.Need-started-requires
-started-requires c κs =
-    let entry = c .before .before .before .before .before .before .before in
-    entry .pre .begins
+started-requires c κs = c .before .before .before .before .before .before .before .pre .begins
 
 read-area-requires : tie.Need-read-area-requires
 read-area-requires c κs =
@@ -40,12 +38,4 @@ returns c =
 
 pub read-pbch-spec : {M : Type 1} → statement M
 read-pbch-spec =
-    tie.close
-    (tie.spec
-    pbch-area-requires
-    row-masks-requires
-    set-axis-requires
-    started-requires
-    read-area-requires
-    same-length
-    returns)
+    tie.close (tie.spec pbch-area-requires row-masks-requires set-axis-requires started-requires read-area-requires same-length returns)

@@ -22,9 +22,7 @@ section-of-requires : tie.Need-section-of-requires Inv-loop μ-loop
 section-of-requires c κs = (c .shape-of .ensures, omega arith)
 
 started-requires : tie.Need-started-requires Inv-loop μ-loop
-started-requires c κs =
-    let entry = c .before .before .before .before .before in
-    acks-begin (entry .pre)
+started-requires c κs = acks-begin (c .before .before .before .before .before .pre)
 
 sub-read-his : tie.Need-sub-read-his Inv-loop μ-loop
 sub-read-his c =
@@ -32,9 +30,7 @@ sub-read-his c =
     acks-room (entry .pre) _ (at-section-of .section-of .ensures) .0
 
 part-read-his-start : tie.Need-part-read-his-start Inv-loop μ-loop
-part-read-his-start c =
-    let at-section-of = c .before in let entry = at-section-of .before .before .before .before .before in
-    acks-room (entry .pre) _ (at-section-of .section-of .ensures) .0
+part-read-his-start c = sub-read-his c
 
 part-read-his-end : tie.Need-part-read-his-end Inv-loop μ-loop
 part-read-his-end c =
@@ -86,12 +82,7 @@ sub-read-channel c =
     (at-channel-at .channel-at .ensures) (at-loop .loop .inv .1) _ (at-section-of2 .section-of2 .ensures) .0
 
 part-read-channel-start : tie.Need-part-read-channel-start Inv-loop μ-loop
-part-read-channel-start c =
-    let at-section-of2 = c .before .before in let at-channel-at = at-section-of2 .before in let at-if1 = at-channel-at .before in
-    let at-loop = at-if1 .before .before in let at-count = at-loop .before .before in
-    let entry = at-count .before .before .before .before .before .before .before .before .before .before .before .before .before in
-    loop-room (entry .pre) (at-loop .loop .inv .0) (at-count .count .ensures) (at-if1 .if1 .taken)
-    (at-channel-at .channel-at .ensures) (at-loop .loop .inv .1) _ (at-section-of2 .section-of2 .ensures) .0
+part-read-channel-start c = sub-read-channel c
 
 part-read-channel-end : tie.Need-part-read-channel-end Inv-loop μ-loop
 part-read-channel-end c =
@@ -147,29 +138,6 @@ returns c =
 
 pub read-sections-spec : {M : Type 1} → statement M
 read-sections-spec =
-    tie.close
-    (tie.spec
-    Inv-loop
-    μ-loop
-    shape-of-requires
-    section-of-requires
-    started-requires
-    sub-read-his
-    part-read-his-start
-    part-read-his-end
-    read-his-requires
-    row-masks-requires
-    count-requires
-    first-requires
-    loop-holds
-    channel-at-requires
-    section-of-requires-2
-    sub-read-channel
-    part-read-channel-start
-    part-read-channel-end
-    read-channel-requires
-    next-requires
-    loop-less
-    loop-again
-    same-length
-    returns)
+    tie.close (tie.spec Inv-loop μ-loop shape-of-requires section-of-requires started-requires sub-read-his part-read-his-start part-read-his-end
+    read-his-requires row-masks-requires count-requires first-requires loop-holds channel-at-requires section-of-requires-2 sub-read-channel
+    part-read-channel-start part-read-channel-end read-channel-requires next-requires loop-less loop-again same-length returns)
