@@ -132,7 +132,7 @@ module _ (P : Shared → Type 0) where
         (on-demand (noneOf (sameRnti u) us) RntiUsed _ p
         (on-demand (noneOf (sharesBlock u) us) BlockUsed faultless b a)))))
 
--- ---- what the check has seen: xs are those of the first m commands of the plan w that have the byte code, so that a test that holds of none of these holds of none of xs
+-- ---- what the check has seen: xs are those of the first m commands of the plan w that have the byte code; a test that fails on each of these fails on each of xs
 record Seen {A : Type 0} (w : List ℕ) (code : ℕ) (read : List ℕ → A) (m : ℕ) (xs : List A) : Type 0 where
   pub none : (t : A → Bool) → ((i : ℕ) → i < m → eqb (byte (past w i) 0) code && t (read (past w i)) ≡ false) → noneOf t xs ≡ true
 
@@ -162,7 +162,7 @@ module _ (w : List ℕ) (m : ℕ) (st : State) (s : SeenAll w m st) where
   seen-after end e = record { his = seen-same (s .his); users = seen-same (s .users) }
   seen-after broken e = record { his = seen-same (s .his); users = seen-same (s .users) }
 
-  -- what the command with the bytes l, or none, has in common with one of the first m
+  -- x is nothing, or one of the first m commands has it in common with the command that the bytes l begin with
   abbrev Shown : List ℕ → Shared → Type 0
   Shown l x = ((i : ℕ) → i < m → clashes x l (past w i) ≡ false) → x ≡ Alone
 

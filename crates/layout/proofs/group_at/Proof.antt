@@ -101,7 +101,8 @@ returns-5 c =
     let at-a = at-b .before in
     let entry = at-a .before in
     group-unit (entry .args .cell) (entry .args .t) _ _ _ _ (at-a .format-group .ensures) (at-b .format-group2 .ensures) (at-c .format-group3 .ensures) (at-d .format-group4 .ensures) (omega arith)
-    (c .before .before .before .formats-below .ensures .0) (at-if1 .if1 .left) (at-if2 .if2 .left) (at-if3 .if3 .left) (at-if4 .if4 .left) (c .before .before .groups-left .ensures) _ (c .unit-in .ensures)
+    (c .before .before .before .formats-below .ensures .0) (at-if1 .if1 .left) (at-if2 .if2 .left) (at-if3 .if3 .left) (at-if4 .if4 .left)
+    (c .before .before .groups-left .ensures) _ (c .unit-in .ensures)
 
 pub group-at-spec : {M : Type 1} → statement M
 group-at-spec =
