@@ -45,7 +45,7 @@ use Rattle.schedule.proofs.Steps.{some-ports, start-few}
 use Rattle.schedule.proofs.Values.{value, sums-of, section-room, bits-of}
 use Rattle.channel_write.specs.Channels.{LevelsIn, TableFor, ChannelIn}
 use Rattle.channel_write.proofs.Filling.{order-ok}
-use Rattle.build.specs.Filling.{Ready, Shared, Having, OrderOr, orderFor, FillIn}
+use Rattle.build.specs.Filling.{Ready, Shared, Having, OrderOr, orderFor, TurnReady}
 use Rattle.build.proofs.Answers.{plan-room}
 
 -- ---- the table at hand: none, as it is made, and as it is
@@ -60,7 +60,7 @@ module _ {P : ℕ} {t : List ℕ} where
   having-same e x = rw e x
 
 -- ---- one turn
-module _ {p : Plan} {ch : Channel} {have : ℕ} {t masks sums bits grid : List ℕ} (ok : FillIn p ch have t masks sums bits grid) where
+module _ {p : Plan} {ch : Channel} {have : ℕ} {t masks sums bits grid : List ℕ} (ok : TurnReady p ch have t masks sums bits grid) where
   abbrev w : List ℕ
   w = ok .bytes
 
@@ -156,7 +156,7 @@ module _ {w : List ℕ} {p : Plan} {payload g₀ : List ℕ} (start : Ready w p 
               let r = start .room in
               record { some = r .some; most = r .most; not-three = r .not-three; fits = r .fits; size = so .written .size ∙ r .size }
 
-          pub going-in : {have : ℕ} {s bits : List ℕ} → Having (p .cell .ports) have s → FillIn p ch have s masks sums bits g
+          pub going-in : {have : ℕ} {s bits : List ℕ} → Having (p .cell .ports) have s → TurnReady p ch have s masks sums bits g
           going-in {bits = bits} h =
               record {
                 bytes = w;

@@ -48,7 +48,7 @@ orderFor have (Phich m) = have
 orderFor have (User u) = u .order
 
 -- what a turn of an accepted plan needs: its bytes, which `bits` or the sums have, masks, a grid, and a table
-pub record FillIn (p : Plan) (ch : Channel) (have : ℕ) (t masks sums bits grid : List ℕ) : Type 0 where
+pub record TurnReady (p : Plan) (ch : Channel) (have : ℕ) (t masks sums bits grid : List ℕ) : Type 0 where
   pub bytes : List ℕ
   pub plan : checkOf bytes ≡ accepted p
   pub number : ℕ

@@ -14,7 +14,7 @@ ghost use Rattle.payload.specs.Payload.{payloadLength};
 ghost use Rattle.grid.specs.Writing.{Written};
 ghost use Rattle.subframe.specs.Grid.{elementNumbered, gridOf};
 ghost use Rattle.schedule.specs.Schedule.{startPair, sendsOf, sentOf, allSend, lentTo, SumsOf};
-ghost use Rattle.build.specs.Filling.{Ready, Shared, Having, OrderOr, orderFor, FillIn};
+ghost use Rattle.build.specs.Filling.{Ready, Shared, Having, OrderOr, orderFor, TurnReady};
 ghost use Rattle.build.specs.Build.{builtOf, gridAfter, builtAnswer};
 
 // The count of user elements, ports not multiplied, or the refusal.
@@ -58,7 +58,7 @@ fn fill_turn(
     bits: &[u8],
     grid: &mut [u8],
 ) -> u8
-    requires { ⌜ FillIn p ch have (now t) (now masks) (now sums) (now bits) (now grid) ⌝ }
+    requires { ⌜ TurnReady p ch have (now t) (now masks) (now sums) (now bits) (now grid) ⌝ }
     ensures { λ r. ⌜
         Written (sendsOf p ch) (sentOf p (lentTo ch (now (sums .entry)) (now (bits .entry))) (startPair p ch) ch) (now (grid .entry)) (now (grid .exit))
         × Having (p .cell .ports) r (now (t .exit))
