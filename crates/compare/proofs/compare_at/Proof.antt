@@ -2,8 +2,8 @@
 use mathlib.Core.Path.{ap, _∙_}
 use Rattle.base.specs.declared.Element.{Element}
 use Rattle.compare.specs.Comparing.{seenOf}
-use Rattle.compare.proofs.compare-at.Statement.{statement}
-use Rattle.compare.proofs.compare-at.Tie as tie
+use Rattle.compare.proofs.compare_at.Statement.{statement}
+use Rattle.compare.proofs.compare_at.Tie as tie
 
 get-requires : tie.Need-get-requires
 get-requires c κs = c .before .pre

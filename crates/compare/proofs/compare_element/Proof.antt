@@ -3,8 +3,8 @@ use native.Mathlib.Omega.{arith}
 use mathlib.Core.Logic.{⊎-elim}
 use borrow.Author.Tests.{eqb-true, eqb-false}
 use Rattle.compare.proofs.Answers.{mark-few, all-same, other-unit, other-i, other-j}
-use Rattle.compare.proofs.compare-element.Statement.{statement}
-use Rattle.compare.proofs.compare-element.Tie as tie
+use Rattle.compare.proofs.compare_element.Statement.{statement}
+use Rattle.compare.proofs.compare_element.Tie as tie
 
 nonzero-of-requires : tie.Need-nonzero-of-requires
 nonzero-of-requires c κs = tt

@@ -4,8 +4,8 @@ use mathlib.Core.Path.{refl}
 use Rattle.element_pairs.specs.Numbers.{upper}
 use Rattle.data_read.proofs.Words.{word-few, joined}
 use borrow.Author.Needs.{needs}
-use Rattle.data_read.proofs.two-symbols.Statement.{statement}
-use Rattle.data_read.proofs.two-symbols.Tie as tie
+use Rattle.data_read.proofs.two_symbols.Statement.{statement}
+use Rattle.data_read.proofs.two_symbols.Tie as tie
 
 symbol-of-requires : tie.Need-symbol-of-requires
 symbol-of-requires c κs = search needs
