@@ -1,7 +1,7 @@
 -- What two commands have in common, and the loop that looks for the first that has it. Assumes nothing.
-use Prim.Native.Nat.{ℕ, suc, _+_, _-_, _≤_, _<_}
+use Prim.Native.Nat.{ℕ, zero, suc, _+_, _-_, _≤_, _<_}
 use mathlib.Core.Path.{_≡_, refl, _∙_}
-use mathlib.Core.Bool.{Bool, true, false, _&&_}
+use mathlib.Core.Bool.{Bool, true, false, _&&_, and-false}
 use mathlib.Core.List.{List}
 use native.Mathlib.Omega.{arith}
 use lib.Dec.{eqb}
@@ -13,7 +13,7 @@ use Rattle.plan.specs.Rows.{nextOf}
 use Rattle.plan.specs.declared.Hi.{Hi}
 use Rattle.plan.specs.declared.User.{User}
 use Rattle.plan.specs.declared.Shared.{Shared}
-use Rattle.plan.specs.declared.Shared.the-variants.{Pair, Rnti, Block}
+use Rattle.plan.specs.declared.Shared.the-variants.{Nothing as Alone, Pair, Rnti, Block}
 use Rattle.plan.specs.declared.Earlier.the-variants.{Nothing, Is}
 
 -- ---- two commands, the bytes l and e from each on
@@ -32,6 +32,15 @@ module _ (l e : List ℕ) {r : Bool} where
   pub clash-test : (s : Shared) {code b : ℕ} → code ≡ byte l 0 → b ≡ byte e 0 → r ≡ inCommon s l e → eqb b code && r ≡ clashes s l e
   unfolding clashes
   clash-test s ec eb er = rw (ec, eb, er) refl
+
+-- ---- nothing in common: no command clashes
+pub clash-nothing : (w : List ℕ) (n at : ℕ) {s : Shared} → s ≡ Alone → Nothing ≡ earlierOf w n at s
+unfolding clashes firstFrom earlierOf
+clash-nothing w n at e = rw e (by 1 0 (n - 1))
+  where
+    by : (m before k : ℕ) → Nothing ≡ firstFrom (clashes Alone (drop at w)) w m before k
+    by m before zero = refl
+    by m before (suc k) = rw (and-false (eqb (byte (drop before w) 0) (byte (drop at w) 0))) (by (m + 1) (nextOf w before) k)
 
 -- ---- the loop: number m, at byte before, is looked at next, and n is the refused command's
 module _ (w : List ℕ) (n at : ℕ) (s : Shared) (m before : ℕ) where

@@ -728,6 +728,9 @@ fn in_common(plan: &[u8], s: Shared, at: usize, before: usize) -> bool
 fn earlier_of(plan: &[u8], n: usize, at: usize, s: Shared) -> Earlier
     ensures { λ r. ⌜ r ≡ earlierOf (now (plan .entry)) n at s ⌝ }
 {
+    if let Shared::Nothing = s {
+        return Earlier::Nothing;
+    }
     let code = byte_at(plan, at, 0);
     let mut number: usize = 1;
     let mut before: usize = 0;

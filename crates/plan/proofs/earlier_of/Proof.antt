@@ -1,11 +1,12 @@
--- `plan::earlier_of` meets its contract: the loop over the commands before. The invariant: the first from here on is the one asked for. The measure is how many are left.
--- Assumes nothing.
+-- `plan::earlier_of` meets its contract: none where nothing is in common, else the loop over the commands before. The invariant: the first from here on is the one
+-- asked for. The measure is how many are left. Assumes nothing.
 use Prim.Native.Nat.{_-_}
 use mathlib.Core.Path.{refl}
 use native.Mathlib.Omega.{arith}
+use borrow.Author.Needs.{needs}
 use lib.ListN.{drop}
 use Rattle.plan.specs.Finding.{earlierOf}
-use Rattle.plan.proofs.Clashes.{Looking, clash-test, clash-none, clash-here, clash-later}
+use Rattle.plan.proofs.Clashes.{clash-nothing, Looking, clash-test, clash-none, clash-here, clash-later}
 use Rattle.plan.proofs.earlier_of.Statement.{statement}
 use Rattle.plan.proofs.earlier_of.Tie as tie
 
@@ -14,6 +15,14 @@ Inv-loop plan n at s code number₀ before₀ number before = Looking plan n at 
 
 abbrev μ-loop : tie.MeasureT-loop
 μ-loop plan n at s code number₀ before₀ number before = n - number
+
+enum-told : tie.Need-enum-told Inv-loop μ-loop
+enum-told c = search needs
+
+returns : tie.Need-returns Inv-loop μ-loop
+returns c =
+    let a = c .before .before .before .args in
+    clash-nothing (a .plan .now) (a .n) (a .at) (c .enum-told .given .1)
 
 byte-at-requires : tie.Need-byte-at-requires Inv-loop μ-loop
 byte-at-requires c κs = tt
@@ -28,11 +37,11 @@ byte-at-requires-2 c κs = tt
 in-common-requires : tie.Need-in-common-requires Inv-loop μ-loop
 in-common-requires c κs = tt
 
-returns : tie.Need-returns Inv-loop μ-loop
-returns c =
+returns-2 : tie.Need-returns-2 Inv-loop μ-loop
+returns-2 c =
     let at-byte = c .before .before in
     let at-loop = at-byte .before .before in
-    let a = at-loop .before .before .before .args in
+    let a = at-loop .before .before .before .before .args in
     let w = a .plan .now in
     let m = at-loop .loop .number in
     let b = at-loop .loop .before in
@@ -52,17 +61,17 @@ loop-again : tie.Need-loop-again Inv-loop μ-loop
 loop-again c =
     let at-byte = c .before .before .before in
     let at-loop = at-byte .before .before in
-    let a = at-loop .before .before .before .args in
+    let a = at-loop .before .before .before .before .args in
     let w = a .plan .now in
     let m = at-loop .loop .number in
     let b = at-loop .loop .before in
     let test = clash-test (drop (a .at) w) (drop b w) (a .s) (at-loop .before .byte-at .ensures) (at-byte .byte-at2 .ensures) (c .before .before .in-common .ensures) in
     clash-later w (a .n) (a .at) (a .s) m b (at-byte .before .loop-test .taken) (at-loop .loop .inv) test (c .before .if1 .left) (c .next-at .ensures)
 
-returns-2 : tie.Need-returns-2 Inv-loop μ-loop
-returns-2 c =
+returns-3 : tie.Need-returns-3 Inv-loop μ-loop
+returns-3 c =
     let at-loop = c .before in
-    let a = at-loop .before .before .before .args in
+    let a = at-loop .before .before .before .before .args in
     clash-none (a .plan .now) (a .n) (a .at) (a .s) (at-loop .loop .number) (at-loop .loop .before) (c .loop-test .left) (at-loop .loop .inv)
 
 pub earlier-of-spec : {M : Type 1} → statement M
@@ -71,13 +80,15 @@ earlier-of-spec =
     (tie.spec
     Inv-loop
     μ-loop
+    enum-told
+    returns
     byte-at-requires
     loop-holds
     byte-at-requires-2
     in-common-requires
-    returns
+    returns-2
     add-number
     next-at-requires
     loop-less
     loop-again
-    returns-2)
+    returns-3)
