@@ -96,7 +96,7 @@ fn fill_turns(
         let start = part.start;
         let end = part.end;
         have = fill_turn(p, ch, have, t, masks, sums, &payload[start..end], grid);
-        turn = schedule::next(plan, p, shape, turn, ch);
+        turn = schedule::next(plan, turn, ch, end);
     }
 }
 

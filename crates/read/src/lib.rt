@@ -101,7 +101,7 @@ fn read_sections(plan: &[u8], p: Plan, grid: &[u8], payload: &mut [u8])
         let start = section.start;
         let end = section.end;
         have = read_channel(p, ch, have, &mut d, &masks, grid, &mut payload[start..end]);
-        turn = schedule::next(plan, p, shape, turn, ch);
+        turn = schedule::next(plan, turn, ch, end);
     }
 }
 

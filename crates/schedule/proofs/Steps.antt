@@ -25,7 +25,7 @@ use Rattle.payload.specs.Payload.{heads, payloadLength, usersStart}
 use Rattle.payload.proofs.Lengths.{pbch-most, users-fit, length-found}
 use Rattle.places.proofs.Numbers.{symbols-most}
 use Rattle.schedule.specs.Schedule.{signalTurns, usersFirst, channelCount, laterAt, channelAt, TurnOf, sectionOf}
-use Rattle.schedule.specs.Cursor.{TurnIn, Due}
+use Rattle.schedule.specs.Cursor.{TurnIn, Due, Passing, Follows}
 use Rattle.schedule.specs.declared.Section.{Section}
 use Rattle.schedule.specs.declared.Turn.{Turn}
 use Rattle.schedule.specs.declared.Channel.{Channel}
@@ -112,16 +112,29 @@ module _ {w : List ℕ} {p : Plan} {t : Turn} (due : Due w p t) {ch : Channel} (
         mul-le-mul {n₁ = symbols (p .cell)} {m₁ = p .cell .ports} {n₂ = 14} {m₂ = 4} (symbols-most (p .cell)) (ports-most (p .cell) v),
       )
 
-  abbrev After : Turn → Type 0
-  After r = TurnIn w p r × (r .number ≡ t .number + 1)
+-- what `next` needs, and the turn after it
+pub passing :
+    {w : List ℕ} {p : Plan} {t : Turn} → Due w p t → {ch : Channel} → ch ≡ channelAt w p (t .number) → {x : Section} → x ≡ sectionOf p (t .start) ch
+    → Passing w p t ch (x .end)
+passing due is ex = record { due = due; is = is; ends = ap (λ (s : Section). s .end) ex }
 
-  pub next-pass : OneOf (0 ∷ 1 ∷ 2 ∷ 3 ∷ 4 ∷ []) (tagOf the-type ch) → After (record { number = t .number + 1; at = t .at; start = t .start })
-  next-pass k = (passed w p t _ (due .turn) refl (no-user w p (t .number) ch k turn) refl refl, refl)
+pub after :
+    {w : List ℕ} {p : Plan} {t r : Turn} {ch : Channel} {end : ℕ} → Follows w t ch end r → Passing w p t ch end
+    → TurnIn w p r × (r .number ≡ t .number + 1)
+after f h = (f .turn _ h, f .number)
 
-  pub next-user :
-      (u : User) → ch ≡ UserOf u → (at : ℕ) → at ≡ nextOf w (t .at) → (x : Section) → x ≡ sectionOf p (t .start) ch
-      → After (record { number = t .number + 1; at = at; start = x .end })
+-- the turn after it, in every plan in which it is due: no user's, and a user's
+module _ {w : List ℕ} {t : Turn} {ch : Channel} {end : ℕ} where
+  pub next-pass : OneOf (0 ∷ 1 ∷ 2 ∷ 3 ∷ 4 ∷ []) (tagOf the-type ch) → Follows w t ch end (record { number = t .number + 1; at = t .at; start = t .start })
+  next-pass k =
+      record { number = refl; turn = λ p h. passed w p t _ (h .due .turn) refl (no-user w p (t .number) ch k (turn (h .due) (h .is))) refl refl }
+
+  pub next-user : (u : User) → ch ≡ UserOf u → (at : ℕ) → at ≡ nextOf w (t .at) → Follows w t ch end (record { number = t .number + 1; at = at; start = end })
   unfolding TurnOf sectionOf
-  next-user u e at ea x ex =
-      let y = subst (TurnOf w p (t .number)) e turn in
-      (moved w p (due .answer) t (due .turn) (y .0) (due .more) _ u refl (y .2) ea (ap (λ (s : Section). s .end) (ex ∙ ap (sectionOf p (t .start)) e)), refl)
+  next-user u e at ea =
+      record {
+        number = refl;
+        turn = λ p h.
+            let y = subst (TurnOf w p (t .number)) e (turn (h .due) (h .is)) in
+            moved w p (h .due .answer) t (h .due .turn) (y .0) (h .due .more) _ u refl (y .2) ea (h .ends ∙ ap (λ (c : Channel). sectionOf p (t .start) c .end) e);
+      }

@@ -10,7 +10,8 @@ use Rattle.plan.specs.declared.Plan.{Plan}
 use Rattle.plan.specs.declared.Checked.the-variants.{Plan as accepted}
 use Rattle.payload.specs.Sections.{startOf}
 use Rattle.payload.specs.Payload.{heads, sections, usersStart}
-use Rattle.schedule.specs.Schedule.{usersFirst, channelCount}
+use Rattle.schedule.specs.Schedule.{usersFirst, channelCount, channelAt, sectionOf}
+use Rattle.schedule.specs.declared.Channel.{Channel}
 use Rattle.schedule.specs.declared.Turn.{Turn}
 
 -- the users from number i on stand from position `at` of the plan on
@@ -32,6 +33,17 @@ pub record Due (w : List ℕ) (p : Plan) (t : Turn) : Type 0 where
   pub answer : checkOf w ≡ accepted p
   pub turn : TurnIn w p t
   pub more : t .number < channelCount p
+
+-- its channel is ch, and the channel's section ends at byte `end`
+pub record Passing (w : List ℕ) (p : Plan) (t : Turn) (ch : Channel) (end : ℕ) : Type 0 where
+  pub due : Due w p t
+  pub is : ch ≡ channelAt w p (t .number)
+  pub ends : end ≡ sectionOf p (t .start) ch .end
+
+-- r is the turn after it, in every plan in which it is due
+pub record Follows (w : List ℕ) (t : Turn) (ch : Channel) (end : ℕ) (r : Turn) : Type 0 where
+  pub number : r .number ≡ t .number + 1
+  pub turn : (p : Plan) → Passing w p t ch end → TurnIn w p r
 
 -- the first turn
 unfoldable pub firstTurn : Plan → Turn

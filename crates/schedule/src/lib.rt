@@ -17,7 +17,8 @@ ghost use Rattle.layout.specs.Owners.{symbols};
 ghost use Rattle.counts.specs.Shape.{shapeOf};
 ghost use Rattle.subframe.specs.Elements.{pbchFirst, controlInit, userInit};
 ghost use Rattle.schedule.specs.Schedule.{signalTurns, channelCount, laterAt, channelAt, initOf, firstBit, Among, presentIn, sectionOf};
-ghost use Rattle.schedule.specs.Cursor.{firstTurn, TurnIn, Due};
+ghost use Rattle.plan.specs.declared.Plan.{Plan as PlanOf};
+ghost use Rattle.schedule.specs.Cursor.{firstTurn, Due, Passing, Follows};
 
 // Which channel: a port's reference signal in a symbol, a synchronisation mark, PBCH, PCFICH, a PHICH unit, a user.
 pub enum Channel {
@@ -140,10 +141,11 @@ pub fn section_of(p: Plan, shape: Shape, start: usize, ch: Channel) -> Section
     }
 }
 
-// The turn after one whose channel is ch. A user's moves on to the next command and the next section.
-pub fn next(plan: &[u8], p: Plan, shape: Shape, turn: Turn, ch: Channel) -> Turn
-    requires { ⌜ Due (now plan) p turn × (shape ≡ shapeOf (p .cell) (p .frame)) × (ch ≡ channelAt (now plan) p (turn .number)) ⌝ }
-    ensures { λ r. ⌜ TurnIn (now (plan .entry)) p r × (r .number ≡ turn .number + 1) ⌝ }
+// The turn after one whose channel is ch, and whose section ends at `end`. A user's moves on to the next command and the next section. It is
+// short, so that the compiler puts it into the loops.
+pub fn next(plan: &[u8], turn: Turn, ch: Channel, end: usize) -> Turn
+    requires { ⌜ ((p : PlanOf) × Passing (now plan) p turn ch end) ⌝ }
+    ensures { λ r. ⌜ Follows (now (plan .entry)) turn ch end r ⌝ }
 {
     let Channel::User(_) = ch else {
         return Turn {
@@ -155,7 +157,7 @@ pub fn next(plan: &[u8], p: Plan, shape: Shape, turn: Turn, ch: Channel) -> Turn
     Turn {
         number: turn.number + 1,
         at: plan::next_at(plan, turn.at),
-        start: section_of(p, shape, turn.start, ch).end,
+        start: end,
     }
 }
 

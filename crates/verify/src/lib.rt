@@ -81,10 +81,12 @@ fn compare_all(plan: &[u8], p: Plan, grid: &[u8]) -> Seen
     let mut seen = Seen::Weight(0);
     while turn.number < turns {
         let ch = schedule::channel_at(plan, p, turn);
+        let section = schedule::section_of(p, shape, turn.start, ch);
+        let end = section.end;
         if schedule::present(p, ch) {
             seen = together(seen, compare_channel(p, ch, control, &sums, &masks, grid));
         }
-        turn = schedule::next(plan, p, shape, turn, ch);
+        turn = schedule::next(plan, turn, ch, end);
     }
     seen
 }

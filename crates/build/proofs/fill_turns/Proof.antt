@@ -2,6 +2,7 @@
 use Prim.Native.Nat.{_-_}
 use native.Mathlib.Omega.{arith}
 use Rattle.build.proofs.Turns.{having-none, turns-in, Going, going-first, going-due, going-few, going-room, going-in, going-next, going-end}
+use Rattle.schedule.proofs.Steps.{passing, after}
 use Rattle.build.specs.Filling.{Ready, Having}
 use Rattle.build.proofs.fill_turns.Statement.{statement}
 use Rattle.build.proofs.fill_turns.Tie as tie
@@ -73,12 +74,12 @@ next-requires c κs =
     let b = a .before in
     let d = b .before .before in
     let e = d .before .before in
-    let f = e .before in
-    let g = f .before .before .before .before .before in
-    (going-due (g .pre .0) (d .loop .inv .1 (g .pre .0)) (e .count .ensures) (b .if1 .taken), f .shape-of .ensures, a .channel-at .ensures)
+    let g = e .before .before .before .before .before .before in
+    let due = going-due (g .pre .0) (d .loop .inv .1 (g .pre .0)) (e .count .ensures) (b .if1 .taken) in
+    (_, passing due (a .channel-at .ensures) (c .before .before .before .before .before .before .section-of .ensures))
 
 loop-less : tie.Need-loop-less Inv-loop μ-loop
-loop-less c = let a = c .before .before .before .before .before .before .before .before .before in omega (arith, a .if1 .taken, c .next .ensures .1)
+loop-less c = let a = c .before .before .before .before .before .before .before .before .before in omega (arith, a .if1 .taken, c .next .ensures .number)
 
 loop-again : tie.Need-loop-again Inv-loop μ-loop
 loop-again c =
@@ -91,7 +92,8 @@ loop-again c =
     let h = g .before .before .before .before .before .before in (
       a .fill-turn .ensures .1,
       λ r. going-next r (f .loop .inv .1 r) (g .count .ensures) (e .if1 .taken) (d .channel-at .ensures) (b .section-of .ensures) (h .pre .1)
-          (a .fill-turn .ensures .0) (c .next .ensures),
+          (a .fill-turn .ensures .0)
+          (after (c .next .ensures) (passing (going-due r (f .loop .inv .1 r) (g .count .ensures) (e .if1 .taken)) (d .channel-at .ensures) (b .section-of .ensures))),
     )
 
 same-length : tie.Need-same-length Inv-loop μ-loop

@@ -3,7 +3,7 @@ use native.Mathlib.Omega.{arith}
 use Prim.Native.Nat.{_-_}
 use mathlib.Core.Path.{refl, sym, _∙_}
 use Rattle.schedule.specs.Cursor.{TurnIn}
-use Rattle.schedule.proofs.Steps.{start-few}
+use Rattle.schedule.proofs.Steps.{start-few, passing, after}
 use Rattle.read.specs.Reading.{ReadBefore, AxisOf}
 use Rattle.read.proofs.Turns.{acks-begin, acks-room, acks-in, acks-read, count-in, due, loop-room, loop-needs, loop-read, all-read}
 use Rattle.read.proofs.read_sections.Statement.{statement}
@@ -105,14 +105,14 @@ next-requires : tie.Need-next-requires Inv-loop μ-loop
 next-requires c κs =
     let at-channel-at = c .before .before .before .before .before .before .before in let at-if1 = at-channel-at .before in
     let at-loop = at-if1 .before .before in let at-count = at-loop .before .before in
-    let at-shape-of = at-count .before .before .before .before .before .before .before .before .before in
-    let entry = at-shape-of .before .before .before .before in
-    (due (entry .pre) (at-loop .loop .inv .0) (at-count .count .ensures) (at-if1 .if1 .taken), at-shape-of .shape-of .ensures, at-channel-at .channel-at .ensures)
+    let entry = at-count .before .before .before .before .before .before .before .before .before .before .before .before .before in
+    let turn = due (entry .pre) (at-loop .loop .inv .0) (at-count .count .ensures) (at-if1 .if1 .taken) in
+    (_, passing turn (at-channel-at .channel-at .ensures) (c .before .before .before .before .before .before .section-of2 .ensures))
 
 loop-less : tie.Need-loop-less Inv-loop μ-loop
 loop-less c =
     let at-if1 = c .before .before .before .before .before .before .before .before .before in
-    omega (arith, c .next .ensures .1, at-if1 .if1 .taken)
+    omega (arith, c .next .ensures .number, at-if1 .if1 .taken)
 
 loop-again : tie.Need-loop-again Inv-loop μ-loop
 loop-again c =
@@ -120,9 +120,11 @@ loop-again c =
     let at-channel-at = at-section-of2 .before in let at-if1 = at-channel-at .before in let at-loop = at-if1 .before .before in
     let at-count = at-loop .before .before in
     let entry = at-count .before .before .before .before .before .before .before .before .before .before .before .before .before in
+    let turn = due (entry .pre) (at-loop .loop .inv .0) (at-count .count .ensures) (at-if1 .if1 .taken) in
+    let next = after (c .next .ensures) (passing turn (at-channel-at .channel-at .ensures) (at-section-of2 .section-of2 .ensures)) in
     let had = loop-read (entry .pre) (at-loop .loop .inv .0) (at-count .count .ensures) (at-if1 .if1 .taken)
-    (at-channel-at .channel-at .ensures) (at-loop .loop .inv .1) _ (at-section-of2 .section-of2 .ensures) _ (c .next .ensures) _ (at-read-channel .read-channel .ensures .1) in
-    (c .next .ensures .0, had, at-read-channel .read-channel .ensures .0)
+    (at-channel-at .channel-at .ensures) (at-loop .loop .inv .1) _ (at-section-of2 .section-of2 .ensures) _ next _ (at-read-channel .read-channel .ensures .1) in
+    (next .0, had, at-read-channel .read-channel .ensures .0)
 
 same-length : tie.Need-same-length Inv-loop μ-loop
 same-length c =
