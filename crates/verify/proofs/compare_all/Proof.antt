@@ -5,6 +5,7 @@ use mathlib.Core.Logic.{⊎-elim}
 use native.Mathlib.Omega.{arith}
 use borrow.Author.Needs.{needs}
 use Rattle.base.specs.Tables.{table}
+use Rattle.schedule.proofs.Steps.{start-few, passing, after}
 use Rattle.verify.proofs.Channels.{control-starts, units-read, count-ready, sums-due, Going, going-first, due, planned, few-both, going-more, going-pass, going-end}
 use Rattle.verify.proofs.compare_all.Statement.{statement}
 use Rattle.verify.proofs.compare_all.Tie as tie
@@ -47,35 +48,42 @@ loop-holds c =
 channel-at-requires : tie.Need-channel-at-requires Inv-loop μ-loop
 channel-at-requires c κs = due (c .before .before .loop .inv) (c .if1 .taken)
 
+section-of-requires : tie.Need-section-of-requires Inv-loop μ-loop
+section-of-requires c κs =
+    let so = c .before .before .before .loop .inv in
+    (so .shape-is, start-few (due so (c .before .if1 .taken)) (c .channel-at .ensures))
+
 present-requires : tie.Need-present-requires Inv-loop μ-loop
 present-requires c κs = search needs
 
 compare-channel-requires : tie.Need-compare-channel-requires Inv-loop μ-loop
 compare-channel-requires c κs =
-    let at-if2 = c .before .before in let at-present = at-if2 .before in let at-channel = at-present .before in let at-test = at-channel .before in
+    let at-if2 = c .before .before in let at-present = at-if2 .before in let at-channel = at-present .before .before in let at-test = at-channel .before in
     let at-loop = at-test .before .before in
     (_, planned (at-loop .loop .inv) (at-test .if1 .taken) (at-channel .channel-at .ensures) (sym (at-present .present .ensures) ∙ at-if2 .if2 .taken), at-loop .loop .inv .shared)
 
 together-requires : tie.Need-together-requires Inv-loop μ-loop
 together-requires c κs =
-    let at-if2 = c .before .before .before in let at-present = at-if2 .before in let at-channel = at-present .before in let at-test = at-channel .before in
+    let at-if2 = c .before .before .before in let at-present = at-if2 .before in let at-channel = at-present .before .before in let at-test = at-channel .before in
     let at-loop = at-test .before .before in
     few-both (at-loop .loop .inv) (at-test .if1 .taken) (at-channel .channel-at .ensures) (sym (at-present .present .ensures) ∙ at-if2 .if2 .taken) _ (c .compare-channel .ensures)
 
 next-requires : tie.Need-next-requires Inv-loop μ-loop
 next-requires c κs =
-    let at-channel = c .before .before in let at-test = at-channel .before in let at-loop = at-test .before .before in
-    (due (at-loop .loop .inv) (at-test .if1 .taken), at-loop .loop .inv .shape-is, at-channel .channel-at .ensures)
+    let at-section = c .before .before in let at-channel = at-section .before in let at-test = at-channel .before in let at-loop = at-test .before .before in
+    (_, passing (due (at-loop .loop .inv) (at-test .if1 .taken)) (at-channel .channel-at .ensures) (at-section .section-of .ensures))
 
 loop-less : tie.Need-loop-less Inv-loop μ-loop
-loop-less c = omega (arith, c .next .ensures .1, c .before .before .before .before .if1 .taken)
+loop-less c = omega (arith, c .next .ensures .number, c .before .before .before .before .before .if1 .taken)
 
 loop-again : tie.Need-loop-again Inv-loop μ-loop
 loop-again c =
-    let at-if = c .before in let at-present = at-if .before in let at-channel = at-present .before in let at-test = at-channel .before in
+    let at-if = c .before in let at-present = at-if .before in let at-section = at-present .before in let at-channel = at-section .before in
+    let at-test = at-channel .before in
     let so = at-test .before .before .loop .inv in let is = at-channel .channel-at .ensures in let has = at-present .present .ensures in
-    ⊎-elim (λ x. rw (x .5) (going-more so (at-test .if1 .taken) is _ (c .next .ensures) (sym has ∙ x .0 .taken) _ (x .3 .ensures) (x .4 .ensures)))
-    (λ x. rw (x .1) (going-pass so (at-test .if1 .taken) is _ (c .next .ensures) (sym has ∙ x .0 .left))) (at-if .if2 .came)
+    let next = after (c .next .ensures) (passing (due so (at-test .if1 .taken)) is (at-section .section-of .ensures)) in
+    ⊎-elim (λ x. rw (x .5) (going-more so (at-test .if1 .taken) is _ next (sym has ∙ x .0 .taken) _ (x .3 .ensures) (x .4 .ensures)))
+    (λ x. rw (x .1) (going-pass so (at-test .if1 .taken) is _ next (sym has ∙ x .0 .left))) (at-if .if2 .came)
 
 returns : tie.Need-returns Inv-loop μ-loop
 returns c = going-end (c .before .before .loop .inv) (c .if1 .left)
@@ -94,6 +102,7 @@ compare-all-spec =
     first-requires
     loop-holds
     channel-at-requires
+    section-of-requires
     present-requires
     compare-channel-requires
     together-requires
