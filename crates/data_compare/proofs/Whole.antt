@@ -275,7 +275,8 @@ module _ {a : Area} {q unit : ℕ} {masks g : List ℕ} (i : CompareIn a q unit 
             ∙ on-own (a .cell .ports) (j / 2 % 2) unit (j % 2) (d j) (d (partnerIndex j)) (ownPort (a .cell .ports) (j / 2 % 2)) refl;
         other = λ n. h .holds .elements (otherAt a j) (sent-there a places-some j l (otherPort (a .cell .ports) (j / 2 % 2)) ∙ sends-other (a .cell .ports) (j / 2 % 2))
             ∙ value-there a places-some j l (otherPort (a .cell .ports) (j / 2 % 2)) unit d
-            ∙ on-other (a .cell .ports) (j / 2 % 2) unit (j % 2) (d j) (d (partnerIndex j)) (otherPort (a .cell .ports) (j / 2 % 2)) (other-apart (a .cell .ports) (j / 2 % 2) (i .area .room .some) n) refl;
+            ∙ on-other (a .cell .ports) (j / 2 % 2) unit (j % 2) (d j) (d (partnerIndex j)) (otherPort (a .cell .ports) (j / 2 % 2))
+            (other-apart (a .cell .ports) (j / 2 % 2) (i .area .room .some) n) refl;
       }
 
   right-weights : ((j : ℕ) → j < areaCount a → Fits a q unit g j) → cond (eqb (a .cell .ports) 1) 3 6 * areaCount a ≡ weightIn (areaSends a) g (length g / 3)

@@ -62,7 +62,8 @@ broadcast-counts =
 
 -- ---- the payload: PBCH has no bit, the HI one, the user 2 × 2250
 example-sections : sections example examplePlan ≡ 0 ∷ 1 ∷ 4500 ∷ []
-unfolding heads pbchBitCount computedSections computedBitCount usersOf row userOf sizeOf entryIn entries userElements rowElements signals taken halves sumTo slotLength inSlot crsSymbol marked controlSymbols
+unfolding heads pbchBitCount computedSections computedBitCount usersOf row userOf sizeOf entryIn entries userElements rowElements signals taken
+    halves sumTo slotLength inSlot crsSymbol marked controlSymbols
 example-sections = sections-computed example examplePlan example-plan
 
 example-payload : AcceptedPayload example examplePlan (zeros 564)
@@ -71,7 +72,8 @@ example-payload = record { size = rw example-sections refl; spare = rw example-s
 
 -- PBCH has 480 bits, the user 2 × 1830
 broadcast-sections : sections broadcast broadcastPlan ≡ 480 ∷ 0 ∷ 3660 ∷ []
-unfolding heads pbchBitCount computedSections computedBitCount usersOf row userOf sizeOf entryIn entries userElements rowElements signals taken halves sumTo slotLength inSlot crsSymbol marked controlSymbols
+unfolding heads pbchBitCount computedSections computedBitCount usersOf row userOf sizeOf entryIn entries userElements rowElements signals taken
+    halves sumTo slotLength inSlot crsSymbol marked controlSymbols
 broadcast-sections = sections-computed broadcast broadcastPlan broadcast-plan
 
 broadcast-payload : AcceptedPayload broadcast broadcastPlan (zeros 518)

@@ -1,6 +1,7 @@
-// THE PUBLIC CALLS, for Rattle and for C. None asks anything of its caller. Each has one equation for its answer, in document 01's numbers and those that it leaves
-// to us (owners, kinds, samples), and for every byte that it leaves; the sample has its level, gain and bound beside it, and read the record `Reads`, which says the same as its equation. The functions for C answer
-// with a number: a count, a length or a value, or minus the refusal's number; include/mapper.h describes them.
+// THE PUBLIC CALLS, for Rattle and for C. None asks anything of its caller. Each has one equation for its answer, in document 01's numbers and those
+// that it leaves to us (owners, kinds, samples), and for every byte that it leaves; the sample has its level, gain and bound beside it, and read the
+// record `Reads`, which says the same as its equation. The functions for C answer with a number: a count, a length or a value, or minus the refusal's
+// number; include/mapper.h describes them.
 use build::Built;
 use counted::Counted;
 use layout::OwnerAnswer;
