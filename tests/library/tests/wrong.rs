@@ -6,7 +6,23 @@ use library::calls::Library;
 use library::found::Found;
 use library::sections::{named, SECTIONS};
 use std::cell::RefCell;
-use std::slice::{from_raw_parts, from_raw_parts_mut};
+use std::slice;
+
+/// A buffer that is lent for reading; with length 0 its pointer may be NULL.
+unsafe fn from_raw_parts<'a>(first: *const u8, length: usize) -> &'a [u8] {
+    if length == 0 {
+        return &[];
+    }
+    slice::from_raw_parts(first, length)
+}
+
+/// The same, lent for writing.
+unsafe fn from_raw_parts_mut<'a>(first: *mut u8, length: usize) -> &'a mut [u8] {
+    if length == 0 {
+        return &mut [];
+    }
+    slice::from_raw_parts_mut(first, length)
+}
 
 fn number<T>(answer: Result<T, Refusal>, value: impl Fn(T) -> usize) -> i64 {
     answer.map_or_else(|refusal| -i64::from(refusal), |answer| value(answer) as i64)
@@ -217,7 +233,7 @@ fn wrong_bytes() {
     });
     caught(Library { build: behind, ..RIGHT }, "builds", 2, "guard behind the grid: 1 of ");
 
-    spoils!(before, read, |answer, _p, _g, to, _n| if answer >= 0 {
+    spoils!(before, read, |answer, _p, _g, to, _n| if answer >= 0 && !to.is_null() {
         *to.sub(1) = 0
     });
     caught(Library { read: before, ..RIGHT }, "builds", 2, "guard before the payload: 1 of ");
@@ -232,10 +248,14 @@ fn wrong_bytes() {
     });
     caught(Library { read: first_half, ..RIGHT }, "grids", 40, "read, answer -13: payload: 1 of ");
 
-    spoils!(given, build, |_answer, _p, given, _t, _n| *given.cast_mut() ^= 1);
+    spoils!(given, build, |_answer, _p, given, _t, _n| if !given.is_null() {
+        *given.cast_mut() ^= 1
+    });
     caught(Library { build: given, ..RIGHT }, "builds", 8, "payload: 1 of ");
 
-    spoils!(plan, read, |_answer, plan, _g, _t, _n| *plan.cast_mut() ^= 1);
+    spoils!(plan, read, |_answer, plan, _g, _t, _n| if !plan.is_null() {
+        *plan.cast_mut() ^= 1
+    });
     caught(Library { read: plan, ..RIGHT }, "grids", 1, "plan: 1 of ");
 }
 
