@@ -11,7 +11,7 @@ use borrow.Author.Tests.{le-leb, lt-leb, lt-ltb, le-ltb, leb-true}
 use Rattle.base.proofs.Computed.{allBelow, below-at}
 use Rattle.plan.specs.declared.Cell.{Cell}
 use Rattle.plan.specs.declared.Frame.{Frame}
-use Rattle.base.specs.Choice.{one}
+use Rattle.base.specs.Choice.{indicator}
 use Rattle.layout.specs.Rules.{inSyncArea, crsSymbol, slotLength, marked, middle, inPbchArea}
 use Rattle.counts.specs.Users.{taken as takenRow}
 use Rattle.places.specs.Halves.{without, takenHalf}
@@ -30,7 +30,7 @@ bit-most true v = omega (arith, div-le-self 32 (2 ^ (5 - v)))
 bit-most false v = omega arith
 
 -- ---- one signal or two
-one-same : (x y : Bool) → one x ≡ one y → x ≡ y
+one-same : (x y : Bool) → indicator x ≡ indicator y → x ≡ y
 one-same true true e = refl
 one-same false false e = refl
 one-same true false e = absurd (omega arith)
@@ -40,7 +40,7 @@ abbrev butTest : ℕ → Bool → Bool → ℕ → Bool
 butTest v a b r = not (hits a b v (r % 6))
 
 abbrev Right : Bool → Bool → ℕ → Bool
-Right a b v = allBelow (λ (r : ℕ). eqb (one (bitOf (63 - cond a (32 / 2 ^ (5 - v)) 0 - cond b (32 / 2 ^ (5 - (v + 3) % 6)) 0) r)) (one (butTest v a b r))) 6
+Right a b v = allBelow (λ (r : ℕ). eqb (indicator (bitOf (63 - cond a (32 / 2 ^ (5 - v)) 0 - cond b (32 / 2 ^ (5 - (v + 3) % 6)) 0) r)) (indicator (butTest v a b r))) 6
 
 right : (a b : Bool) → T (allBelow (Right a b) 6)
 right true true = tt
@@ -52,7 +52,7 @@ pub but-bits : (v : ℕ) → v < 6 → (a b : Bool) (r : ℕ) → r < 6 → bitO
 unfolding maskBut bitIf
 but-bits v h a b r l =
     one-same (bitOf (maskBut v a b) r) (butTest v a b r)
-    (eqb→eq _ _ (below-at (λ (r : ℕ). eqb (one (bitOf (63 - cond a (32 / 2 ^ (5 - v)) 0 - cond b (32 / 2 ^ (5 - (v + 3) % 6)) 0) r)) (one (butTest v a b r))) 6
+    (eqb→eq _ _ (below-at (λ (r : ℕ). eqb (indicator (bitOf (63 - cond a (32 / 2 ^ (5 - v)) 0 - cond b (32 / 2 ^ (5 - (v + 3) % 6)) 0) r)) (indicator (butTest v a b r))) 6
     (below-at (Right a b) 6 (right a b) v h) r l))
 
 -- ---- the form of a mask with the holes of two ports, of the first only, or of none
@@ -135,7 +135,7 @@ module _ (c : Cell) (P s : ℕ) where
       }
     where
       full : (r : ℕ) → r < 6 → bitOf 63 r ≡ true
-      full r h = one-same (bitOf 63 r) true (eqb→eq _ _ (below-at (λ (r : ℕ). eqb (one (bitOf 63 r)) 1) 6 tt r h))
+      full r h = one-same (bitOf 63 r) true (eqb→eq _ _ (below-at (λ (r : ℕ). eqb (indicator (bitOf 63 r)) 1) 6 tt r h))
 
 -- ---- the centre's half blocks
 joined : (m x z p q c : Bool) → m && x && c || z && p && q && c ≡ (m && x || z && p && q) && c

@@ -65,8 +65,8 @@ table op f p q r s zero (suc (suc y)) a b = absurd (omega arith)
 table op f p q r s (suc zero) (suc (suc y)) a b = absurd (omega arith)
 table op f p q r s (suc (suc x)) y a b = absurd (omega arith)
 
-abbrev one : ℕ → Bool
-one z = eqb z 1
+abbrev isOne : ℕ → Bool
+isOne z = eqb z 1
 
 abbrev pub unlike : Bool → Bool → Bool
 unlike a b = cond a (not b) b
@@ -80,18 +80,18 @@ and-odd a b = let small : min (a % 2) (b % 2) ≤ a % 2 = min-le-left (a % 2) (b
 module _ (a b i : ℕ) where
   pub bit-or : bit (bitOr a b) i ≡ bit a i || bit b i
   bit-or =
-      ap one (ap (λ (z : ℕ). z % 2) (or-shr a b i) ∙ or-odd (a / 2 ^ i) (b / 2 ^ i))
+      ap isOne (ap (λ (z : ℕ). z % 2) (or-shr a b i) ∙ or-odd (a / 2 ^ i) (b / 2 ^ i))
       ∙ table max (λ (x y : Bool). x || y) refl refl refl refl (a / 2 ^ i % 2) (b / 2 ^ i % 2) (omega arith) (omega arith)
 
   pub bit-and : bit (bitAnd a b) i ≡ bit a i && bit b i
   bit-and =
-      ap one (ap (λ (z : ℕ). z % 2) (and-shr a b i) ∙ and-odd (a / 2 ^ i) (b / 2 ^ i))
+      ap isOne (ap (λ (z : ℕ). z % 2) (and-shr a b i) ∙ and-odd (a / 2 ^ i) (b / 2 ^ i))
       ∙ table min (λ (x y : Bool). x && y) refl refl refl refl (a / 2 ^ i % 2) (b / 2 ^ i % 2) (omega arith) (omega arith)
 
   pub bit-xor : bit (bitXor a b) i ≡ unlike (bit a i) (bit b i)
   unfolding dig
   bit-xor =
-      ap one (dig-xor a b i)
+      ap isOne (dig-xor a b i)
       ∙ table (λ (x y : ℕ). (x + y) % 2) unlike refl refl refl refl (a / 2 ^ i % 2) (b / 2 ^ i % 2) (omega arith) (omega arith)
 
 pub bit-zero : (i : ℕ) → bit 0 i ≡ false
@@ -107,8 +107,8 @@ ones-below k i =
     rw (ones-split (k + 1) i, high (2 ^ (k + 1) - 1) i (ones-lt i), add-one k, pow-suc 2 k) (omega arith)
 
 module _ (k i : ℕ) where
-  less : (f : ℕ → ℕ) (x : ℕ) → f (k - suc i + 1 + i) ≡ x → i < k → one (f k) ≡ one x
-  less f x e h = let s : k ≡ k - suc i + 1 + i = omega arith in ap one (ap f s ∙ e)
+  less : (f : ℕ → ℕ) (x : ℕ) → f (k - suc i + 1 + i) ≡ x → i < k → isOne (f k) ≡ isOne x
+  less f x e h = let s : k ≡ k - suc i + 1 + i = omega arith in ap isOne (ap f s ∙ e)
 
   pub bit-pow : bit (2 ^ k) i ≡ eqb i k
   bit-pow =
@@ -148,7 +148,7 @@ not-zero zero x l = let e : x ≡ 0 = omega arith in rw e refl
 not-zero (suc k) x l =
     let e : x < 2 ^ k * 2 = rw (pow-suc 2 k) at l in
     half x
-    ∙ ap (λ (t : Bool). bit x 0 || t) (not-zero k (x / 2) (omega arith) ∙ some-same k _ _ (λ i h. ap one (dig-shr x 1 i ∙ ap (dig x) (sym (add-one′ i)))))
+    ∙ ap (λ (t : Bool). bit x 0 || t) (not-zero k (x / 2) (omega arith) ∙ some-same k _ _ (λ i h. ap isOne (dig-shr x 1 i ∙ ap (dig x) (sym (add-one′ i)))))
   where
     add-one′ : (i : ℕ) → suc i ≡ 1 + i
     add-one′ i = omega arith

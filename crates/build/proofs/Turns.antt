@@ -14,7 +14,7 @@ use Rattle.modulation.specs.Symbols.{unitIn, unitOf}
 use Rattle.phich.specs.Spreading.{spreadLength}
 use Rattle.phich.specs.Loops.{HisIn, QuadSums}
 use Rattle.plan.specs.Check.{checkOf}
-use Rattle.plan.specs.Rows.{hisFrom, hisOf}
+use Rattle.plan.specs.CommandLists.{hisFrom, hisOf}
 use Rattle.plan.specs.Valid.{CellIn}
 use Rattle.plan.specs.declared.Plan.{Plan}
 use Rattle.plan.specs.declared.Checked.the-variants.{Plan as accepted}

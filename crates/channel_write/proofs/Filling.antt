@@ -18,7 +18,7 @@ use Rattle.modulation.specs.Symbols.{Order, unitOf}
 use Rattle.modulation.proofs.Formulas.{unit-small}
 use Rattle.plan.specs.Lists.{oneOf, Among as IsOneOf}
 use Rattle.plan.specs.Fields.{portCounts, orders}
-use Rattle.plan.specs.Rows.{usersOf, nthUser}
+use Rattle.plan.specs.CommandLists.{usersOf, nthUser}
 use Rattle.plan.specs.Valid.{Valid, CellIn, FrameIn, UserIn}
 use Rattle.plan.specs.declared.Cell.{Cell}
 use Rattle.plan.specs.declared.Plan.{Plan}

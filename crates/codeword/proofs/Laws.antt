@@ -13,7 +13,7 @@ use Rattle.gold.specs.Sequence.{c, binary, pairAt}
 use Rattle.gold.specs.Steps.{after, outputOf}
 use Rattle.gold.proofs.Binary.{binary-same, binary-lt, binary-digit}
 use Rattle.gold.proofs.Laws.{pair-after, pair-output, output-lt}
-use Rattle.modulation.specs.Symbols.{Order, symbolOf}
+use Rattle.modulation.specs.Symbols.{Order, modulationSymbol}
 use Rattle.modulation.proofs.Symbols.{symbol-injective, order-small}
 use Rattle.codeword.specs.Codewords.{scrambled, dataSymbol}
 use Rattle.codeword.specs.Streams.{outputs, symbolsOf}
@@ -33,7 +33,7 @@ unscrambled b b′ x i h h′ e = omega arith
 pub symbols-same : (Q : ℕ) (b b′ x : ℕ → ℕ) (j : ℕ) → ((i : ℕ) → i < Q * j + Q → b i ≡ b′ i) → dataSymbol Q b x j ≡ dataSymbol Q b′ x j
 unfolding dataSymbol scrambled
 symbols-same Q b b′ x j same =
-    ap (λ (w : ℕ). symbolOf Q w)
+    ap (λ (w : ℕ). modulationSymbol Q w)
     (binary-same (scrambled b x) (scrambled b′ x) (Q * j) (Q * j) Q
     (λ i less. ap (λ (v : ℕ). (v + x (Q * j + i)) % 2) (same (Q * j + i) (omega arith))))
 

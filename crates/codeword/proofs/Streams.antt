@@ -15,7 +15,7 @@ use Rattle.gold.specs.Steps.{after, outputOf, wordOf}
 use Rattle.gold.proofs.Binary.{binary-same, binary-split, binary-lt, binary-high, binary-low}
 use Rattle.gold.proofs.Window.{halve}
 use Rattle.gold.proofs.Laws.{after-none, after-after}
-use Rattle.modulation.specs.Symbols.{evens, odds, level, symbolOf}
+use Rattle.modulation.specs.Symbols.{evens, odds, level, modulationSymbol}
 use Rattle.modulation.proofs.Words.{word-low}
 use Rattle.codeword.specs.Codewords.{scrambled}
 use Rattle.codeword.specs.Streams.{outputs}
@@ -89,6 +89,6 @@ more-word bits r k n =
     ∙ sym (word-scrambled (bitAt bits) (outputs r) (bit-lt bits) (outputs-lt r) k n)
 
 -- a symbol looks at the q lowest bits only
-pub symbol-low : (q w : ℕ) → symbolOf q (w % 2 ^ q) ≡ symbolOf q w
-unfolding symbolOf
+pub symbol-low : (q w : ℕ) → modulationSymbol q (w % 2 ^ q) ≡ modulationSymbol q w
+unfolding modulationSymbol
 symbol-low q w = ap (λ (bs : List ℕ). record { re = level (evens bs); im = level (odds bs) }) (word-low q q w (omega arith))

@@ -13,7 +13,7 @@ use Rattle.gold.specs.declared.Registers.{Registers}
 use Rattle.gold.specs.Sequence.{binary}
 use Rattle.gold.proofs.Binary.{binary-split, binary-lt}
 use Rattle.gold.proofs.Window.{Holds, cut}
-use Rattle.modulation.specs.Symbols.{symbolOf}
+use Rattle.modulation.specs.Symbols.{modulationSymbol}
 use Rattle.codeword.specs.declared.Rest.{Rest}
 use Rattle.codeword.specs.Codewords.{dataSymbol}
 use Rattle.codeword.specs.Streams.{outputs, symbolsOf}
@@ -78,9 +78,9 @@ few-left u w i k left c e t less =
     rest a b c e = omega arith
 
 -- ---- the symbol of bits that were taken
-pub symbol-is : (bits : List ℕ) (r : Registers) (q j z : ℕ) → Holds (scrambledBits bits r) (q * j) q z → symbolOf q z ≡ symbolsOf q bits r j
+pub symbol-is : (bits : List ℕ) (r : Registers) (q j z : ℕ) → Holds (scrambledBits bits r) (q * j) q z → modulationSymbol q z ≡ symbolsOf q bits r j
 unfolding symbolsOf dataSymbol
-symbol-is bits r q j z h = sym (symbol-low q z) ∙ ap (symbolOf q) h
+symbol-is bits r q j z h = sym (symbol-low q z) ∙ ap (modulationSymbol q) h
 
 -- ---- the word and the state
 module _ {bits : List ℕ} {r : Registers} {n word left : ℕ} {st : List ℕ} (y : WordReady bits r n st word left) where

@@ -45,23 +45,23 @@ count-weight D g (suc n) w = omega (arith, count-weight D g n w, pick (D n) (w n
     pick false k = refl
 
 -- ---- ports
-module _ (P T : ℕ) (A : ℕ → Bool) (turn : ℕ → ℕ) where
+module _ (P T : ℕ) (A : ℕ → Bool) (portPair : ℕ → ℕ) where
   abbrev sent : ℕ → Bool
-  sent e = A (e % T) && sends P (turn (e % T)) (e / T)
+  sent e = A (e % T) && sends P (portPair (e % T)) (e / T)
 
   -- of port q
   abbrev row : ℕ → ℕ
-  row q = countBelow (λ (t : ℕ). A t && sends P (turn t) q) T
+  row q = countBelow (λ (t : ℕ). A t && sends P (portPair t) q) T
 
   next-row : (q : ℕ) → countBelow sent (suc q * T) ≡ countBelow sent (q * T) + row q
   next-row q =
       ap (countBelow sent) (suc-mul q T) ∙ count-add sent (q * T) T
-      ∙ ap (λ (x : ℕ). countBelow sent (q * T) + x) (count-same (λ (t : ℕ). sent (q * T + t)) (λ (t : ℕ). A t && sends P (turn t) q) T (λ t l.
-      ap₂ (λ (x y : ℕ). A x && sends P (turn x) y) (at-mod q T t l) (at-div q T t l)))
+      ∙ ap (λ (x : ℕ). countBelow sent (q * T) + x) (count-same (λ (t : ℕ). sent (q * T + t)) (λ (t : ℕ). A t && sends P (portPair t) q) T (λ t l.
+      ap₂ (λ (x y : ℕ). A x && sends P (portPair x) y) (at-mod q T t l) (at-div q T t l)))
 
   -- a port that sends at every place
   row-all : (q : ℕ) → ((u : ℕ) → sends P u q ≡ true) → row q ≡ countBelow A T
-  row-all q h = count-same (λ (t : ℕ). A t && sends P (turn t) q) A T (λ t l. rw (h (turn t)) (with-true (A t)))
+  row-all q h = count-same (λ (t : ℕ). A t && sends P (portPair t) q) A T (λ t l. rw (h (portPair t)) (with-true (A t)))
     where
       with-true : (b : Bool) → b && true ≡ b
       with-true true = refl
@@ -70,7 +70,7 @@ module _ (P T : ℕ) (A : ℕ → Bool) (turn : ℕ → ℕ) where
   -- two ports that send in turn
   row-two : (q r : ℕ) → ((u : ℕ) → cond (sends P u q) 1 0 + cond (sends P u r) 1 0 ≡ 1) → row q + row r ≡ countBelow A T
   row-two q r h =
-      count-two (λ (t : ℕ). A t && sends P (turn t) q) (λ (t : ℕ). A t && sends P (turn t) r) A T (λ t l. pick (A t) (sends P (turn t) q) (sends P (turn t) r) (h (turn t)))
+      count-two (λ (t : ℕ). A t && sends P (portPair t) q) (λ (t : ℕ). A t && sends P (portPair t) r) A T (λ t l. pick (A t) (sends P (portPair t) q) (sends P (portPair t) r) (h (portPair t)))
     where
       pick : (a b c : Bool) → cond b 1 0 + cond c 1 0 ≡ 1 → cond (a && b) 1 0 + cond (a && c) 1 0 ≡ cond a 1 0
       pick true b c e = e
@@ -80,27 +80,27 @@ module _ (P T : ℕ) (A : ℕ → Bool) (turn : ℕ → ℕ) where
   unfolding countBelow
   none-below = let e : 0 * T ≡ 0 = omega arith in rw e refl
 
-module _ (T : ℕ) (A : ℕ → Bool) (turn : ℕ → ℕ) where
-  one-port : countBelow (sent 1 T A turn) (1 * T) ≡ countBelow A T
+module _ (T : ℕ) (A : ℕ → Bool) (portPair : ℕ → ℕ) where
+  one-port : countBelow (sent 1 T A portPair) (1 * T) ≡ countBelow A T
   unfolding sends otherPort ownPort
-  one-port = omega (arith, next-row 1 T A turn 0, none-below 1 T A turn, row-all 1 T A turn 0 (λ u. refl))
+  one-port = omega (arith, next-row 1 T A portPair 0, none-below 1 T A portPair, row-all 1 T A portPair 0 (λ u. refl))
 
-  two-ports : countBelow (sent 2 T A turn) (2 * T) ≡ 2 * countBelow A T
+  two-ports : countBelow (sent 2 T A portPair) (2 * T) ≡ 2 * countBelow A T
   unfolding sends otherPort ownPort
-  two-ports = omega (arith, next-row 2 T A turn 1, next-row 2 T A turn 0, none-below 2 T A turn, row-all 2 T A turn 0 (λ u. refl), row-all 2 T A turn 1 (λ u. refl))
+  two-ports = omega (arith, next-row 2 T A portPair 1, next-row 2 T A portPair 0, none-below 2 T A portPair, row-all 2 T A portPair 0 (λ u. refl), row-all 2 T A portPair 1 (λ u. refl))
 
-  four-ports : countBelow (sent 4 T A turn) (4 * T) ≡ 2 * countBelow A T
+  four-ports : countBelow (sent 4 T A portPair) (4 * T) ≡ 2 * countBelow A T
   unfolding sends otherPort ownPort
   four-ports =
       omega (
         arith,
-        next-row 4 T A turn 3,
-        next-row 4 T A turn 2,
-        next-row 4 T A turn 1,
-        next-row 4 T A turn 0,
-        none-below 4 T A turn,
-        row-two 4 T A turn 0 1 (λ u. low (u % 2) (omega arith)),
-        row-two 4 T A turn 2 3 (λ u. high (u % 2) (omega arith)),
+        next-row 4 T A portPair 3,
+        next-row 4 T A portPair 2,
+        next-row 4 T A portPair 1,
+        next-row 4 T A portPair 0,
+        none-below 4 T A portPair,
+        row-two 4 T A portPair 0 1 (λ u. low (u % 2) (omega arith)),
+        row-two 4 T A portPair 2 3 (λ u. high (u % 2) (omega arith)),
       )
     where
       low : (m : ℕ) → m < 2 → cond (eqb 0 m || eqb 0 (m + 2)) 1 0 + cond (eqb 1 m || eqb 1 (m + 2)) 1 0 ≡ 1
@@ -114,19 +114,19 @@ module _ (T : ℕ) (A : ℕ → Bool) (turn : ℕ → ℕ) where
       high (suc (suc m)) l = absurd (omega arith)
 
 pub port-weight :
-    {P T : ℕ} {g : List ℕ} → Room P T g → 0 < T → (A : ℕ → Bool) (turn : ℕ → ℕ)
-    → ((e : ℕ) → (A (e % T) && sends P (turn (e % T)) (e / T)) ≡ true → weightOf (elementIn g e) ≡ 3)
-    → weightIn (λ (e : ℕ). A (e % T) && sends P (turn (e % T)) (e / T)) g (length g / 3) ≡ cond (eqb P 1) 3 6 * countBelow A T
-port-weight {P = P} {T = T} {g = g} room h A turn w =
-    ap (weightIn (sent P T A turn) g) size ∙ count-weight (sent P T A turn) g (P * T) w ∙ ports (ℕ-discrete P 1) (ℕ-discrete P 2)
+    {P T : ℕ} {g : List ℕ} → Room P T g → 0 < T → (A : ℕ → Bool) (portPair : ℕ → ℕ)
+    → ((e : ℕ) → (A (e % T) && sends P (portPair (e % T)) (e / T)) ≡ true → weightOf (elementIn g e) ≡ 3)
+    → weightIn (λ (e : ℕ). A (e % T) && sends P (portPair (e % T)) (e / T)) g (length g / 3) ≡ cond (eqb P 1) 3 6 * countBelow A T
+port-weight {P = P} {T = T} {g = g} room h A portPair w =
+    ap (weightIn (sent P T A portPair) g) size ∙ count-weight (sent P T A portPair) g (P * T) w ∙ ports (ℕ-discrete P 1) (ℕ-discrete P 2)
   where
     size : length g / 3 ≡ P * T
     size = omega (arith, room .size)
 
-    ports : Dec (P ≡ 1) → Dec (P ≡ 2) → 3 * countBelow (sent P T A turn) (P * T) ≡ cond (eqb P 1) 3 6 * countBelow A T
-    ports (yes a) b = rw a (omega (arith, one-port T A turn))
-    ports (no a) (yes b) = rw b (omega (arith, two-ports T A turn))
-    ports (no a) (no b) = let e : P ≡ 4 = pick (ℕ-discrete P 3) in rw e (omega (arith, four-ports T A turn))
+    ports : Dec (P ≡ 1) → Dec (P ≡ 2) → 3 * countBelow (sent P T A portPair) (P * T) ≡ cond (eqb P 1) 3 6 * countBelow A T
+    ports (yes a) b = rw a (omega (arith, one-port T A portPair))
+    ports (no a) (yes b) = rw b (omega (arith, two-ports T A portPair))
+    ports (no a) (no b) = let e : P ≡ 4 = pick (ℕ-discrete P 3) in rw e (omega (arith, four-ports T A portPair))
       where
         pick : Dec (P ≡ 3) → P ≡ 4
         pick (yes c) = absurd (room .not-three c)

@@ -15,11 +15,11 @@ use mir.Syntax.{w8}
 use Rattle.base.specs.declared.Element.{Element}
 use Rattle.base.specs.declared.Pair.{Pair}
 use Rattle.base.specs.Bytes.{byteOf, signedOf, elementOf, pairOf}
-use Rattle.base.specs.Signs.{turn, below}
+use Rattle.base.specs.Signs.{flip, below}
 use Rattle.base.proofs.Bytes.{byte-back, level-back, element-back}
 use Rattle.base.proofs.Fits.{fits-abs}
 use Rattle.base.proofs.Tables.{set-more}
-use Rattle.modulation.specs.Symbols.{bitsOf, evens, odds, level, symbolOf}
+use Rattle.modulation.specs.Symbols.{bitsOf, evens, odds, level, modulationSymbol}
 use Rattle.modulation.specs.Demapping.{levelBits, isLevel, number, Demapped, Word, demapOf}
 use Rattle.modulation.specs.Marks.{markOf}
 use Rattle.modulation.proofs.Levels.{Bits, is-level, bits-length, bits-bits}
@@ -48,9 +48,9 @@ sign-of b l = pick (ltb b 128) refl
     pick true e = omega (arith, ltb-true b 128 e)
     pick false e = omega (arith, ltb-false b 128 e)
 
-turned-size : (z : ℤ) → turn (below z) z ≡ pos (natAbs z)
-turned-size (pos n) = refl
-turned-size (negsuc n) = refl
+flipped-size : (z : ℤ) → flip (below z) z ≡ pos (natAbs z)
+flipped-size (pos n) = refl
+flipped-size (negsuc n) = refl
 
 -- a level that a byte holds comes back
 signed-back : (z : ℤ) → natAbs z ≤ 127 → signedOf (byteOf z) ≡ z
@@ -92,9 +92,9 @@ module _ (k z : ℕ) (few : k ≤ 3) (lz : z < 256) (sz : natAbs (signedOf z) �
   step-of : (m : ℕ) → m * 4 ^ suc k + axisOf (suc k) z ≡ (4 * m + z / 128) * 4 ^ k + axisOf k y
   unfolding axisOf levelBits number
   step-of m =
-      let bs = levelBits k (pos (2 ^ k) -ℤ turn (below (signedOf z)) (signedOf z)) in
+      let bs = levelBits k (pos (2 ^ k) -ℤ flip (below (signedOf z)) (signedOf z)) in
       let e : bs ≡ levelBits k (signedOf y) =
-      ap (levelBits k) (ap (λ (x : ℤ). pos (2 ^ k) -ℤ x) (turned-size (signedOf z)) ∙ sym is-rest) in
+      ap (levelBits k) (ap (λ (x : ℤ). pos (2 ^ k) -ℤ x) (flipped-size (signedOf z)) ∙ sym is-rest) in
       let n : length bs ≡ k = bits-length k _ in
       ap₂ (λ (p r : ℕ). m * p + r) (pow-succ' 4 k)
       (ap₂ (λ (s l : ℕ). s * 4 ^ l + number 4 bs) (sign-of z lz) n ∙ ap (λ (xs : List ℕ). z / 128 * 4 ^ k + number 4 xs) e)
@@ -123,11 +123,11 @@ pub record AxisPart (n b m z k : ℕ) : Type 0 where
 pub part-start : (n b : ℕ) → n ≤ 4 → b < 256 → natAbs (signedOf b) ≤ 16 → AxisPart n b 0 b n
 part-start n b few l s = record { few = few; byte = l; small = s; digits = omega (arith, zero-mul (4 ^ n)) }
 
-pub part-turn :
+pub part-step :
     {n b m z k h a y : ℕ} → AxisPart n b m z k → 0 < k → h ≡ 2 ^ (k - 1) → a ≡ natAbs (signedOf z) → y ≡ byteLess h a
     → AxisPart n b (4 * m + z / 128) y (k - 1)
-part-turn {k = zero} s some eh ea ey = absurd (omega arith)
-part-turn {m = m} {z = z} {k = suc k} {y = y} s some eh ea ey =
+part-step {k = zero} s some eh ea ey = absurd (omega arith)
+part-step {m = m} {z = z} {k = suc k} {y = y} s some eh ea ey =
     let e : suc k - 1 ≡ k = omega arith in
     let f : k ≤ 3 = omega (arith, s .few) in
     let g : y ≡ byteLess (2 ^ k) (natAbs (signedOf z)) = ey ∙ ap₂ byteLess (eh ∙ ap (λ (x : ℕ). 2 ^ x) e) ea in
@@ -215,8 +215,8 @@ number-of u v l e =
 
 module _ {q : ℕ} {d : List ℕ} (s : Axis q d) (even : q % 2 ≡ 0) (few : q ≤ 8) where
   -- THE LAW: the word of a symbol comes back from its element
-  pub word-back : (u x v : ℕ) → u < 256 → v ≡ elementNumber u (symbolOf q x) → wordOf d v ≡ x % 2 ^ q
-  unfolding elementNumber symbolOf
+  pub word-back : (u x v : ℕ) → u < 256 → v ≡ elementNumber u (modulationSymbol q x) → wordOf d v ≡ x % 2 ^ q
+  unfolding elementNumber modulationSymbol
   word-back u x v lu ev =
       let bs = bitsOf q x in
       let n = word-length q x in
@@ -239,7 +239,7 @@ module _ {q : ℕ} {d : List ℕ} (s : Axis q d) (even : q % 2 ≡ 0) (few : q �
         → (elementFrom v .unit ≡ u) × (demapOf q (pairOf (elementFrom v)) ≡ Word (wordOf d v)) × (wordOf d v < 2 ^ q)
     element-known h =
         let w = wordOf d v in
-        let p = symbolOf q w in
+        let p = modulationSymbol q w in
         let o = symbol-levels q w some few in
         let n : v ≡ elementNumber u p = h ∙ entry-of e few w in
         let b : w ≡ w % 2 ^ q = word-back u w v lu n in
@@ -256,6 +256,6 @@ module _ {q : ℕ} {d : List ℕ} (s : Axis q d) (even : q % 2 ≡ 0) (few : q �
         → (v ≡ getD t (wordOf d v % 256) 0) × (wordOf d v ≡ w)
     element-found w l eu h =
         let k = demap-only q (pairOf (elementFrom v)) w h in
-        let n : v ≡ elementNumber u (symbolOf q w) = number-of u v l eu ∙ ap (elementNumber u) (sym (k .0)) in
+        let n : v ≡ elementNumber u (modulationSymbol q w) = number-of u v l eu ∙ ap (elementNumber u) (sym (k .0)) in
         let b : wordOf d v ≡ w = word-back u w v lu n ∙ mod-eq-of-lt (k .1) in
         (n ∙ sym (entry-of e few w) ∙ ap (λ (x : ℕ). getD t (x % 256) 0) (sym b), b)

@@ -14,8 +14,8 @@ use lib.ListN.{length, getD}
 use Rattle.base.specs.declared.Element.{Element}
 use Rattle.base.specs.declared.Pair.{Pair}
 use Rattle.base.specs.Bytes.{byteOf, elementOf}
-use Rattle.base.proofs.Fits.{turn-abs}
-use Rattle.modulation.specs.Symbols.{bitsOf, evens, odds, level, symbolOf}
+use Rattle.base.proofs.Fits.{flip-abs}
+use Rattle.modulation.specs.Symbols.{bitsOf, evens, odds, level, modulationSymbol}
 use Rattle.modulation.proofs.Places.{evens-cons}
 use Rattle.modulation.proofs.Symbols.{symbol-small}
 use Rattle.precoding.specs.Matrices.{unitOn}
@@ -39,16 +39,16 @@ even-less m (pos (suc n)) o = pick (ltb (2 * m) (suc n)) refl
 
 level-odd : (b : ℕ) (bs : List ℕ) → natAbs (level (b ∷ bs)) % 2 ≡ 1
 unfolding level
-level-odd b [] = rw turn-abs (omega arith)
-level-odd b (c ∷ bs) = rw (turn-abs, pow-succ') (even-less (2 ^ length bs) (level (c ∷ bs)) (level-odd c bs))
+level-odd b [] = rw flip-abs (omega arith)
+level-odd b (c ∷ bs) = rw (flip-abs, pow-succ') (even-less (2 ^ length bs) (level (c ∷ bs)) (level-odd c bs))
 
-pub symbol-odd : (q w : ℕ) → 2 ≤ q → (natAbs (symbolOf q w .re) % 2 ≡ 1) × (natAbs (symbolOf q w .im) % 2 ≡ 1)
-unfolding symbolOf bitsOf evens odds
+pub symbol-odd : (q w : ℕ) → 2 ≤ q → (natAbs (modulationSymbol q w .re) % 2 ≡ 1) × (natAbs (modulationSymbol q w .im) % 2 ≡ 1)
+unfolding modulationSymbol bitsOf evens odds
 symbol-odd zero w l = absurd (omega arith)
 symbol-odd (suc zero) w l = absurd (omega arith)
 symbol-odd (suc (suc q)) w l = (level-odd _ _, rw evens-cons (level-odd _ _))
 
-pub symbol-levels : (q w : ℕ) → 2 ≤ q → q ≤ 8 → OddLevels (symbolOf q w)
+pub symbol-levels : (q w : ℕ) → 2 ≤ q → q ≤ 8 → OddLevels (modulationSymbol q w)
 symbol-levels q w some few =
     let s = symbol-small 4 q w few in
     let o = symbol-odd q w some in
@@ -153,29 +153,29 @@ module _
       ∙ element-same (xor-zero-r u) (xor-zero-r (byteOf (d .re))) (minus-odd (d .im) (od .small-im) (od .odd-im))
 
 -- ---- in a table of an order, for the words of two symbols
-other-apart : (P turn : ℕ) → 2 ≤ P → otherPort P turn ≡ ownPort P turn → ⊥
+other-apart : (P portPair : ℕ) → 2 ≤ P → otherPort P portPair ≡ ownPort P portPair → ⊥
 unfolding otherPort
-other-apart P turn many e = omega arith
+other-apart P portPair many e = omega arith
 
 module _ {q u : ℕ} {t : List ℕ} (s : Elements q u t) (some : 2 ≤ q) (few : q ≤ 8) (lu : u < 256) where
   pub number-few : (w : ℕ) → getD t (w % 256) 0 < 16777216
-  number-few w = one-few u lu (symbolOf q w) (symbol-levels q w some few) (entry-of s few w)
+  number-few w = one-few u lu (modulationSymbol q w) (symbol-levels q w some few) (entry-of s few w)
 
-  module _ (P turn unit : ℕ) (on : u ≡ unitOn P unit) where
+  module _ (P portPair unit : ℕ) (on : u ≡ unitOn P unit) where
     -- a place's own symbol, beside any other
-    pub own-value : (w odd : ℕ) (f : Pair) {v : ℕ} → v ≡ getD t (w % 256) 0 → onPort P turn unit odd (symbolOf q w) f (ownPort P turn) ≡ elementFrom v
+    pub own-value : (w odd : ℕ) (f : Pair) {v : ℕ} → v ≡ getD t (w % 256) 0 → onPort P portPair unit odd (modulationSymbol q w) f (ownPort P portPair) ≡ elementFrom v
     own-value w odd f ev =
-        on-own P turn unit odd (symbolOf q w) f (ownPort P turn) refl
-        ∙ ap (λ (y : ℕ). elementOf y (symbolOf q w)) (sym on)
-        ∙ sym (one-element u lu (symbolOf q w) (symbol-levels q w some few) (ev ∙ entry-of s few w))
+        on-own P portPair unit odd (modulationSymbol q w) f (ownPort P portPair) refl
+        ∙ ap (λ (y : ℕ). elementOf y (modulationSymbol q w)) (sym on)
+        ∙ sym (one-element u lu (modulationSymbol q w) (symbol-levels q w some few) (ev ∙ entry-of s few w))
 
     -- THE LAW OF PAIRS
     module _ (many : 2 ≤ P) (w x : ℕ) {a b : ℕ} (ea : a ≡ getD t (w % 256) 0) (eb : b ≡ getD t (x % 256) 0) where
       abbrev d : Pair
-      d = symbolOf q w
+      d = modulationSymbol q w
 
       abbrev e : Pair
-      e = symbolOf q x
+      e = modulationSymbol q x
 
       od : OddLevels d
       od = symbol-levels q w some few
@@ -186,18 +186,18 @@ module _ {q u : ℕ} {t : List ℕ} (s : Elements q u t) (some : 2 ≤ q) (few :
       by : {y : Element} (f : Pair) → y ≡ elementOf u f → elementOf (unitOn P unit) f ≡ y
       by f h = ap (λ (y : ℕ). elementOf y f) (sym on) ∙ sym h
 
-      pub pair-values : {v y : ℕ} → v ≡ jointOf a b → y ≡ partnersOf a b → PairValues P turn unit d e v y
+      pub pair-values : {v y : ℕ} → v ≡ jointOf a b → y ≡ partnersOf a b → PairValues P portPair unit d e v y
       pair-values ev ey =
           let na = ea ∙ entry-of s few w in
           let nb = eb ∙ entry-of s few x in
-          let n = other-apart P turn many in
+          let n = other-apart P portPair many in
           let l = pair-few (one-few u lu d od na) (one-few u lu e oe nb) in
           rw (ev, ey)
           (record {
-            own-first = on-own P turn unit 0 d e (ownPort P turn) refl ∙ by d (joint-first u lu d e od oe na nb);
-            own-second = on-own P turn unit 1 e d (ownPort P turn) refl ∙ by e (joint-second u lu d e od oe na nb);
-            other-first = on-other P turn unit 0 d e (otherPort P turn) n refl ∙ by (partnerOf 0 e) (partners-first u lu d e od oe na nb);
-            other-second = on-other P turn unit 1 e d (otherPort P turn) n refl ∙ by (partnerOf 1 d) (partners-second u lu d e od oe na nb);
+            own-first = on-own P portPair unit 0 d e (ownPort P portPair) refl ∙ by d (joint-first u lu d e od oe na nb);
+            own-second = on-own P portPair unit 1 e d (ownPort P portPair) refl ∙ by e (joint-second u lu d e od oe na nb);
+            other-first = on-other P portPair unit 0 d e (otherPort P portPair) n refl ∙ by (partnerOf 0 e) (partners-first u lu d e od oe na nb);
+            other-second = on-other P portPair unit 1 e d (otherPort P portPair) n refl ∙ by (partnerOf 1 d) (partners-second u lu d e od oe na nb);
             own-few = l .0;
             other-few = l .1;
           })

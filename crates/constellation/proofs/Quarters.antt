@@ -13,11 +13,11 @@ use lib.Seq.{getD-set-same, getD-set-other}
 use Rattle.base.specs.declared.Pair.{Pair}
 use Rattle.base.specs.Bytes.{byteOf}
 use Rattle.base.specs.Digits.{dig, dig-shr}
-use Rattle.base.specs.Signs.{turn}
+use Rattle.base.specs.Signs.{flip}
 use Rattle.base.proofs.Fits.{abs-minus}
 use Rattle.base.proofs.Pairs.{pair-of}
 use Rattle.base.proofs.Tables.{set-more}
-use Rattle.modulation.specs.Symbols.{bitsOf, evens, odds, level, symbolOf}
+use Rattle.modulation.specs.Symbols.{bitsOf, evens, odds, level, modulationSymbol}
 use Rattle.modulation.proofs.Places.{evens-cons, evens-length, odds-length}
 use Rattle.modulation.proofs.Symbols.{symbol-small}
 use Rattle.modulation.proofs.Words.{word-length, word-low}
@@ -40,28 +40,28 @@ word-block k c y l =
 
 symbol-block :
     (k c y : ℕ) → k % 2 ≡ 0 → y < 2 ^ k
-    → _≡_ {A = Pair} (symbolOf (k + 2) (c * 2 ^ k + y))
-    (record { re = turn (dig c 1) (pos (2 ^ (k / 2)) -ℤ symbolOf k y .re); im = turn (dig c 0) (pos (2 ^ (k / 2)) -ℤ symbolOf k y .im) })
-unfolding symbolOf level evens odds
+    → _≡_ {A = Pair} (modulationSymbol (k + 2) (c * 2 ^ k + y))
+    (record { re = flip (dig c 1) (pos (2 ^ (k / 2)) -ℤ modulationSymbol k y .re); im = flip (dig c 0) (pos (2 ^ (k / 2)) -ℤ modulationSymbol k y .im) })
+unfolding modulationSymbol level evens odds
 symbol-block k c y even l =
     let bs = bitsOf k y in
     let n = word-length k y in
     let e : length (evens bs) ≡ k / 2 = omega (arith, evens-length bs) in
     let o : length (odds bs) ≡ k / 2 = omega (arith, odds-length bs) in
     pair-of
-    (ap (λ (xs : List ℕ). level (evens xs)) (word-block k c y l) ∙ ap (λ (m : ℕ). turn (dig c 1) (pos (2 ^ m) -ℤ level (evens bs))) e)
+    (ap (λ (xs : List ℕ). level (evens xs)) (word-block k c y l) ∙ ap (λ (m : ℕ). flip (dig c 1) (pos (2 ^ m) -ℤ level (evens bs))) e)
     (ap (λ (xs : List ℕ). level (odds xs)) (word-block k c y l) ∙ ap level (evens-cons (dig c 0) bs)
-    ∙ ap (λ (m : ℕ). turn (dig c 0) (pos (2 ^ m) -ℤ level (odds bs))) o)
+    ∙ ap (λ (m : ℕ). flip (dig c 0) (pos (2 ^ m) -ℤ level (odds bs))) o)
 
 -- ---- one word's four entries
 module _
-    (k u y : ℕ) (even : k % 2 ≡ 0) (few : k ≤ 6) (lu : u < 256) (l : y < 2 ^ k) {v h i j : ℕ} (ev : v ≡ elementNumber u (symbolOf k y))
+    (k u y : ℕ) (even : k % 2 ≡ 0) (few : k ≤ 6) (lu : u < 256) (l : y < 2 ^ k) {v h i j : ℕ} (ev : v ≡ elementNumber u (modulationSymbol k y))
     (eh : h ≡ 2 ^ (k / 2)) (ei : i ≡ byteLess h (v / 256 % 256)) (ej : j ≡ byteLess h (v / 65536 % 256)) where
   abbrev re : ℤ
-  re = symbolOf k y .re
+  re = modulationSymbol k y .re
 
   abbrev im : ℤ
-  im = symbolOf k y .im
+  im = modulationSymbol k y .im
 
   abbrev more : ℤ → ℤ
   more z = pos (2 ^ (k / 2)) -ℤ z
@@ -101,24 +101,24 @@ module _
   minus-j = ap (byteLess 0) is-j ∙ minus-byte (more im) (more-small im (small .1))
 
   block-number :
-      (c : ℕ) → elementNumber u (symbolOf (k + 2) (c * 2 ^ k + y))
-      ≡ threeBytes u (byteOf (turn (dig c 1) (more re))) (byteOf (turn (dig c 0) (more im)))
+      (c : ℕ) → elementNumber u (modulationSymbol (k + 2) (c * 2 ^ k + y))
+      ≡ threeBytes u (byteOf (flip (dig c 1) (more re))) (byteOf (flip (dig c 0) (more im)))
   unfolding elementNumber
   block-number c = ap (elementNumber u) (symbol-block k c y even l)
 
-  pub quarter-0 : threeBytes u i j ≡ elementNumber u (symbolOf (k + 2) (0 * 2 ^ k + y))
+  pub quarter-0 : threeBytes u i j ≡ elementNumber u (modulationSymbol (k + 2) (0 * 2 ^ k + y))
   unfolding dig
   quarter-0 = ap₂ (threeBytes u) is-i is-j ∙ sym (block-number 0)
 
-  pub quarter-1 : (n : ℕ) → n ≡ byteLess 0 j → threeBytes u i n ≡ elementNumber u (symbolOf (k + 2) (1 * 2 ^ k + y))
+  pub quarter-1 : (n : ℕ) → n ≡ byteLess 0 j → threeBytes u i n ≡ elementNumber u (modulationSymbol (k + 2) (1 * 2 ^ k + y))
   unfolding dig
   quarter-1 n e = ap₂ (threeBytes u) is-i (e ∙ minus-j) ∙ sym (block-number 1)
 
-  pub quarter-2 : (m : ℕ) → m ≡ byteLess 0 i → threeBytes u m j ≡ elementNumber u (symbolOf (k + 2) (2 * 2 ^ k + y))
+  pub quarter-2 : (m : ℕ) → m ≡ byteLess 0 i → threeBytes u m j ≡ elementNumber u (modulationSymbol (k + 2) (2 * 2 ^ k + y))
   unfolding dig
   quarter-2 m e = ap₂ (threeBytes u) (e ∙ minus-i) is-j ∙ sym (block-number 2)
 
-  pub quarter-3 : (m n : ℕ) → m ≡ byteLess 0 i → n ≡ byteLess 0 j → threeBytes u m n ≡ elementNumber u (symbolOf (k + 2) (3 * 2 ^ k + y))
+  pub quarter-3 : (m n : ℕ) → m ≡ byteLess 0 i → n ≡ byteLess 0 j → threeBytes u m n ≡ elementNumber u (modulationSymbol (k + 2) (3 * 2 ^ k + y))
   unfolding dig
   quarter-3 m n e f = ap₂ (threeBytes u) (e ∙ minus-i) (f ∙ minus-j) ∙ sym (block-number 3)
 
@@ -183,8 +183,8 @@ below-four A a0 a1 a2 a3 (suc (suc (suc (suc c)))) l = absurd (omega arith)
 -- ---- one word more, and all of them
 module _
     {k u x n a b c d : ℕ} {t : List ℕ} (s : Widened k u x t) (en : n ≡ 2 ^ k) (l : x < 2 ^ k) (few : k ≤ 6)
-    (ea : a ≡ elementNumber u (symbolOf (k + 2) (0 * 2 ^ k + x))) (eb : b ≡ elementNumber u (symbolOf (k + 2) (1 * 2 ^ k + x)))
-    (ec : c ≡ elementNumber u (symbolOf (k + 2) (2 * 2 ^ k + x))) (ed : d ≡ elementNumber u (symbolOf (k + 2) (3 * 2 ^ k + x))) where
+    (ea : a ≡ elementNumber u (modulationSymbol (k + 2) (0 * 2 ^ k + x))) (eb : b ≡ elementNumber u (modulationSymbol (k + 2) (1 * 2 ^ k + x)))
+    (ec : c ≡ elementNumber u (modulationSymbol (k + 2) (2 * 2 ^ k + x))) (ed : d ≡ elementNumber u (modulationSymbol (k + 2) (3 * 2 ^ k + x))) where
   abbrev after : List ℕ
   after = fourSet n x a b c d t
 
@@ -195,9 +195,9 @@ module _
   inside = omega arith
 
   abbrev At : ℕ → ℕ → Type 0
-  At m y = getD after (m * 2 ^ k + y) 0 ≡ elementNumber u (symbolOf (k + 2) (m * 2 ^ k + y))
+  At m y = getD after (m * 2 ^ k + y) 0 ≡ elementNumber u (modulationSymbol (k + 2) (m * 2 ^ k + y))
 
-  here : (m z : ℕ) {v : ℕ} → z ≡ m * 2 ^ k + x → getD after z 0 ≡ v → v ≡ elementNumber u (symbolOf (k + 2) (m * 2 ^ k + x)) → At m x
+  here : (m z : ℕ) {v : ℕ} → z ≡ m * 2 ^ k + x → getD after z 0 ≡ v → v ≡ elementNumber u (modulationSymbol (k + 2) (m * 2 ^ k + x)) → At m x
   here m z e g f = ap (λ (i : ℕ). getD after i 0) (sym e) ∙ g ∙ f
 
   at-x : (m : ℕ) → m < 4 → At m x
@@ -265,7 +265,7 @@ widened-all {k} {u} {x} {t} s e =
 
 -- ---- no bits, and all 256
 pub entries-start : {u v : ℕ} (t : List ℕ) → length t ≡ 256 → v ≡ u → Entries 0 u (2 ^ 0) (set t 0 v)
-unfolding elementNumber symbolOf bitsOf evens odds level
+unfolding elementNumber modulationSymbol bitsOf evens odds level
 entries-start {u} {v} t e f =
     record {
       size = length-set t 0 v ∙ e;
@@ -276,8 +276,8 @@ pub entries-first : {q u n m : ℕ} {t : List ℕ} → Entries q u n t → m ≤
 entries-first s l = record { size = s .size; entry = λ x h. s .entry x (omega arith) }
 
 -- a symbol depends on its lowest bits only
-pub symbol-low : (m q w : ℕ) → q ≤ m → symbolOf q (w % 2 ^ m) ≡ symbolOf q w
-unfolding symbolOf
+pub symbol-low : (m q w : ℕ) → q ≤ m → modulationSymbol q (w % 2 ^ m) ≡ modulationSymbol q w
+unfolding modulationSymbol
 symbol-low m q w l = ap (λ (bs : List ℕ). record { re = level (evens bs); im = level (odds bs) }) (word-low m q w l)
 
 -- so that entries repeat
@@ -286,20 +286,20 @@ pub entries-more :
 entries-more {q} {u} {x} {n} {t} s en l f =
     record {
       size = length-set t x (getD t (x - n) 0) ∙ s .size;
-      entry = set-more 0 (λ (i : ℕ). elementNumber u (symbolOf q i)) t x (getD t (x - n) 0) (omega (arith, s .size)) same (s .entry);
+      entry = set-more 0 (λ (i : ℕ). elementNumber u (modulationSymbol q i)) t x (getD t (x - n) 0) (omega (arith, s .size)) same (s .entry);
     }
   where
-    same : getD t (x - n) 0 ≡ elementNumber u (symbolOf q x)
+    same : getD t (x - n) 0 ≡ elementNumber u (modulationSymbol q x)
     same =
         let p : 0 < 2 ^ q = pow-pos q in
         let e : x ≡ x - n + 2 ^ q = omega arith in
         let g : (x - n) % 2 ^ q ≡ x % 2 ^ q = sym (add-mod-right (x - n) (2 ^ q)) ∙ ap (λ (i : ℕ). i % 2 ^ q) (sym e) in
         s .entry (x - n) (omega arith)
-        ∙ ap (elementNumber u) (sym (symbol-low q q (x - n) (omega arith)) ∙ ap (symbolOf q) g ∙ symbol-low q q x (omega arith))
+        ∙ ap (elementNumber u) (sym (symbol-low q q (x - n) (omega arith)) ∙ ap (modulationSymbol q) g ∙ symbol-low q q x (omega arith))
 
 -- ---- an index is the eight lowest bits of a word
-pub entry-of : {q u : ℕ} {t : List ℕ} → Elements q u t → q ≤ 8 → (w : ℕ) → getD t (w % 256) 0 ≡ elementNumber u (symbolOf q w)
+pub entry-of : {q u : ℕ} {t : List ℕ} → Elements q u t → q ≤ 8 → (w : ℕ) → getD t (w % 256) 0 ≡ elementNumber u (modulationSymbol q w)
 entry-of {q} {u} s l w = s .entry (w % 256) (omega arith) ∙ ap (elementNumber u) (symbol-low 8 q w l)
 
-pub entry-word : {q u : ℕ} {t : List ℕ} → Elements q u t → q ≤ 8 → (w : ℕ) → getD t (w % 256) 0 ≡ elementNumber u (symbolOf q (w % 2 ^ q))
+pub entry-word : {q u : ℕ} {t : List ℕ} → Elements q u t → q ≤ 8 → (w : ℕ) → getD t (w % 256) 0 ≡ elementNumber u (modulationSymbol q (w % 2 ^ q))
 entry-word {q} {u} s l w = entry-of s l w ∙ ap (elementNumber u) (sym (symbol-low q q w (omega arith)))

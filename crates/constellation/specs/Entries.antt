@@ -5,7 +5,7 @@ use mathlib.Core.List.{List}
 use lib.ListN.{length, getD, set}
 use Rattle.base.specs.declared.Pair.{Pair}
 use Rattle.base.specs.Bytes.{byteOf}
-use Rattle.modulation.specs.Symbols.{symbolOf}
+use Rattle.modulation.specs.Symbols.{modulationSymbol}
 
 -- three bytes as a number, the first lowest
 abbrev pub threeBytes : ℕ → ℕ → ℕ → ℕ
@@ -26,7 +26,7 @@ fourSet n x a b c d t = set (set (set (set t x a) (n + x) b) (2 * n + x) c) (3 *
 -- entries 0, .., n - 1 are the elements of those words' symbols, of q bits each
 pub record Entries (q u n : ℕ) (t : List ℕ) : Type 0 where
   pub size : length t ≡ 256
-  pub entry : (x : ℕ) → x < n → getD t x 0 ≡ elementNumber u (symbolOf q x)
+  pub entry : (x : ℕ) → x < n → getD t x 0 ≡ elementNumber u (modulationSymbol q x)
 
 -- THE TABLE of an order: a symbol depends on the q lowest bits of a word only, so that entries repeat
 abbrev pub Elements : ℕ → ℕ → List ℕ → Type 0
@@ -35,5 +35,5 @@ Elements q u t = Entries q u 256 t
 -- entries of k bits, of which the first x are replaced by those of two bits more in front
 pub record Widened (k u x : ℕ) (t : List ℕ) : Type 0 where
   pub size : length t ≡ 256
-  pub left : (y : ℕ) → x ≤ y → y < 2 ^ k → getD t y 0 ≡ elementNumber u (symbolOf k y)
-  pub done : (c y : ℕ) → c < 4 → y < x → getD t (c * 2 ^ k + y) 0 ≡ elementNumber u (symbolOf (k + 2) (c * 2 ^ k + y))
+  pub left : (y : ℕ) → x ≤ y → y < 2 ^ k → getD t y 0 ≡ elementNumber u (modulationSymbol k y)
+  pub done : (c y : ℕ) → c < 4 → y < x → getD t (c * 2 ^ k + y) 0 ≡ elementNumber u (modulationSymbol (k + 2) (c * 2 ^ k + y))

@@ -25,10 +25,10 @@ pub record OddLevels (d : Pair) : Type 0 where
   pub odd-im : natAbs (d .im) % 2 ≡ 1
 
 -- the elements of two places with the symbols d and e: v on the own port, w on the other, and neither has other bits
-pub record PairValues (P turn unit : ℕ) (d e : Pair) (v w : ℕ) : Type 0 where
-  pub own-first : onPort P turn unit 0 d e (ownPort P turn) ≡ elementFrom v
-  pub own-second : onPort P turn unit 1 e d (ownPort P turn) ≡ elementFrom (upper v)
-  pub other-first : onPort P turn unit 0 d e (otherPort P turn) ≡ elementFrom w
-  pub other-second : onPort P turn unit 1 e d (otherPort P turn) ≡ elementFrom (upper w)
+pub record PairValues (P portPair unit : ℕ) (d e : Pair) (v w : ℕ) : Type 0 where
+  pub own-first : onPort P portPair unit 0 d e (ownPort P portPair) ≡ elementFrom v
+  pub own-second : onPort P portPair unit 1 e d (ownPort P portPair) ≡ elementFrom (upper v)
+  pub other-first : onPort P portPair unit 0 d e (otherPort P portPair) ≡ elementFrom w
+  pub other-second : onPort P portPair unit 1 e d (otherPort P portPair) ≡ elementFrom (upper w)
   pub own-few : v < 281474976710656
   pub other-few : w < 281474976710656

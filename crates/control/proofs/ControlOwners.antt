@@ -25,7 +25,7 @@ use Rattle.phich.proofs.Units.{same-sums, length-ok, hi-unit}
 use Rattle.phich.specs.Spreading.{spreadLength}
 use Rattle.plan.specs.Check.{checkOf}
 use Rattle.plan.specs.Fields.{mappingUnits}
-use Rattle.plan.specs.Rows.{hisOf}
+use Rattle.plan.specs.CommandLists.{hisOf}
 use Rattle.plan.specs.Valid.{CellIn, HiIn}
 use Rattle.plan.specs.declared.Plan.{Plan}
 use Rattle.plan.specs.declared.Checked.the-variants.{Plan as accepted}

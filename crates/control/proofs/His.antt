@@ -11,12 +11,12 @@ use Rattle.phich.specs.Spreading.{spreadLength}
 use Rattle.phich.specs.Units.{Within}
 use Rattle.phich.proofs.Units.{length-ok}
 use Rattle.plan.specs.Commands.{hiOf}
-use Rattle.plan.specs.Rows.{hisFrom}
+use Rattle.plan.specs.CommandLists.{hisFrom}
 use Rattle.plan.specs.declared.Cell.{Cell}
 use Rattle.plan.specs.declared.Hi.{Hi}
-use Rattle.plan.specs.declared.Row.{Row}
+use Rattle.plan.specs.declared.CommandList.{CommandList}
 use Rattle.plan.proofs.Counts.{units-most}
-use Rattle.plan.proofs.RowLaws.{row-length}
+use Rattle.plan.proofs.CommandLists.{row-length}
 use Rattle.control.specs.Filling.{CellHis}
 
 within-at : (l : ℕ) (hs : List Hi) (n : ℕ) → Within l hs → n < length hs → hiNumber hs n .sequence < 2 * l
@@ -25,7 +25,7 @@ within-at l [] n k h = absurd (not-suc-le-zero h)
 within-at l (x ∷ hs) zero k h = k .0
 within-at l (x ∷ hs) (suc n) k h = within-at l hs n (k .1) (omega arith)
 
-pub his-in : {c : Cell} {his : Row} {plan : List ℕ} → CellHis c his plan → {l : ℕ} → l ≡ spreadLength c → HisIn l plan (his .at) (his .count)
+pub his-in : {c : Cell} {his : CommandList} {plan : List ℕ} → CellHis c his plan → {l : ℕ} → l ≡ spreadLength c → HisIn l plan (his .at) (his .count)
 his-in {c = c} {his = his} {plan = plan} ok is =
     rw is
     (record {

@@ -14,7 +14,7 @@ use Rattle.gold.specs.declared.Registers.{Registers}
 use Rattle.gold.specs.Sequence.{binary}
 use Rattle.gold.specs.Steps.{after, wordOf}
 use Rattle.gold.proofs.Laws.{after-none, after-after}
-use Rattle.modulation.specs.Symbols.{symbolOf as symbolFor}
+use Rattle.modulation.specs.Symbols.{modulationSymbol as symbolFor}
 use Rattle.modulation.proofs.Symbols.{order-small}
 use Rattle.codeword.specs.Codewords.{dataSymbol, cfiBit}
 use Rattle.codeword.specs.Streams.{outputs}

@@ -6,8 +6,8 @@ use native.Mathlib.Omega.{arith}
 use lib.ListN.{getD}
 use borrow.Author.Tests.{eq-eqb, ne-eqb}
 use Rattle.base.specs.declared.Pair.{Pair}
-use Rattle.base.specs.Pairs.{nil, turned, Small}
-use Rattle.base.proofs.Pairs.{turned-small}
+use Rattle.base.specs.Pairs.{nil, flipped, Small}
+use Rattle.base.proofs.Pairs.{flipped-small}
 use Rattle.base.proofs.Tables.{table-at}
 use Rattle.gold.specs.declared.Registers.{Registers}
 use Rattle.gold.specs.Steps.{after, wordOf}
@@ -53,8 +53,8 @@ module _ {c : Cell} {m : ℕ} {part grid : List ℕ} (ok : PhichIn c m part grid
           cell = ok .cell;
           unit = ok .unit;
           small = λ i r.
-              subst (λ (p : Pair). Small 8 p) (sym (ap (λ (s : List Pair). getD s i nil) e ∙ table-at 12 (λ (j : ℕ). turned (wordBit w (chipOf l j)) (levelsAt part (j % 4))) nil i r))
-              (turned-small (wordBit w (chipOf l i)) 8 (levelsAt part (i % 4)) (ok .levels .small (i % 4) (omega arith)));
+              subst (λ (p : Pair). Small 8 p) (sym (ap (λ (s : List Pair). getD s i nil) e ∙ table-at 12 (λ (j : ℕ). flipped (wordBit w (chipOf l j)) (levelsAt part (j % 4))) nil i r))
+              (flipped-small (wordBit w (chipOf l i)) 8 (levelsAt part (i % 4)) (ok .levels .small (i % 4) (omega arith)));
         }
 
     -- the sums by the word's bits are those by the pair's

@@ -14,7 +14,7 @@ use Rattle.gold.specs.Sequence.{binary}
 use Rattle.gold.specs.Steps.{after, outputOf, wordOf}
 use Rattle.gold.proofs.Binary.{binary-same, binary-split, binary-lt, binary-digit}
 use Rattle.gold.proofs.Laws.{after-after, output-lt}
-use Rattle.modulation.specs.Symbols.{symbolOf}
+use Rattle.modulation.specs.Symbols.{modulationSymbol}
 use Rattle.codeword.specs.Codewords.{scrambled, dataSymbol, cfiBit}
 use Rattle.codeword.specs.Streams.{outputs}
 use Rattle.codeword.proofs.Laws.{scrambled-lt, outputs-lt, word-scrambled}
@@ -43,13 +43,13 @@ module _ (b x : ℕ → ℕ) (n w : ℕ) (h : w ≡ binary (scrambled b x) (4 * 
       let s : binary y (4 * n) 4 ≡ binary y (4 * n) 2 * 4 + binary y (4 * n + 2) 2 = binary-split y (4 * n) 2 2 in
       (omega arith, omega arith)
 
-  pub first-symbol : symbolOf 2 (w / 4) ≡ dataSymbol 2 b x (2 * n)
+  pub first-symbol : modulationSymbol 2 (w / 4) ≡ dataSymbol 2 b x (2 * n)
   unfolding dataSymbol
-  first-symbol = let z : 4 * n ≡ 2 * (2 * n) = omega arith in ap (symbolOf 2) (halves .0 ∙ ap (λ (k : ℕ). binary (scrambled b x) k 2) z)
+  first-symbol = let z : 4 * n ≡ 2 * (2 * n) = omega arith in ap (modulationSymbol 2) (halves .0 ∙ ap (λ (k : ℕ). binary (scrambled b x) k 2) z)
 
-  pub second-symbol : symbolOf 2 (w % 4) ≡ dataSymbol 2 b x (2 * n + 1)
+  pub second-symbol : modulationSymbol 2 (w % 4) ≡ dataSymbol 2 b x (2 * n + 1)
   unfolding dataSymbol
-  second-symbol = let z : 4 * n + 2 ≡ 2 * (2 * n + 1) = omega arith in ap (symbolOf 2) (halves .1 ∙ ap (λ (k : ℕ). binary (scrambled b x) k 2) z)
+  second-symbol = let z : 4 * n + 2 ≡ 2 * (2 * n + 1) = omega arith in ap (modulationSymbol 2) (halves .1 ∙ ap (λ (k : ℕ). binary (scrambled b x) k 2) z)
 
 -- ---- the CFI's codeword
 abbrev codewords : List (List ℕ)

@@ -9,10 +9,10 @@ use Rattle.phich.specs.Loops.{Levels}
 use Rattle.phich.specs.Spreading.{spreadLength}
 use Rattle.phich.specs.Units.{mappingUnit, Within}
 use Rattle.plan.specs.Fields.{mappingUnits}
-use Rattle.plan.specs.Rows.{hisFrom}
+use Rattle.plan.specs.CommandLists.{hisFrom}
 use Rattle.plan.specs.Valid.{CellIn}
 use Rattle.plan.specs.declared.Cell.{Cell}
-use Rattle.plan.specs.declared.Row.{Row}
+use Rattle.plan.specs.declared.CommandList.{CommandList}
 use Rattle.places.specs.Places.{placesOf}
 use Rattle.grid.specs.Writing.{Room}
 
@@ -37,7 +37,7 @@ pub record UnitIn (c : Cell) (m : ℕ) (sums : List Pair) : Type 0 where
   pub small : (i : ℕ) → i < 12 → Small 8 (getD sums i nil)
 
 -- HIs of the cell, each with a sequence and a unit of it
-pub record CellHis (c : Cell) (his : Row) (plan : List ℕ) : Type 0 where
+pub record CellHis (c : Cell) (his : CommandList) (plan : List ℕ) : Type 0 where
   pub cell : CellIn c
   pub known : Within (spreadLength c) (hisFrom (drop (his .at) plan) (his .count))
   pub units : (n : ℕ) → n < his .count → mappingUnit (spreadLength c) (hiNumber (hisFrom (drop (his .at) plan) (his .count)) n) < mappingUnits c

@@ -11,16 +11,16 @@ use Rattle.phich.specs.Loops.{QuadSums, bitsFrom}
 use Rattle.phich.proofs.Scrambled.{quads-same}
 use Rattle.plan.specs.Commands.{hiOf}
 use Rattle.plan.specs.Fields.{mappingUnits}
-use Rattle.plan.specs.Rows.{hisFrom}
+use Rattle.plan.specs.CommandLists.{hisFrom}
 use Rattle.plan.specs.declared.Cell.{Cell}
-use Rattle.plan.specs.declared.Row.{Row}
-use Rattle.plan.proofs.RowLaws.{row-length}
+use Rattle.plan.specs.declared.CommandList.{CommandList}
+use Rattle.plan.proofs.CommandLists.{row-length}
 use Rattle.control_read.specs.Reading.{FirstRead, HisRead, ackFrom}
 use Rattle.control_read.proofs.Reading.{quad-ack}
 
 -- `sums_again`: the bits from the first quads are those of the grid
 pub again :
-    {c : Cell} {his : Row} {plan grid first : List ℕ} → HisRead c his plan grid → FirstRead c grid (4 * mappingUnits c) first → (r : Registers) (w l : ℕ) → w ≡ wordOf r 12 → l ≡ spreadLength c
+    {c : Cell} {his : CommandList} {plan grid first : List ℕ} → HisRead c his plan grid → FirstRead c grid (4 * mappingUnits c) first → (r : Registers) (w l : ℕ) → w ≡ wordOf r 12 → l ≡ spreadLength c
     → {s : List ℕ} → QuadSums l (bitsFrom l (wordBit w) (hisFrom (drop (his .at) plan) (his .count)) first) (hisFrom (drop (his .at) plan) (his .count)) s
     → QuadSums (spreadLength c) (ackFrom c r (hisFrom (drop (his .at) plan) (his .count)) grid) (hisFrom (drop (his .at) plan) (his .count)) s
 unfolding bitsFrom

@@ -32,10 +32,10 @@ use Rattle.phich.proofs.Chips.{bit-chips}
 use Rattle.phich.proofs.HisLeft.{At, at-start, here, at-next, here-in}
 use Rattle.phich.proofs.Units.{length-ok}
 use Rattle.plan.specs.Commands.{hiOf}
-use Rattle.plan.specs.Rows.{hisFrom, nextOf}
+use Rattle.plan.specs.CommandLists.{hisFrom, nextOf}
 use Rattle.plan.specs.declared.Cell.{Cell}
 use Rattle.plan.specs.declared.Hi.{Hi}
-use Rattle.plan.specs.declared.Row.{Row}
+use Rattle.plan.specs.declared.CommandList.{CommandList}
 use Rattle.plan.specs.Fields.{mappingUnits}
 use Rattle.plan.proofs.Counts.{units-most}
 use Rattle.places.specs.Places.{placesOf}
@@ -50,9 +50,9 @@ use Rattle.control.proofs.Words.{word-bits}
 use Rattle.layout.specs.Rules.{quadGroup}
 
 -- ---- the first quads
-turn-odd : (P x : ℕ) → ownPort P (x % 2) ≡ ownPort P x
+step-odd : (P x : ℕ) → ownPort P (x % 2) ≡ ownPort P x
 unfolding ownPort
-turn-odd P x = let e : x % 2 % 2 ≡ x % 2 = omega arith in ap (λ (y : ℕ). cond (eqb P 4) y 0) e
+step-odd P x = let e : x % 2 % 2 ≡ x % 2 = omega arith in ap (λ (y : ℕ). cond (eqb P 4) y 0) e
 
 module _ {c : Cell} {m : ℕ} {grid : List ℕ} (ok : UnitRead c m grid) {i : ℕ} (in-i : i < 4) {g : ℕ} (eg : g ≡ quadGroup c m 0) where
   pub group-in : g < 2 * c .blocks
@@ -70,7 +70,7 @@ module _ {c : Cell} {m : ℕ} {grid : List ℕ} (ok : UnitRead c m grid) {i : �
         let z : 0 ≡ i / 4 = omega arith in
         let o : m ≡ i / 4 + m = omega arith in
         let k : i ≡ i % 4 = omega arith in
-        ap₂ (λ (x y : ℕ). x * y + t) (eq ∙ ep ∙ turn-odd (c .ports) m) eT
+        ap₂ (λ (x y : ℕ). x * y + t) (eq ∙ ep ∙ step-odd (c .ports) m) eT
         ∙ ap (λ (x : ℕ). ownPort (c .ports) m * placesOf c + x) (et ∙ ap (λ (x : ℕ). quadPlace c 0 x i) eg)
         ∙ ap₂ (λ (x y : ℕ). ownPort (c .ports) x * placesOf c + y) o (ap₂ (λ (x y : ℕ). quadPlace c 0 (quadGroup c m x) y) z k)
         ∙ ap₂ (ownElement c) u v
@@ -153,27 +153,27 @@ ack-two c r hs g n =
 
 -- ---- the HIs of the plan
 -- what `first_sums` requires, and the loops over the HIs
-module _ {c : Cell} {his : Row} {plan grid : List ℕ} (ok : HisRead c his plan grid) where
+module _ {c : Cell} {his : CommandList} {plan grid : List ℕ} (ok : HisRead c his plan grid) where
   pub quads-in : {first : List ℕ} → length first ≡ 200 → QuadsIn c grid first
   quads-in e = record { cell = ok .cell-his .cell; room = ok .room; size = e }
 
 -- n bits are written
-pub record ReadTurn (c : Cell) (r : Registers) (his : Row) (plan grid part : List ℕ) (at n : ℕ) : Type 0 where
+pub record ReadStep (c : Cell) (r : Registers) (his : CommandList) (plan grid part : List ℕ) (at n : ℕ) : Type 0 where
   pub where-at : At plan (his .at) (his .count) at n
   pub size : length part ≡ sectionBytes (his .count)
   pub bits : Packed (ackFrom c r (hisFrom (drop (his .at) plan) (his .count)) grid) n part
 
-module _ {c : Cell} {his : Row} {plan grid part₀ : List ℕ} (ok : ReadIn c his plan grid part₀) (r : Registers) where
+module _ {c : Cell} {his : CommandList} {plan grid part₀ : List ℕ} (ok : ReadIn c his plan grid part₀) (r : Registers) where
   abbrev hs : List Hi
   hs = hisFrom (drop (his .at) plan) (his .count)
 
   abbrev bit : ℕ → ℕ
   bit = ackFrom c r hs grid
 
-  pub read-start : ReadTurn c r his plan grid part₀ (his .at) 0
+  pub read-start : ReadStep c r his plan grid part₀ (his .at) 0
   read-start = record { where-at = at-start plan (his .at) (his .count); size = ok .size; bits = packed-none bit part₀ }
 
-  module _ {part : List ℕ} {at n : ℕ} (t : ReadTurn c r his plan grid part at n) (more : n < his .count) where
+  module _ {part : List ℕ} {at n : ℕ} (t : ReadStep c r his plan grid part at n) (more : n < his .count) where
     -- what `bit_of` and `push` require
     pub hi-read : {l : ℕ} {h : Hi} → l ≡ spreadLength c → h ≡ hiOf (drop at plan) → HiIn l h
     hi-read el eh = here-in (t .where-at) more (his-in (ok .each .cell-his) el) eh
@@ -189,7 +189,7 @@ module _ {c : Cell} {his : Row} {plan grid part₀ : List ℕ} (ok : ReadIn c hi
       pub push-in : PushIn part n b
       push-in = push-ok bit n (t .bits) (ack-two c r hs grid) b bit-is inside
 
-      pub read-next : {new : List ℕ} {next : ℕ} → new ≡ pushed part n b → next ≡ nextOf plan at → ReadTurn c r his plan grid new next (n + 1)
+      pub read-next : {new : List ℕ} {next : ℕ} → new ≡ pushed part n b → next ≡ nextOf plan at → ReadStep c r his plan grid new next (n + 1)
       read-next en ex =
           record {
             where-at = at-next (t .where-at) more ex;
@@ -197,7 +197,7 @@ module _ {c : Cell} {his : Row} {plan grid part₀ : List ℕ} (ok : ReadIn c hi
             bits = push-more bit n (t .bits) b bit-is inside en;
           }
 
-  pub read-finish : {part : List ℕ} {at n : ℕ} → ReadTurn c r his plan grid part at n → his .count ≤ n → part ≡ sectionOf bit (his .count)
+  pub read-finish : {part : List ℕ} {at n : ℕ} → ReadStep c r his plan grid part at n → his .count ≤ n → part ≡ sectionOf bit (his .count)
   read-finish {part = part} {n = n} t h =
       let e : n ≡ his .count = omega (arith, t .where-at .done) in
       packed-all bit (his .count) part (t .size) (rw e at (t .bits))

@@ -18,7 +18,7 @@ use Rattle.phich.specs.Units.{mappingUnit}
 use Rattle.phich.specs.Recovery.{bitIn}
 use Rattle.phich.specs.Spreading.{spreadLength}
 use Rattle.plan.specs.Check.{checkOf}
-use Rattle.plan.specs.Rows.{hisOf}
+use Rattle.plan.specs.CommandLists.{hisOf}
 use Rattle.plan.specs.declared.Plan.{Plan}
 use Rattle.plan.specs.declared.Checked.the-variants.{Plan as accepted}
 use Rattle.layout.specs.Owners.{carriers}

@@ -22,7 +22,7 @@ use Rattle.plan.specs.Fields.{mappingUnits}
 use Rattle.plan.specs.Valid.{CellIn}
 use Rattle.plan.specs.declared.Cell.{Cell}
 use Rattle.plan.specs.declared.Hi.{Hi}
-use Rattle.plan.specs.declared.Row.{Row}
+use Rattle.plan.specs.declared.CommandList.{CommandList}
 use Rattle.places.specs.Places.{placesOf}
 use Rattle.places.specs.Quads.{quadPlace}
 use Rattle.payload.specs.Sections.{sectionBytes}
@@ -62,12 +62,12 @@ pub record QuadsIn (c : Cell) (grid first : List ℕ) : Type 0 where
   pub size : length first ≡ 200
 
 -- HIs of the cell and a grid of the cell
-pub record HisRead (c : Cell) (his : Row) (plan grid : List ℕ) : Type 0 where
+pub record HisRead (c : Cell) (his : CommandList) (plan grid : List ℕ) : Type 0 where
   pub cell-his : CellHis c his plan
   pub room : Room (c .ports) (placesOf c) grid
 
 -- and the bytes of their section
-pub record ReadIn (c : Cell) (his : Row) (plan grid part : List ℕ) : Type 0 where
+pub record ReadIn (c : Cell) (his : CommandList) (plan grid part : List ℕ) : Type 0 where
   pub each : HisRead c his plan grid
   pub size : length part ≡ sectionBytes (his .count)
 

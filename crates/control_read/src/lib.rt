@@ -1,13 +1,13 @@
 // The HIs' bits back from a grid (TS 36.211 6.9): each from the first quad of its PHICH unit.
 use gold::Registers;
 use plan::Cell;
-use plan::Row;
+use plan::CommandList;
 ghost use mathlib.Core.Path.{_≡_};
 ghost use Prim.Native.Nat.{_+_, _*_};
 ghost use lib.ListN.{drop};
 ghost use Rattle.gold.specs.Steps.{after};
 ghost use Rattle.plan.specs.Fields.{mappingUnits};
-ghost use Rattle.plan.specs.Rows.{hisFrom};
+ghost use Rattle.plan.specs.CommandLists.{hisFrom};
 ghost use Rattle.phich.specs.Spreading.{spreadLength};
 ghost use Rattle.recovery.specs.Recovery.{sectionOf};
 ghost use Rattle.control_read.specs.Reading.{ackFrom, pushed, PushIn, UnitRead, FirstRead, QuadsIn, ReadIn};
@@ -63,7 +63,7 @@ fn push(part: &mut [u8], n: usize, bit: u8)
 pub fn read_his(
     r: Registers,
     cell: Cell,
-    his: Row,
+    his: CommandList,
     plan: &[u8],
     grid: &[u8],
     part: &mut [u8],

@@ -12,12 +12,12 @@ use Rattle.base.proofs.Tests.{by-test, is-false}
 use Rattle.base.specs.Tables.{table}
 use Rattle.plan.specs.Fields.{mappingUnits}
 use Rattle.plan.specs.Check.{checkOf}
-use Rattle.plan.specs.Rows.{usersOf}
+use Rattle.plan.specs.CommandLists.{usersOf}
 use Rattle.plan.specs.Valid.{Valid}
 use Rattle.plan.specs.declared.Plan.{Plan}
 use Rattle.plan.specs.declared.Checked.the-variants.{Plan as accepted}
 use Rattle.plan.proofs.Valid.{valid}
-use Rattle.base.specs.Choice.{if_then_else_, one}
+use Rattle.base.specs.Choice.{if_then_else_, indicator}
 use Rattle.layout.specs.Owners.{symbols, carriers, above, owns, owners}
 use Rattle.layout.proofs.Lists.{In, here, there}
 use Rattle.layout.proofs.Partition.{in-owners}
@@ -96,14 +96,14 @@ rises w p ok = (
 
 -- ---- so one of the list has the place
 module _ (t : Owner → Bool) (a : Owner) (only : (o : Owner) → t o ≡ true → o ≡ a) where
-  none : (b : ℕ) (os : List Owner) → Rise b os → code a < b → sumOf os (λ o. one (t o)) ≡ 0
+  none : (b : ℕ) (os : List Owner) → Rise b os → code a < b → sumOf os (λ o. indicator (t o)) ≡ 0
   unfolding sumOf
   none b [] r l = refl
   none b (o ∷ os) r l =
       let n : t o ≡ false = is-false (t o) (λ e. let z : code o ≡ code a = ap code (only o e) in omega arith) in
       rw (n, none (suc (code o)) os (r .1) (omega arith)) refl
 
-  once : (b : ℕ) (os : List Owner) → Rise b os → In a os → t a ≡ true → sumOf os (λ o. one (t o)) ≡ 1
+  once : (b : ℕ) (os : List Owner) → Rise b os → In a os → t a ≡ true → sumOf os (λ o. indicator (t o)) ≡ 1
   unfolding sumOf
   once b (o ∷ os) r here e = rw (e, none (suc (code a)) os (r .1) (omega arith)) refl
   once b (o ∷ os) r (there i) e =
@@ -124,7 +124,7 @@ kind-once Held x = omega arith
 kind-once Idle x = omega arith
 
 module _ (w : List ℕ) (p : Plan) (e : checkOf w ≡ accepted p) where
-  place-one : (s k : ℕ) → s < symbols (p .cell) → k < carriers (p .cell) → sumOf (owners w p) (λ o. one (owns w p o s k)) ≡ 1
+  place-one : (s k : ℕ) → s < symbols (p .cell) → k < carriers (p .cell) → sumOf (owners w p) (λ o. indicator (owns w p o s k)) ≡ 1
   place-one s k l m =
       let a = one-owner w p e s k l m in
       let ok = valid w p e in
@@ -136,8 +136,8 @@ module _ (w : List ℕ) (p : Plan) (e : checkOf w ≡ accepted p) where
   counts-add-up =
       let S = symbols (p .cell) in
       let K = carriers (p .cell) in
-      swap S (owners w p) (λ o s. sumTo K (λ k. one (owns w p o s k)))
-      ∙ sum-const S K _ (λ s l. swap K (owners w p) (λ o k. one (owns w p o s k)) ∙ sum-const K 1 _ (λ k m. place-one s k l m) ∙ mul-one K)
+      swap S (owners w p) (λ o s. sumTo K (λ k. indicator (owns w p o s k)))
+      ∙ sum-const S K _ (λ s l. swap K (owners w p) (λ o k. indicator (owns w p o s k)) ∙ sum-const K 1 _ (λ k m. place-one s k l m) ∙ mul-one K)
       ∙ mul-comm S K
 
   pub kinds-add-up : sumTo kinds (kindCount w p) ≡ carriers (p .cell) * symbols (p .cell)

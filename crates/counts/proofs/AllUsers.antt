@@ -11,13 +11,13 @@ use lib.ListN.{length, getD, drop}
 use Rattle.base.specs.Tables.{table}
 use Rattle.plan.specs.Commands.{userOf}
 use Rattle.plan.specs.Check.{checkOf}
-use Rattle.plan.specs.Rows.{nextOf, usersFrom, usersOf}
+use Rattle.plan.specs.CommandLists.{nextOf, usersFrom, usersOf}
 use Rattle.plan.specs.declared.Cell.{Cell}
 use Rattle.plan.specs.declared.Frame.{Frame}
 use Rattle.plan.specs.declared.User.{User}
 use Rattle.plan.specs.declared.Plan.{Plan}
 use Rattle.plan.specs.declared.Checked.the-variants.{Plan as accepted}
-use Rattle.plan.proofs.RowLaws.{row-next, row-zero}
+use Rattle.plan.proofs.CommandLists.{commands-next, commands-zero}
 use Rattle.base.specs.Choice.{if_then_else_}
 use Rattle.layout.specs.Owners.{above, owners}
 use Rattle.layout.specs.declared.Owner.{Owner}
@@ -68,21 +68,21 @@ module _ (c : Cell) (f : Frame) (w : List ℕ) (at : ℕ) where
 
   next-user : (n r to : ℕ) (u : User) → u ≡ userOf (drop at w) → r ≡ userElements c f (u .first) (u .count) → to ≡ nextOf w at → Left at (suc n) ≡ r + Left to n
   unfolding allElements sumOf
-  next-user n r to u eu er et = rw (row-next userOf w at n, er, eu, et) refl
+  next-user n r to u eu er et = rw (commands-next userOf w at n, er, eu, et) refl
 
-  pub user-turn :
+  pub user-step :
       (total n m r to : ℕ) (u : User) → 0 < m → u ≡ userOf (drop at w) → r ≡ userElements c f (u .first) (u .count) → to ≡ nextOf w at → n + Left at m ≡ total → n + r + Left to
       (m - 1) ≡ total
-  user-turn total n zero r to u l eu er et e = absurd (not-suc-le-zero l)
-  user-turn total n (suc m) r to u l eu er et e = rw sub-one (add-assoc n r (Left to m) ∙ ap (λ (x : ℕ). n + x) (sym (next-user m r to u eu er et)) ∙ e)
+  user-step total n zero r to u l eu er et e = absurd (not-suc-le-zero l)
+  user-step total n (suc m) r to u l eu er et e = rw sub-one (add-assoc n r (Left to m) ∙ ap (λ (x : ℕ). n + x) (sym (next-user m r to u eu er et)) ∙ e)
 
   pub user-within : (total n m r to : ℕ) (u : User) → 0 < m → u ≡ userOf (drop at w) → r ≡ userElements c f (u .first) (u .count) → to ≡ nextOf w at → n + Left at m ≡ total → n + r ≤ total
-  user-within total n m r to u l eu er et e = omega (arith, user-turn total n m r to u l eu er et e)
+  user-within total n m r to u l eu er et e = omega (arith, user-step total n m r to u l eu er et e)
 
   pub no-user-left : (total n m : ℕ) → m ≤ 0 → n + Left at m ≡ total → n ≡ total
   unfolding allElements sumOf
   no-user-left total n m l e =
-      let z : Left at m ≡ 0 = ap (allElements c f) (row-zero userOf (drop at w) m (omega arith)) in
+      let z : Left at m ≡ 0 = ap (allElements c f) (commands-zero userOf (drop at w) m (omega arith)) in
       omega arith
 
 pub all-users : (w : List ℕ) (p : Plan) → 0 + allElements (p .cell) (p .frame) (usersFrom (drop (p .users .at) w) (p .users .count)) ≡ usersElements w p

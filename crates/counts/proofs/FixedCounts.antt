@@ -14,7 +14,7 @@ use Rattle.plan.specs.Fields.{mappingUnits}
 use Rattle.plan.specs.Check.{checkOf}
 use Rattle.plan.specs.declared.Plan.{Plan}
 use Rattle.plan.specs.declared.Checked.the-variants.{Plan as accepted}
-use Rattle.base.specs.Choice.{if_then_else_, one}
+use Rattle.base.specs.Choice.{if_then_else_, indicator}
 use Rattle.plan.specs.declared.Cell.{Cell}
 use Rattle.plan.specs.declared.Frame.{Frame}
 use Rattle.layout.specs.Rules.{slotLength, inSlot, crsSymbol, crsBelow, centre, inPbchArea, pbch, elementGroup, inGroup, isFormat, pcfich, mappingUnitHas, phich}
@@ -34,21 +34,21 @@ use Rattle.counts.proofs.Groups.{four-formats, three-groups}
 
 -- ---- a group's four places
 abbrev quad : Bool → ℕ → Bool
-quad g x = eqb (six (λ r. one (not (eqb (r % 3) x) && g)) 0) (one g * 4)
+quad g x = eqb (six (λ r. indicator (not (eqb (r % 3) x) && g)) 0) (indicator g * 4)
 
 four-places : T (allBelow (λ x. everyWay 1 (λ g. quad g x)) 3)
 four-places = tt
 
-group-row : (C n : ℕ) (G : ℕ → Bool) → sumTo (6 * n) (λ k. one (not (eqb (k % 3) (C % 3)) && G (k / 6))) ≡ sumTo n (λ b. one (G b)) * 4
+group-row : (C n : ℕ) (G : ℕ → Bool) → sumTo (6 * n) (λ k. indicator (not (eqb (k % 3) (C % 3)) && G (k / 6))) ≡ sumTo n (λ b. indicator (G b)) * 4
 group-row C n G =
-    by-six n _ (λ b r. one (not (eqb (r % 3) (C % 3)) && G b))
+    by-six n _ (λ b r. indicator (not (eqb (r % 3) (C % 3)) && G b))
     (λ b r k m l e.
     let x : k % 3 ≡ r % 3 = omega arith in
     let y : k / 6 ≡ b = omega arith in
     rw (x, y) refl)
-    ∙ sum-same n _ (λ b. one (G b) * 4)
+    ∙ sum-same n _ (λ b. indicator (G b) * 4)
     (λ b m. eqb→eq _ _ (by-table 1 (λ g. quad g (C % 3)) (below-at (λ x. everyWay 1 (λ g. quad g x)) 3 four-places (C % 3) (omega arith)) (G b)))
-    ∙ sum-times n 4 (λ b. one (G b))
+    ∙ sum-times n 4 (λ b. indicator (G b))
 
 first-only : (n : ℕ) (f : ℕ → ℕ) → 0 < n → ((j : ℕ) → 0 < j → f j ≡ 0) → sumTo n f ≡ f 0
 unfolding sumTo
@@ -57,7 +57,7 @@ first-only (suc zero) f l h = omega arith
 first-only (suc (suc n)) f l h = omega (arith, first-only (suc n) f (omega arith) h, h (suc n) (omega arith))
 
 -- what has some groups of symbol 0 has four places of each
-group-places : (c : Cell) (G : ℕ → Bool) → sumTo (symbols c) (λ s. sumTo (carriers c) (λ k. one (inGroup c s k && G (elementGroup c s k)))) ≡ sumTo (2 * c .blocks) (λ t. one (G t)) * 4
+group-places : (c : Cell) (G : ℕ → Bool) → sumTo (symbols c) (λ s. sumTo (carriers c) (λ k. indicator (inGroup c s k && G (elementGroup c s k)))) ≡ sumTo (2 * c .blocks) (λ t. indicator (G t)) * 4
 unfolding inGroup elementGroup
 group-places c G =
     let z : carriers c ≡ 6 * (2 * c .blocks) = omega arith in
@@ -66,27 +66,27 @@ group-places c G =
 
 -- ---- PBCH: what the reference signals of P ports leave of the centre in a symbol
 pub open-row : (c : Cell) (P s : ℕ) → 6 ≤ c .blocks
-    → sumTo (carriers c) (λ k. one (centre c k && not (crsBelow c P s k))) ≡ 12 * (6 - signals c P s)
+    → sumTo (carriers c) (λ k. indicator (centre c k && not (crsBelow c P s k))) ≡ 12 * (6 - signals c P s)
 open-row c P s wide =
     let N = c .blocks in
     let q = refs c P s in
     let z : carriers c ≡ 6 * (2 * N) = omega arith in
     let v = 6 - signals c P s in
     rw z
-    (by-six (2 * N) _ (λ b r. one (central c b && not (hits (q .u) (q .v) (q .x) r)))
+    (by-six (2 * N) _ (λ b r. indicator (central c b && not (hits (q .u) (q .v) (q .x) r)))
     (λ b r k i j e.
     let x : k / 6 ≡ b = omega arith in
     let y : k % 6 ≡ r = omega arith in
     rw (centre-half c k, q .held k, x, y) refl)
-    ∙ sum-same (2 * N) _ (λ b. one (central c b) * v) (λ b i. half-left (central c b) (q .u) (q .v) (q .small) ∙ ap (λ (x : ℕ). one (central c b) * (6 - x)) (q .sum))
-    ∙ sum-times (2 * N) v (λ b. one (central c b)) ∙ ap (λ (x : ℕ). x * v) (twelve c wide))
+    ∙ sum-same (2 * N) _ (λ b. indicator (central c b) * v) (λ b i. half-left (central c b) (q .u) (q .v) (q .small) ∙ ap (λ (x : ℕ). indicator (central c b) * (6 - x)) (q .sum))
+    ∙ sum-times (2 * N) v (λ b. indicator (central c b)) ∙ ap (λ (x : ℕ). x * v) (twelve c wide))
 
 module _ (c : Cell) (f : Frame) (wide : 6 ≤ c .blocks) where
   -- symbol s is one of PBCH's
   abbrev inArea : ℕ → Bool
   inArea s = eqb (f .subframe) 0 && leb (slotLength c) s && ltb s (slotLength c + 4)
 
-  pbch-row : (s : ℕ) → sumTo (carriers c) (λ k. one (pbch c f s k)) ≡ (if inArea s then 12 * (6 - signals c 4 s) else 0)
+  pbch-row : (s : ℕ) → sumTo (carriers c) (λ k. indicator (pbch c f s k)) ≡ (if inArea s then 12 * (6 - signals c 4 s) else 0)
   unfolding pbch inPbchArea
   pbch-row s =
       by-test (inArea s)

@@ -7,7 +7,7 @@ use lib.Dec.{ltb, eqb}
 use borrow.Author.Tests.{ne-eqb, lt-ltb, le-ltb, eqb-true, eqb-false, ltb-true, ltb-false}
 use Rattle.base.proofs.Tests.{by-test}
 use Rattle.plan.specs.declared.Cell.{Cell}
-use Rattle.base.specs.Choice.{one}
+use Rattle.base.specs.Choice.{indicator}
 use Rattle.layout.specs.Rules.{formatGroup, isFormat, groupsLeft, quadGroup, mappingUnitHas}
 use Rattle.layout.proofs.Groups.{format-small, format-apart}
 use Rattle.layout.proofs.Units.{unit-small, unit-apart}
@@ -15,7 +15,7 @@ use Rattle.counts.specs.Sums.{sumTo}
 use Rattle.counts.proofs.Sums.{sum-same, sum-add}
 
 -- ---- how many numbers are one of some different ones
-one-hit : (n a : ℕ) → sumTo n (λ j. one (eqb j a)) ≡ one (ltb a n)
+one-hit : (n a : ℕ) → sumTo n (λ j. indicator (eqb j a)) ≡ indicator (ltb a n)
 unfolding sumTo
 one-hit zero a = rw (le-ltb a 0 (omega arith)) refl
 one-hit (suc n) a =
@@ -26,36 +26,36 @@ one-hit (suc n) a =
     (λ w. let v : n ≤ a = ltb-false a n w in rw (one-hit n a, e, w, le-ltb a (suc n) (omega arith)) refl))
 
 -- one more number, at which the test t fails
-pub one-more : (n a : ℕ) (t : ℕ → Bool) → a < n → t a ≡ false → sumTo n (λ j. one (t j || eqb j a)) ≡ sumTo n (λ j. one (t j)) + 1
+pub one-more : (n a : ℕ) (t : ℕ → Bool) → a < n → t a ≡ false → sumTo n (λ j. indicator (t j || eqb j a)) ≡ sumTo n (λ j. indicator (t j)) + 1
 one-more n a t l e =
-    sum-same n _ (λ j. one (t j) + one (eqb j a))
+    sum-same n _ (λ j. indicator (t j) + indicator (eqb j a))
     (λ j m. by-test (eqb j a)
     (λ x. let z : t j ≡ false = ap t (eqb-true j a x) ∙ e in rw (x, z) refl)
     (λ x. rw x (or-nothing (t j))))
-    ∙ sym (sum-add n (λ j. one (t j)) (λ j. one (eqb j a)))
-    ∙ (let z : sumTo n (λ j. one (eqb j a)) ≡ 1 = one-hit n a ∙ rw (lt-ltb a n l) refl in rw z refl)
+    ∙ sym (sum-add n (λ j. indicator (t j)) (λ j. indicator (eqb j a)))
+    ∙ (let z : sumTo n (λ j. indicator (eqb j a)) ≡ 1 = one-hit n a ∙ rw (lt-ltb a n l) refl in rw z refl)
   where
-    or-nothing : (b : Bool) → one (b || false) ≡ one b + 0
+    or-nothing : (b : Bool) → indicator (b || false) ≡ indicator b + 0
     or-nothing true = refl
     or-nothing false = refl
 
-one-only : (n a : ℕ) → a < n → sumTo n (λ j. one (eqb j a)) ≡ 1
+one-only : (n a : ℕ) → a < n → sumTo n (λ j. indicator (eqb j a)) ≡ 1
 one-only n a l = one-hit n a ∙ rw (lt-ltb a n l) refl
 
 module _ (n a b c : ℕ) (la : a < n) (lb : b < n) (lc : c < n) (ab : (a ≡ b) → ⊥) (ac : (a ≡ c) → ⊥) (bc : (b ≡ c) → ⊥) where
-  three-hits : sumTo n (λ j. one (eqb j a || eqb j b || eqb j c)) ≡ 3
+  three-hits : sumTo n (λ j. indicator (eqb j a || eqb j b || eqb j c)) ≡ 3
   three-hits =
       one-more n c (λ j. eqb j a || eqb j b) lc (rw (ne-eqb c a (λ e. ac (sym e)), ne-eqb c b (λ e. bc (sym e))) refl)
       ∙ rw (one-more n b (λ j. eqb j a) lb (ne-eqb b a (λ e. ab (sym e))), one-only n a la) refl
 
-  four-hits : (d : ℕ) → d < n → ((a ≡ d) → ⊥) → ((b ≡ d) → ⊥) → ((c ≡ d) → ⊥) → sumTo n (λ j. one (eqb j a || eqb j b || eqb j c || eqb j d)) ≡ 4
+  four-hits : (d : ℕ) → d < n → ((a ≡ d) → ⊥) → ((b ≡ d) → ⊥) → ((c ≡ d) → ⊥) → sumTo n (λ j. indicator (eqb j a || eqb j b || eqb j c || eqb j d)) ≡ 4
   four-hits d ld ad bd cd =
       one-more n d (λ j. eqb j a || eqb j b || eqb j c) ld (rw (ne-eqb d a (λ e. ad (sym e)), ne-eqb d b (λ e. bd (sym e)), ne-eqb d c (λ e. cd (sym e))) refl)
       ∙ rw three-hits refl
 
 -- PCFICH's quads have four groups, a PHICH unit's three
 module _ (c : Cell) (big : 6 ≤ c .blocks) where
-  pub four-formats : sumTo (2 * c .blocks) (λ t. one (isFormat c t)) ≡ 4
+  pub four-formats : sumTo (2 * c .blocks) (λ t. indicator (isFormat c t)) ≡ 4
   unfolding isFormat
   four-formats =
       let g = formatGroup c in
@@ -65,7 +65,7 @@ module _ (c : Cell) (big : 6 ≤ c .blocks) where
       (apart 0 1 (omega arith) (omega arith)) (apart 0 2 (omega arith) (omega arith)) (apart 1 2 (omega arith) (omega arith))
       (g 3) (small 3) (apart 0 3 (omega arith) (omega arith)) (apart 1 3 (omega arith) (omega arith)) (apart 2 3 (omega arith) (omega arith))
 
-  pub three-groups : (m s : ℕ) → m < groupsLeft c / 3 → sumTo (2 * c .blocks) (λ t. one (mappingUnitHas c m s t)) ≡ 3
+  pub three-groups : (m s : ℕ) → m < groupsLeft c / 3 → sumTo (2 * c .blocks) (λ t. indicator (mappingUnitHas c m s t)) ≡ 3
   unfolding mappingUnitHas
   three-groups m s third =
       let g = quadGroup c m in

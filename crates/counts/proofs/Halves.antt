@@ -9,7 +9,7 @@ use Rattle.base.proofs.Tests.{by-test, both, same-test}
 use Rattle.plan.proofs.Listed.{and-left, and-right}
 use Rattle.plan.specs.declared.Cell.{Cell}
 use Rattle.plan.specs.declared.User.{User}
-use Rattle.base.specs.Choice.{one}
+use Rattle.base.specs.Choice.{indicator}
 use Rattle.layout.specs.Rules.{middle, centre}
 use Rattle.layout.specs.Owners.{blocksHave}
 use Rattle.counts.specs.Sums.{sumTo}
@@ -46,7 +46,7 @@ centre-half c k =
     both (le-leb (6 * N) (k + 36) (omega arith)) (lt-ltb k (6 * N + 36) (omega arith)))
 
 -- those of the half blocks below m
-pub in-range : (a e m : ℕ) → sumTo m (λ b. one (within a e b)) ≡ min m e - a
+pub in-range : (a e m : ℕ) → sumTo m (λ b. indicator (within a e b)) ≡ min m e - a
 unfolding sumTo
 in-range a e zero = omega arith
 in-range a e (suc m) =
@@ -79,7 +79,7 @@ overlap a e c d b =
     let j : b < min e d = ltb-true _ _ (and-right (leb (max a c) b) (ltb b (min e d)) h) in
     both (both (le-leb a b (omega arith)) (lt-ltb b e (omega arith))) (both (le-leb c b (omega arith)) (lt-ltb b d (omega arith))))
 
-pub parted : (x y : Bool) → one (x && not y) + one (x && y) ≡ one x
+pub parted : (x y : Bool) → indicator (x && not y) + indicator (x && y) ≡ indicator x
 parted true true = refl
 parted true false = refl
 parted false y = refl
@@ -89,7 +89,7 @@ away x y z e = omega arith
 
 -- a user's half blocks among the cell's
 pub halves-are : (c : Cell) (first count : ℕ) (t : Bool) → first + count ≤ c .blocks
-    → sumTo (2 * c .blocks) (λ b. one (within (2 * first) (2 * (first + count)) b && not (t && central c b))) ≡ halves c first count t
+    → sumTo (2 * c .blocks) (λ b. indicator (within (2 * first) (2 * (first + count)) b && not (t && central c b))) ≡ halves c first count t
 unfolding halves
 halves-are c first count true l =
     let N = c .blocks in
@@ -97,25 +97,25 @@ halves-are c first count true l =
     let e = 2 * (first + count) in
     let i : min (2 * N) e - a ≡ 2 * count = omega arith in
     let j : min (2 * N) (min e (N + 6)) ≡ min e (N + 6) = omega arith in
-    let both-ways : sumTo (2 * N) (λ b. one (within a e b && not (central c b))) + sumTo (2 * N) (λ b. one (within a e b && central c b)) ≡ 2 * count =
-    sum-add (2 * N) _ _ ∙ sum-same (2 * N) _ (λ b. one (within a e b)) (λ b m. parted (within a e b) (central c b)) ∙ in-range a e (2 * N) ∙ i in
-    let shared : sumTo (2 * N) (λ b. one (within a e b && central c b)) ≡ min e (N + 6) - max a (N - 6) =
-    sum-same (2 * N) _ (λ b. one (within (max a (N - 6)) (min e (N + 6)) b))
-    (λ b m. let q : within a e b && central c b ≡ within (max a (N - 6)) (min e (N + 6)) b = rw (lowered N 6 (N + 6) b) (overlap a e (N - 6) (N + 6) b) in ap one q)
+    let both-ways : sumTo (2 * N) (λ b. indicator (within a e b && not (central c b))) + sumTo (2 * N) (λ b. indicator (within a e b && central c b)) ≡ 2 * count =
+    sum-add (2 * N) _ _ ∙ sum-same (2 * N) _ (λ b. indicator (within a e b)) (λ b m. parted (within a e b) (central c b)) ∙ in-range a e (2 * N) ∙ i in
+    let shared : sumTo (2 * N) (λ b. indicator (within a e b && central c b)) ≡ min e (N + 6) - max a (N - 6) =
+    sum-same (2 * N) _ (λ b. indicator (within (max a (N - 6)) (min e (N + 6)) b))
+    (λ b m. let q : within a e b && central c b ≡ within (max a (N - 6)) (min e (N + 6)) b = rw (lowered N 6 (N + 6) b) (overlap a e (N - 6) (N + 6) b) in ap indicator q)
     ∙ in-range (max a (N - 6)) (min e (N + 6)) (2 * N) ∙ ap (λ (x : ℕ). x - max a (N - 6)) j in
     away _ _ _ (rw (← shared) both-ways)
 halves-are c first count false l =
     let N = c .blocks in
     let z : min (2 * N) (2 * (first + count)) - 2 * first ≡ 2 * count - 0 = omega arith in
-    sum-same (2 * N) _ (λ b. one (within (2 * first) (2 * (first + count)) b)) (λ b m. ap one (and-true (within (2 * first) (2 * (first + count)) b)))
+    sum-same (2 * N) _ (λ b. indicator (within (2 * first) (2 * (first + count)) b)) (λ b m. ap indicator (and-true (within (2 * first) (2 * (first + count)) b)))
     ∙ in-range (2 * first) (2 * (first + count)) (2 * N) ∙ z
 
 -- the centre's twelve
-pub twelve : (c : Cell) → 6 ≤ c .blocks → sumTo (2 * c .blocks) (λ b. one (central c b)) ≡ 12
+pub twelve : (c : Cell) → 6 ≤ c .blocks → sumTo (2 * c .blocks) (λ b. indicator (central c b)) ≡ 12
 twelve c l =
     let N = c .blocks in
     let z : min (2 * N) (N + 6) - (N - 6) ≡ 12 = omega arith in
-    sum-same (2 * N) _ _ (λ b m. ap one (lowered N 6 (N + 6) b)) ∙ in-range (N - 6) (N + 6) (2 * N) ∙ z
+    sum-same (2 * N) _ _ (λ b m. ap indicator (lowered N 6 (N + 6) b)) ∙ in-range (N - 6) (N + 6) (2 * N) ∙ z
 
 pub halves-most : (c : Cell) (first count : ℕ) (t : Bool) → halves c first count t ≤ 2 * count
 unfolding halves

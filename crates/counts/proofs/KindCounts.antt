@@ -16,12 +16,12 @@ use Rattle.base.proofs.Computed.{allBelow, below-at}
 use Rattle.plan.specs.Lists.{Among}
 use Rattle.plan.specs.Fields.{mappingUnits, portCounts}
 use Rattle.plan.specs.Check.{checkOf}
-use Rattle.plan.specs.Rows.{usersOf}
+use Rattle.plan.specs.CommandLists.{usersOf}
 use Rattle.plan.specs.declared.Plan.{Plan}
 use Rattle.plan.specs.declared.Checked.the-variants.{Plan as accepted}
 use Rattle.plan.proofs.Listed.{and-right}
 use Rattle.plan.proofs.Valid.{valid}
-use Rattle.base.specs.Choice.{if_then_else_, one}
+use Rattle.base.specs.Choice.{if_then_else_, indicator}
 use Rattle.plan.specs.declared.Cell.{Cell}
 use Rattle.plan.specs.declared.Frame.{Frame}
 use Rattle.layout.specs.Rules.{slotLength, inSlot, crsSymbol, crsShift, standsAt, crsOf, crs, crsBelow, crsOfFour, crsAny}
@@ -44,7 +44,7 @@ use Rattle.counts.proofs.FixedCounts.{open-row, pcfich-count, phich-cou
 
 -- ---- CRS: one of six subcarriers for each port in each of its symbols
 abbrev hit : Bool → ℕ → Bool
-hit g x = eqb (six (λ r. one (g && eqb r x)) 0) (one g)
+hit g x = eqb (six (λ r. indicator (g && eqb r x)) 0) (indicator g)
 
 one-of-six : T (allBelow (λ x. everyWay 1 (λ g. hit g x)) 6)
 one-of-six = tt
@@ -55,23 +55,23 @@ regroup a b d = agreed _ _ (by-table 3 (λ a b d. agree (a && (b && d)) (a && b 
 abbrev sends : Cell → ℕ → ℕ → Bool
 sends c q s = ltb q (c .ports) && crsSymbol c q s
 
-crs-row : (c : Cell) (q s : ℕ) → sumTo (carriers c) (λ k. one (crs c q s k)) ≡ one (sends c q s) * (2 * c .blocks)
+crs-row : (c : Cell) (q s : ℕ) → sumTo (carriers c) (λ k. indicator (crs c q s k)) ≡ indicator (sends c q s) * (2 * c .blocks)
 unfolding crs crsOf standsAt
 crs-row c q s =
     let N = c .blocks in
     let z : carriers c ≡ 6 * (2 * N) = omega arith in
     let x = (crsShift c q s + c .identity) % 6 in
     rw z
-    (by-six (2 * N) _ (λ b r. one (sends c q s && eqb r x))
+    (by-six (2 * N) _ (λ b r. indicator (sends c q s && eqb r x))
     (λ b r k m l e.
     let y : k % 6 ≡ r = omega arith in
-    rw y (ap one (regroup (ltb q (c .ports)) (crsSymbol c q s) (eqb r x))))
-    ∙ sum-const (2 * N) (one (sends c q s)) _
+    rw y (ap indicator (regroup (ltb q (c .ports)) (crsSymbol c q s) (eqb r x))))
+    ∙ sum-const (2 * N) (indicator (sends c q s)) _
     (λ b m. eqb→eq _ _ (by-table 1 (λ g. hit g x) (below-at (λ x. everyWay 1 (λ g. hit g x)) 6 one-of-six x (omega arith)) (sends c q s)))
-    ∙ mul-comm (2 * N) (one (sends c q s)))
+    ∙ mul-comm (2 * N) (indicator (sends c q s)))
 
 -- how many symbols a port uses
-port-symbols : (c : Cell) (q : ℕ) → sumTo (symbols c) (λ s. one (sends c q s)) ≡ one (ltb q (c .ports)) * (if ltb q 2 then 4 else 2)
+port-symbols : (c : Cell) (q : ℕ) → sumTo (symbols c) (λ s. indicator (sends c q s)) ≡ indicator (ltb q (c .ports)) * (if ltb q 2 then 4 else 2)
 unfolding slotLength sumTo crsSymbol inSlot
 port-symbols c q =
     by-test (ltb q (c .ports))
@@ -81,47 +81,47 @@ port-symbols c q =
     (λ x. rw x (sum-none (symbols c) _ (λ s l. refl) ∙ sym (zero-mul (if ltb q 2 then 4 else 2))))
 
 -- ---- the centre and what the marks use of it
-used-62 : (c : Cell) → 6 ≤ c .blocks → sumTo (carriers c) (λ k. one (used c k)) ≡ 62
+used-62 : (c : Cell) → 6 ≤ c .blocks → sumTo (carriers c) (λ k. indicator (used c k)) ≡ 62
 unfolding middle
 used-62 c l =
     let N = c .blocks in
     let z : min (12 * N) (6 * N + 31) - (6 * N - 31) ≡ 62 = omega arith in
-    sum-same (12 * N) _ (λ k. one (within (6 * N - 31) (6 * N + 31) k)) (λ k m. ap one (lowered (6 * N) 31 (6 * N + 31) k)) ∙ in-range (6 * N - 31) (6 * N + 31) (12 * N) ∙ z
+    sum-same (12 * N) _ (λ k. indicator (within (6 * N - 31) (6 * N + 31) k)) (λ k m. ap indicator (lowered (6 * N) 31 (6 * N + 31) k)) ∙ in-range (6 * N - 31) (6 * N + 31) (12 * N) ∙ z
 
-centre-72 : (c : Cell) → 6 ≤ c .blocks → sumTo (carriers c) (λ k. one (centre c k)) ≡ 72
+centre-72 : (c : Cell) → 6 ≤ c .blocks → sumTo (carriers c) (λ k. indicator (centre c k)) ≡ 72
 unfolding middle
 centre-72 c l =
     let N = c .blocks in
     let z : min (12 * N) (6 * N + 36) - (6 * N - 36) ≡ 72 = omega arith in
-    sum-same (12 * N) _ (λ k. one (within (6 * N - 36) (6 * N + 36) k)) (λ k m. ap one (lowered (6 * N) 36 (6 * N + 36) k)) ∙ in-range (6 * N - 36) (6 * N + 36) (12 * N) ∙ z
+    sum-same (12 * N) _ (λ k. indicator (within (6 * N - 36) (6 * N + 36) k)) (λ k m. ap indicator (lowered (6 * N) 36 (6 * N + 36) k)) ∙ in-range (6 * N - 36) (6 * N + 36) (12 * N) ∙ z
 
 both-tests : (c : Cell) (k : ℕ) → centre c k && used c k ≡ used c k
 both-tests c k = same-test _ _ (λ h. and-right (centre c k) (used c k) h) (λ h. both (used-centre c k h) h)
 
-edges-10 : (c : Cell) → 6 ≤ c .blocks → sumTo (carriers c) (λ k. one (centre c k && not (used c k))) ≡ 10
+edges-10 : (c : Cell) → 6 ≤ c .blocks → sumTo (carriers c) (λ k. indicator (centre c k && not (used c k))) ≡ 10
 edges-10 c l =
     let W = carriers c in
-    let z : sumTo W (λ k. one (centre c k && not (used c k))) + sumTo W (λ k. one (centre c k && used c k)) ≡ 72 =
-    sum-add W _ _ ∙ sum-same W _ (λ k. one (centre c k)) (λ k m. parted (centre c k) (used c k)) ∙ centre-72 c l in
-    let y : sumTo W (λ k. one (centre c k && used c k)) ≡ 62 = sum-same W _ (λ k. one (used c k)) (λ k m. ap one (both-tests c k)) ∙ used-62 c l in
+    let z : sumTo W (λ k. indicator (centre c k && not (used c k))) + sumTo W (λ k. indicator (centre c k && used c k)) ≡ 72 =
+    sum-add W _ _ ∙ sum-same W _ (λ k. indicator (centre c k)) (λ k m. parted (centre c k) (used c k)) ∙ centre-72 c l in
+    let y : sumTo W (λ k. indicator (centre c k && used c k)) ≡ 62 = sum-same W _ (λ k. indicator (used c k)) (λ k m. ap indicator (both-tests c k)) ∙ used-62 c l in
     omega arith
 
 -- a mark in one symbol
-mark-rows : (c : Cell) (t : ℕ → Bool) (m : Bool) → 6 ≤ c .blocks → sumTo (symbols c) (λ s. one (t s)) ≡ one m
-    → sumTo (symbols c) (λ s. sumTo (carriers c) (λ k. one (t s && used c k))) ≡ one m * 62
+mark-rows : (c : Cell) (t : ℕ → Bool) (m : Bool) → 6 ≤ c .blocks → sumTo (symbols c) (λ s. indicator (t s)) ≡ indicator m
+    → sumTo (symbols c) (λ s. sumTo (carriers c) (λ k. indicator (t s && used c k))) ≡ indicator m * 62
 mark-rows c t m l e =
-    sum-same (symbols c) _ (λ s. one (t s) * 62)
+    sum-same (symbols c) _ (λ s. indicator (t s) * 62)
     (λ s i. by-test (t s) (λ x. rw x (used-62 c l)) (λ x. rw x (sum-none (carriers c) _ (λ k j. refl))))
-    ∙ sum-times (symbols c) 62 (λ s. one (t s)) ∙ ap (λ (x : ℕ). x * 62) e
+    ∙ sum-times (symbols c) 62 (λ s. indicator (t s)) ∙ ap (λ (x : ℕ). x * 62) e
 
 -- in one symbol of a slot's last two
-mark-once : (c : Cell) (d : ℕ) (m : Bool) → (d ≡ 1) ⊎ (d ≡ 2) → sumTo (symbols c) (λ s. one (m && eqb (s + d) (slotLength c))) ≡ one m
+mark-once : (c : Cell) (d : ℕ) (m : Bool) → (d ≡ 1) ⊎ (d ≡ 2) → sumTo (symbols c) (λ s. indicator (m && eqb (s + d) (slotLength c))) ≡ indicator m
 unfolding slotLength sumTo
 mark-once c d true (inl h) = by-test (eqb (c .prefix) 1) (λ x. rw (h, x) refl) (λ x. rw (h, x) refl)
 mark-once c d true (inr h) = by-test (eqb (c .prefix) 1) (λ x. rw (h, x) refl) (λ x. rw (h, x) refl)
 mark-once c d false h = sum-none (symbols c) _ (λ s l. refl)
 
-times-62 : (m : Bool) → one m * 62 ≡ (if m then 62 else 0)
+times-62 : (m : Bool) → indicator m * 62 ≡ (if m then 62 else 0)
 times-62 true = refl
 times-62 false = refl
 
@@ -129,7 +129,7 @@ times-62 false = refl
 any-four : (a b d e p q r t : Bool) → a && p || b && q || d && r || e && t ≡ true → p || q || r || t ≡ true
 any-four a b d e p q r t h = follows _ _ (by-table 8 (λ a b d e p q r t. implies (a && p || b && q || d && r || e && t) (p || q || r || t)) tt a b d e p q r t) h
 
-three-parts : (g a b : Bool) → (a ≡ true → b ≡ true) → one (g && b && not a) + one (g && not b) ≡ one (g && not a)
+three-parts : (g a b : Bool) → (a ≡ true → b ≡ true) → indicator (g && b && not a) + indicator (g && not b) ≡ indicator (g && not a)
 three-parts false a b h = refl
 three-parts true true true h = refl
 three-parts true true false h = clash (h refl) refl
@@ -154,12 +154,12 @@ module _ (c : Cell) (f : Frame) (wide : 6 ≤ c .blocks) (ports : Among (c .port
     unfolding crsBelow
     skipped k h = any-four (ltb 0 (c .ports)) (ltb 1 (c .ports)) (ltb 2 (c .ports)) (ltb 3 (c .ports)) (crsOf c 0 s k) (crsOf c 1 s k) (crsOf c 2 s k) (crsOf c 3 s k) h
 
-    holes-row : sumTo (carriers c) (λ k. one (centre c k && crsOfFour c s k && not (crsAny c s k))) ≡ each (c .ports) s - each 4 s
+    holes-row : sumTo (carriers c) (λ k. indicator (centre c k && crsOfFour c s k && not (crsAny c s k))) ≡ each (c .ports) s - each 4 s
     holes-row =
         away _ _ _
-        (ap (λ (x : ℕ). sumTo (carriers c) (λ k. one (centre c k && crsOfFour c s k && not (crsAny c s k))) + x) (sym (open-row c 4 s wide))
+        (ap (λ (x : ℕ). sumTo (carriers c) (λ k. indicator (centre c k && crsOfFour c s k && not (crsAny c s k))) + x) (sym (open-row c 4 s wide))
         ∙ sum-add (carriers c) _ _
-        ∙ sum-same (carriers c) _ (λ k. one (centre c k && not (crsAny c s k))) (λ k m. three-parts (centre c k) (crsAny c s k) (crsOfFour c s k) (skipped k))
+        ∙ sum-same (carriers c) _ (λ k. indicator (centre c k && not (crsAny c s k))) (λ k m. three-parts (centre c k) (crsAny c s k) (crsOfFour c s k) (skipped k))
         ∙ open-row c (c .ports) s wide)
 
     before : marks s ≡ true → area s ≡ false
@@ -173,12 +173,12 @@ module _ (c : Cell) (f : Frame) (wide : 6 ≤ c .blocks) (ports : Among (c .port
             (λ x. let z : s + 1 ≡ slotLength c = eqb-true _ _ x in omega arith)
             (λ x. let z : s + 2 ≡ slotLength c = eqb-true _ _ (rw x at e) in omega arith)
 
-    held-row : sumTo (carriers c) (λ k. one (held c f s k)) ≡ heldPart s
+    held-row : sumTo (carriers c) (λ k. indicator (held c f s k)) ≡ heldPart s
     unfolding held inSyncArea heldBySync heldByPbch inPbchArea
     held-row =
         by-test (marks s)
         (λ x. rw (x, before x)
-        (sum-same (carriers c) _ (λ k. one (centre c k && not (used c k))) (λ k m. ap one (or-false (centre c k && not (used c k)))) ∙ edges-10 c wide))
+        (sum-same (carriers c) _ (λ k. indicator (centre c k && not (used c k))) (λ k m. ap indicator (or-false (centre c k && not (used c k)))) ∙ edges-10 c wide))
         (λ x. by-test (area s)
         (λ y. rw (x, y) (holes-row ∙ sym (zero-add (each (c .ports) s - each 4 s))))
         (λ y. rw (x, y) (sum-none (carriers c) _ (λ k m. refl))))
@@ -243,11 +243,11 @@ module _ (w : List ℕ) (p : Plan) where
     wide : 6 ≤ N
     wide = let z = big N (valid w p e .cell .blocks) in omega arith
 
-    port-count : (q : ℕ) → countOf w p (Crs q) ≡ one (ltb q (p .cell .ports)) * (if ltb q 2 then 4 else 2) * (2 * N)
+    port-count : (q : ℕ) → countOf w p (Crs q) ≡ indicator (ltb q (p .cell .ports)) * (if ltb q 2 then 4 else 2) * (2 * N)
     unfolding countOf owns fixedRule
     port-count q =
-        sum-same (symbols (p .cell)) _ (λ s. one (sends (p .cell) q s) * (2 * N)) (λ s l. crs-row (p .cell) q s)
-        ∙ sum-times (symbols (p .cell)) (2 * N) (λ s. one (sends (p .cell) q s))
+        sum-same (symbols (p .cell)) _ (λ s. indicator (sends (p .cell) q s) * (2 * N)) (λ s l. crs-row (p .cell) q s)
+        ∙ sum-times (symbols (p .cell)) (2 * N) (λ s. indicator (sends (p .cell) q s))
         ∙ ap (λ (x : ℕ). x * (2 * N)) (port-symbols (p .cell) q)
 
     pub crs-kind : kindCount w p 0 ≡ crsElements (p .cell)

@@ -7,7 +7,7 @@ use native.Mathlib.Omega.{arith}
 use lib.Dec.{T, ltb, eqb, eqb→eq}
 use Rattle.base.proofs.Tests.{by-test}
 use Rattle.base.proofs.Computed.{allBelow, below-at}
-use Rattle.base.specs.Choice.{one}
+use Rattle.base.specs.Choice.{indicator}
 use Rattle.plan.specs.declared.Cell.{Cell}
 use Rattle.layout.specs.Rules.{crsSymbol, crsBelow}
 use Rattle.layout.proofs.Pilot.{crsFirst, hits, not-both, first-pair, second-pair, no-pair}
@@ -18,11 +18,11 @@ use Rattle.counts.proofs.Sums.{six}
 
 -- ---- by symbol
 module _ (c : Cell) (P s : ℕ) where
-  pub signals-first : crsSymbol c 0 s ≡ true → one (ltb 0 P) + one (ltb 1 P) ≡ signals c P s
+  pub signals-first : crsSymbol c 0 s ≡ true → indicator (ltb 0 P) + indicator (ltb 1 P) ≡ signals c P s
   unfolding signals sumTo crsSymbol
   signals-first e = rw (e, rw e at (not-both c s)) (simp (and-true, and-false) (omega arith))
 
-  pub signals-second : crsSymbol c 2 s ≡ true → one (ltb 2 P) + one (ltb 3 P) ≡ signals c P s
+  pub signals-second : crsSymbol c 2 s ≡ true → indicator (ltb 2 P) + indicator (ltb 3 P) ≡ signals c P s
   unfolding signals sumTo crsSymbol
   signals-second e = rw (e, rw (e, and-true) at (not-both c s)) (simp (and-true, and-false) (omega arith))
 
@@ -37,7 +37,7 @@ pub record Refs (c : Cell) (P s : ℕ) : Type 0 where
   pub v : Bool
   pub small : x < 6
   pub held : (k : ℕ) → crsBelow c P s k ≡ hits u v x (k % 6)
-  pub sum : one u + one v ≡ signals c P s
+  pub sum : indicator u + indicator v ≡ signals c P s
 
 pub refs : (c : Cell) (P s : ℕ) → Refs c P s
 refs c P s =
@@ -64,12 +64,12 @@ refs c P s =
 -- ---- half blocks: those of six subcarriers that no reference signal has
 abbrev left-over : Bool → Bool → Bool → ℕ → Bool
 left-over g u v x =
-    eqb (six (λ r. one (g && not (hits u v x r))) 0) (one g * (6 - (one u + one v)))
+    eqb (six (λ r. indicator (g && not (hits u v x r))) 0) (indicator g * (6 - (indicator u + indicator v)))
 
 computed : T (allBelow (λ x. everyWay 3 (λ g u v. left-over g u v x)) 6)
 computed = tt
 
-pub half-left : (g u v : Bool) {x : ℕ} → x < 6 → six (λ r. one (g && not (hits u v x r))) 0 ≡ one g * (6 - (one u + one v))
+pub half-left : (g u v : Bool) {x : ℕ} → x < 6 → six (λ r. indicator (g && not (hits u v x r))) 0 ≡ indicator g * (6 - (indicator u + indicator v))
 half-left g u v {x} h =
     eqb→eq _ _ (by-table 3 (λ g u v. left-over g u v x) (below-at (λ x. everyWay 3 (λ g u v. left-over g u v x)) 6 computed x h) g u v)
 
@@ -82,18 +82,18 @@ signals-pair c P s two =
     (λ d. second two (signals-second c P s d))
     (λ d. inl (sym (signals-other c P s e d))))
   where
-    outer : (P ≡ 2) ⊎ (P ≡ 4) → one (ltb 0 P) + one (ltb 1 P) ≡ 2
+    outer : (P ≡ 2) ⊎ (P ≡ 4) → indicator (ltb 0 P) + indicator (ltb 1 P) ≡ 2
     outer (inl e) = rw e refl
     outer (inr e) = rw e refl
 
-    second : (P ≡ 2) ⊎ (P ≡ 4) → one (ltb 2 P) + one (ltb 3 P) ≡ signals c P s → (signals c P s ≡ 0) ⊎ (signals c P s ≡ 2)
+    second : (P ≡ 2) ⊎ (P ≡ 4) → indicator (ltb 2 P) + indicator (ltb 3 P) ≡ signals c P s → (signals c P s ≡ 0) ⊎ (signals c P s ≡ 2)
     second (inl e) z = inl (sym z ∙ rw e refl)
     second (inr e) z = inr (sym z ∙ rw e refl)
 
 pub signals-few : (c : Cell) (P s : ℕ) → signals c P s ≤ 2
 signals-few c P s = let q = refs c P s in rw (← q .sum) (most (q .u) (q .v))
   where
-    most : (u v : Bool) → one u + one v ≤ 2
+    most : (u v : Bool) → indicator u + indicator v ≤ 2
     most true true = omega arith
     most true false = omega arith
     most false true = omega arith

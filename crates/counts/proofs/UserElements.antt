@@ -14,7 +14,7 @@ use Rattle.base.specs.Tables.{table}
 use Rattle.plan.specs.Lists.{noneOf}
 use Rattle.plan.specs.Fields.{mappingUnits}
 use Rattle.plan.specs.Check.{checkOf}
-use Rattle.plan.specs.Rows.{usersOf}
+use Rattle.plan.specs.CommandLists.{usersOf}
 use Rattle.plan.specs.Valid.{UserIn, Valid}
 use Rattle.plan.specs.declared.Cell.{Cell}
 use Rattle.plan.specs.declared.Frame.{Frame}
@@ -23,7 +23,7 @@ use Rattle.plan.specs.declared.Plan.{Plan}
 use Rattle.plan.specs.declared.Checked.the-variants.{Plan as accepted}
 use Rattle.plan.proofs.Listed.{every-at}
 use Rattle.plan.proofs.Valid.{valid}
-use Rattle.base.specs.Choice.{one}
+use Rattle.base.specs.Choice.{indicator}
 use Rattle.layout.specs.Rules.{slotLength, slotOf, crs, crsBelow, crsOfFour, crsAny, marked, centre, used, pss, sss, inSyncArea, heldBySync, inPbchArea, pbch, heldByPbch, held}
 use Rattle.layout.specs.Rules.{inGroup, pcfich, phich}
 use Rattle.layout.specs.Owners.{symbols, carriers, controlSymbols, fixedRule, above, free, userHas, userRule, blocksHave, owns}
@@ -120,7 +120,7 @@ module _ (w : List ℕ) (p : Plan) (ok : Valid w p) (d : User) (i : ℕ) (li : i
   has b = within (2 * u .first) (2 * (u .first + u .count)) b && not (taken (p .cell) (p .frame) s && central (p .cell) b)
 
   abbrev Row : ℕ
-  Row = sumTo (carriers (p .cell)) (λ k. one (userRule w p i s k))
+  Row = sumTo (carriers (p .cell)) (λ k. indicator (userRule w p i s k))
 
   early-row : s < controlSymbols (p .cell) (p .frame) → Row ≡ rowElements (p .cell) (p .frame) (u .first) (u .count) s
   unfolding userRule rowElements
@@ -130,14 +130,14 @@ module _ (w : List ℕ) (p : Plan) (ok : Valid w p) (d : User) (i : ℕ) (li : i
 
   module _ (late : controlSymbols (p .cell) (p .frame) ≤ s) (some : 0 < s) where
     at-place : (q : Refs (p .cell) (p .cell .ports) s) (h r k : ℕ) → r < 6 → k ≡ 6 * h + r
-        → one (userRule w p i s k) ≡ one (has h && not (hits (q .u) (q .v) (q .x) r))
+        → indicator (userRule w p i s k) ≡ indicator (has h && not (hits (q .u) (q .v) (q .x) r))
     unfolding userRule
     at-place q h r k l z =
         let x : k / 6 ≡ h = omega arith in
         let y : k % 6 ≡ r = omega arith in
         let n = slotOf (p .cell) s in
         rw (has-at d (usersOf w p) i n k li, blocks-half u n k, le-leb (controlSymbols (p .cell) (p .frame)) s late, late-free (p .cell) (p .frame) s k some, q .held k, centre-half (p .cell) k, x, y)
-        (ap one (shuffle (within (2 * u .first) (2 * (u .first + u .count)) h) (hits (q .u) (q .v) (q .x) r) (taken (p .cell) (p .frame) s && central (p .cell) h)))
+        (ap indicator (shuffle (within (2 * u .first) (2 * (u .first + u .count)) h) (hits (q .u) (q .v) (q .x) r) (taken (p .cell) (p .frame) s && central (p .cell) h)))
 
     late-row : Row ≡ rowElements (p .cell) (p .frame) (u .first) (u .count) s
     unfolding rowElements
@@ -146,9 +146,9 @@ module _ (w : List ℕ) (p : Plan) (ok : Valid w p) (d : User) (i : ℕ) (li : i
         let z : 12 * N ≡ 6 * (2 * N) = omega arith in
         let v = 6 - signals (p .cell) (p .cell .ports) s in
         rw (z, le-ltb s (controlSymbols (p .cell) (p .frame)) late)
-        (by-six (2 * N) _ (λ h r. one (has h && not (hits (q .u) (q .v) (q .x) r))) (λ h r k m l e. at-place q h r k l e)
-        ∙ sum-same (2 * N) _ (λ h. one (has h) * v) (λ h m. half-left (has h) (q .u) (q .v) (q .small) ∙ ap (λ (x : ℕ). one (has h) * (6 - x)) (q .sum))
-        ∙ sum-times (2 * N) v (λ h. one (has h))
+        (by-six (2 * N) _ (λ h r. indicator (has h && not (hits (q .u) (q .v) (q .x) r))) (λ h r k m l e. at-place q h r k l e)
+        ∙ sum-same (2 * N) _ (λ h. indicator (has h) * v) (λ h m. half-left (has h) (q .u) (q .v) (q .small) ∙ ap (λ (x : ℕ). indicator (has h) * (6 - x)) (q .sum))
+        ∙ sum-times (2 * N) v (λ h. indicator (has h))
         ∙ ap (λ (x : ℕ). x * v) (halves-are (p .cell) (u .first) (u .count) (taken (p .cell) (p .frame) s) (every-at (UserIn (p .cell)) d (usersOf w p) i (ok .users) li .last))
         ∙ mul-comm _ _)
 

@@ -13,7 +13,7 @@ use borrow.Author.Tests.{ne-eqb, le-ltb, lt-leb, leb-true, ltb-true}
 use Rattle.base.proofs.Tests.{by-test, is-false, on-if}
 use Rattle.plan.specs.Lists.{Every, Apart}
 use Rattle.plan.specs.Check.{checkOf}
-use Rattle.plan.specs.Rows.{usersOf}
+use Rattle.plan.specs.CommandLists.{usersOf}
 use Rattle.plan.specs.Valid.{UserIn, Disjoint}
 use Rattle.plan.specs.declared.Cell.{Cell}
 use Rattle.plan.specs.declared.Frame.{Frame}
@@ -22,7 +22,7 @@ use Rattle.plan.specs.declared.Plan.{Plan}
 use Rattle.plan.specs.declared.Checked.the-variants.{Plan as accepted}
 use Rattle.plan.proofs.Listed.{and-left, and-right, every-at}
 use Rattle.plan.proofs.Valid.{valid}
-use Rattle.base.specs.Choice.{one}
+use Rattle.base.specs.Choice.{indicator}
 use Rattle.layout.specs.Rules.{slotLength}
 use Rattle.layout.specs.Owners.{symbols, carriers, controlSymbols}
 use Rattle.layout.proofs.Pilot.{slot-length}
@@ -92,7 +92,7 @@ elements-most c f first count = sum-most (symbols c) (12 * count) _ (λ s l. row
 abbrev hasBlock : User → ℕ → Bool
 hasBlock u b = within (u .first) (u .first + u .count) b
 
-none-other : (u : User) (us : List User) (b : ℕ) → hasBlock u b ≡ true → Every (Disjoint u) us → sumOf us (λ v. one (hasBlock v b)) ≡ 0
+none-other : (u : User) (us : List User) (b : ℕ) → hasBlock u b ≡ true → Every (Disjoint u) us → sumOf us (λ v. indicator (hasBlock v b)) ≡ 0
 unfolding sumOf
 none-other u [] b e h = refl
 none-other u (v ∷ us) b e h =
@@ -103,7 +103,7 @@ none-other u (v ∷ us) b e h =
     (leb-true _ _ (and-left (leb (v .first) b) (ltb b (v .first + v .count)) x), ltb-true _ _ (and-right (leb (v .first) b) (ltb b (v .first + v .count)) x))) in
     rw (n, none-other u us b e (h .1)) refl
 
-at-most-one : (us : List User) (b : ℕ) → Apart Disjoint us → sumOf us (λ v. one (hasBlock v b)) ≤ 1
+at-most-one : (us : List User) (b : ℕ) → Apart Disjoint us → sumOf us (λ v. indicator (hasBlock v b)) ≤ 1
 unfolding sumOf
 at-most-one [] b h = omega arith
 at-most-one (u ∷ us) b h =
@@ -111,18 +111,18 @@ at-most-one (u ∷ us) b h =
     (λ e. rw (e, none-other u us b e (h .0)) (omega arith))
     (λ e. rw e (omega (arith, at-most-one us b (h .1))))
 
-counted : (c : Cell) (us : List User) → Every (UserIn c) us → sumOf us (λ u. u .count) ≡ sumOf us (λ u. sumTo (c .blocks) (λ b. one (hasBlock u b)))
+counted : (c : Cell) (us : List User) → Every (UserIn c) us → sumOf us (λ u. u .count) ≡ sumOf us (λ u. sumTo (c .blocks) (λ b. indicator (hasBlock u b)))
 unfolding sumOf
 counted c [] h = refl
 counted c (u ∷ us) h =
     let z : u .count ≡ min (c .blocks) (u .first + u .count) - u .first = omega (arith, h .0 .last) in
-    let x : u .count ≡ sumTo (c .blocks) (λ b. one (hasBlock u b)) = z ∙ sym (in-range (u .first) (u .first + u .count) (c .blocks)) in
+    let x : u .count ≡ sumTo (c .blocks) (λ b. indicator (hasBlock u b)) = z ∙ sym (in-range (u .first) (u .first + u .count) (c .blocks)) in
     rw (← x, ← counted c us (h .1)) refl
 
 blocks-within : (c : Cell) (us : List User) → Every (UserIn c) us → Apart Disjoint us → sumOf us (λ u. u .count) ≤ c .blocks
 blocks-within c us h a =
-    let m = sum-most (c .blocks) 1 (λ b. sumOf us (λ u. one (hasBlock u b))) (λ b l. at-most-one us b a) in
-    omega (arith, counted c us h, swap (c .blocks) us (λ u b. one (hasBlock u b)), mul-one (c .blocks))
+    let m = sum-most (c .blocks) 1 (λ b. sumOf us (λ u. indicator (hasBlock u b))) (λ b l. at-most-one us b a) in
+    omega (arith, counted c us h, swap (c .blocks) us (λ u b. indicator (hasBlock u b)), mul-one (c .blocks))
 
 by-blocks : (c : Cell) (f : Frame) (us : List User) → sumOf us (λ u. userElements c f (u .first) (u .count)) ≤ symbols c * (12 * sumOf us (λ u. u .count))
 unfolding sumOf

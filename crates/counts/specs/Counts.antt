@@ -4,7 +4,7 @@ use Prim.Native.Nat.{ℕ}
 use mathlib.Core.List.{List}
 use lib.Dec.{eqb}
 use Rattle.plan.specs.declared.Plan.{Plan}
-use Rattle.base.specs.Choice.{if_then_else_, one}
+use Rattle.base.specs.Choice.{if_then_else_, indicator}
 use Rattle.layout.specs.Owners.{symbols, carriers, owns, owners}
 use Rattle.layout.specs.declared.Mark.the-variants.{Primary, Secondary}
 use Rattle.layout.specs.declared.Owner.{Owner}
@@ -14,7 +14,7 @@ use Rattle.counts.specs.Sums.{sumTo, sumOf}
 -- document 01's element count, a user's G: "its element count (a user's G) is the number of its places, ports not multiplied": the
 -- places (s, k), s < S and k < 12N, at which the owner's rule holds
 unfoldable pub countOf : List ℕ → Plan → Owner → ℕ
-countOf w p o = sumTo (symbols (p .cell)) (λ s. sumTo (carriers (p .cell)) (λ k. one (owns w p o s k)))
+countOf w p o = sumTo (symbols (p .cell)) (λ s. sumTo (carriers (p .cell)) (λ k. indicator (owns w p o s k)))
 
 -- the lines of document 01's gridcount: 0 CRS, 1 PSS, 2 SSS, 3 PBCH, 4 PCFICH, 5 PHICH, 6 PDSCH, 7 held, 8 idle
 abbrev pub kindOf : Owner → ℕ

@@ -4,19 +4,19 @@ use Prim.Native.Nat.{ℕ, _+_, _-_, _*_, min, max}
 use mathlib.Core.Bool.{Bool, _&&_, _||_}
 use mathlib.Core.List.{List}
 use lib.Dec.{leb, ltb, eqb}
-use Rattle.plan.specs.Rows.{usersOf}
+use Rattle.plan.specs.CommandLists.{usersOf}
 use Rattle.plan.specs.declared.Cell.{Cell}
 use Rattle.plan.specs.declared.Frame.{Frame}
 use Rattle.plan.specs.declared.User.{User}
 use Rattle.plan.specs.declared.Plan.{Plan}
-use Rattle.base.specs.Choice.{if_then_else_, one}
+use Rattle.base.specs.Choice.{if_then_else_, indicator}
 use Rattle.layout.specs.Rules.{slotLength, crsSymbol, marked}
 use Rattle.layout.specs.Owners.{symbols, controlSymbols}
 use Rattle.counts.specs.Sums.{sumTo, sumOf}
 
 -- how many of six subcarriers in a row have reference signals: each of the ports 0 to 3 below P that uses symbol s has one of the six
 unfoldable pub signals : Cell → ℕ → ℕ → ℕ
-signals c P s = sumTo 4 (λ q. one (ltb q P && crsSymbol c q s))
+signals c P s = sumTo 4 (λ q. indicator (ltb q P && crsSymbol c q s))
 
 -- the centre 72 subcarriers of symbol s are not the users': "f = 0, 5, slot 2f .. PSS in the last symbol .. SSS one symbol earlier";
 -- "PBCH, f = 0, slot 1, l = 0..3"

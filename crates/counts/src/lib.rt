@@ -4,7 +4,7 @@ ghost use mathlib.Core.Path.{_≡_};
 ghost use Prim.Native.Nat.{ℕ, _+_, _-_, _*_, _≤_, _<_, min, max};
 ghost use mathlib.Core.Bool.{Bool};
 ghost use lib.Dec.{ltb};
-ghost use Rattle.base.specs.Choice.{one};
+ghost use Rattle.base.specs.Choice.{indicator};
 ghost use Rattle.plan.specs.Check.{checkOf};
 ghost use Rattle.plan.specs.declared.Checked.the-variants.{Plan as accepted};
 ghost use Rattle.counts.specs.Users.{signals, taken as takenAt, centreHalves};
@@ -45,7 +45,7 @@ fn larger(a: usize, b: usize) -> usize
 // The places of six subcarriers that the reference signals of the ports p and p + 1, of n, leave.
 fn pair_places(n: usize, p: usize) -> usize
     requires { ⌜ p < 4 ⌝ }
-    ensures { λ r. ⌜ r ≡ 6 - (one (ltb p n) + one (ltb (p + 1) n)) ⌝ }
+    ensures { λ r. ⌜ r ≡ 6 - (indicator (ltb p n) + indicator (ltb (p + 1) n)) ⌝ }
 {
     6 - (base::one_below(p, n) + base::one_below(p + 1, n))
 }
@@ -137,7 +137,7 @@ fn slot_shape(cell: Cell, frame: Frame, start: usize) -> SlotShape
     }
 }
 
-// Both slots: made once for all users of a plan, since it takes a turn for each symbol.
+// Both slots: made once for all users of a plan, since it takes a step for each symbol.
 pub fn shape_of(cell: Cell, frame: Frame) -> Shape
     ensures { λ r. ⌜ r ≡ shapeOf cell frame ⌝ }
 {

@@ -8,8 +8,8 @@ use lib.IntN.{ℤ, pos, natAbs}
 use mir.Syntax.{w8}
 use mir.Val.{toZ, ofZ}
 use mir.Facts.{toZ-ofZ}
-use Rattle.base.specs.Signs.{turn}
-use Rattle.base.proofs.Fits.{fits-abs, turn-abs}
+use Rattle.base.specs.Signs.{flip}
+use Rattle.base.proofs.Fits.{fits-abs, flip-abs}
 use Rattle.base.proofs.Pairs.{pair-of}
 use Rattle.gold.specs.Sequence.{c, binary}
 use Rattle.gold.proofs.Binary.{binary-two}
@@ -26,7 +26,7 @@ value-at prefix C N n l m few =
     let w : binary (c init) k 2 ≡ c init k * 2 + c init (k + 1) = binary-two (c init) k in
     let first : binary (c init) k 2 / 2 ≡ c init (2 * (m + 110 - N)) = upper (c init k) (c init (k + 1)) (binary (c init) k 2) w (c-lt init (k + 1)) ∙ ap (c init) a in
     let second : binary (c init) k 2 % 2 ≡ c init (2 * (m + 110 - N) + 1) = lower (c init k) (c init (k + 1)) (binary (c init) k 2) w (c-lt init (k + 1)) ∙ ap (λ (i : ℕ). c init (i + 1)) a in
-    pair-of (ap (λ (b : ℕ). turn b (pos 1)) first) (ap (λ (b : ℕ). turn b (pos 1)) second)
+    pair-of (ap (λ (b : ℕ). flip b (pos 1)) first) (ap (λ (b : ℕ). flip b (pos 1)) second)
   where
     upper : (a b w : ℕ) → w ≡ a * 2 + b → b < 2 → w / 2 ≡ a
     upper a b w e less = omega arith
@@ -53,5 +53,5 @@ prefix-extended zero h = absurd (h refl)
 prefix-extended (suc p) h = refl
 
 -- a level of a value is held as an i8
-pub held : {z : ℤ} (b : ℕ) → z ≡ turn b (pos 1) → toZ w8 (ofZ w8 z) ≡ turn b (pos 1)
-held {z} b e = toZ-ofZ (fits-abs w8 z (omega (arith, ap natAbs e, turn-abs b (pos 1)))) ∙ e
+pub held : {z : ℤ} (b : ℕ) → z ≡ flip b (pos 1) → toZ w8 (ofZ w8 z) ≡ flip b (pos 1)
+held {z} b e = toZ-ofZ (fits-abs w8 z (omega (arith, ap natAbs e, flip-abs b (pos 1)))) ∙ e

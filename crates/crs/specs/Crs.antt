@@ -2,7 +2,7 @@
 use Prim.Native.Nat.{ℕ, zero, suc, _+_, _-_, _*_, _/_, _%_}
 use lib.IntN.{pos}
 use Rattle.base.specs.declared.Pair.{Pair}
-use Rattle.base.specs.Signs.{turn}
+use Rattle.base.specs.Signs.{flip}
 use Rattle.gold.specs.Sequence.{c}
 
 -- N_CP: 1 with the normal prefix (0 in the plan), 0 with the extended one
@@ -23,8 +23,8 @@ unfoldable pub crsValue : ℕ → ℕ → ℕ → ℕ → ℕ → ℕ → Pair
 crsValue prefix C N n l m =
     let init = crsInit prefix C n l in
     let k = 2 * inWidest N m in
-    record { re = turn (c init k) (pos 1); im = turn (c init (k + 1)) (pos 1) }
+    record { re = flip (c init k) (pos 1); im = flip (c init (k + 1)) (pos 1) }
 
 -- the value of two bits as a word, the first more significant
 unfoldable pub wordValue : ℕ → Pair
-wordValue word = record { re = turn (word / 2) (pos 1); im = turn (word % 2) (pos 1) }
+wordValue word = record { re = flip (word / 2) (pos 1); im = flip (word % 2) (pos 1) }

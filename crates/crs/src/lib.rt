@@ -2,7 +2,7 @@
 ghost use mathlib.Core.Path.{_≡_};
 ghost use Prim.Native.Nat.{ℕ, _<_, _≤_};
 ghost use Rattle.crs.specs.Crs.{normalPrefix, crsInit, wordValue};
-ghost use Rattle.base.specs.Signs.{turn};
+ghost use Rattle.base.specs.Signs.{flip};
 ghost use lib.IntN.{pos};
 use base::Pair;
 
@@ -22,7 +22,7 @@ pub fn c_init(prefix: u8, cell: u16, slot: u8, l: u8) -> u32
 }
 
 fn level(bit: u32) -> i8
-    ensures { λ r. ⌜ r ≡ turn bit (pos 1) ⌝ }
+    ensures { λ r. ⌜ r ≡ flip bit (pos 1) ⌝ }
 {
     if bit == 0 { 1 } else { -1 }
 }

@@ -15,7 +15,7 @@ use Rattle.walk.specs.declared.PortOffsets.{PortOffsets}
 use Rattle.walk.specs.declared.Run.{Run}
 use Rattle.walk.specs.Runs.{PairsAt}
 use Rattle.walk.specs.Addresses.{OffsetsAt, PairsIn, RunPairs, RunIn}
-use Rattle.walk.proofs.Addresses.{own-turn, own-inside, other-inside, own-most, run-total, laid-pairs}
+use Rattle.walk.proofs.Addresses.{own-pair, own-inside, other-inside, own-most, run-total, laid-pairs}
 use Rattle.data_compare.specs.declared.Form.{Form}
 use Rattle.data_compare.specs.declared.Sums.{Sums}
 use Rattle.data_compare.specs.declared.Starts.{Starts}
@@ -33,37 +33,37 @@ starting P T j start step {r} p =
     let n : j + 2 * (0 + 1) ≡ j + 2 = omega arith in
     record {
       first = record { at-pair = rw o (omega (arith, p .own)); next-pair = rw n (omega (arith, p .next)) };
-      across = λ turn. omega (arith, p .across turn);
+      across = λ portPair. omega (arith, p .across portPair);
     }
 
 -- ---- one pair, read as two numbers
 module _
-    (P T turn s gap : ℕ) {g : List ℕ} (many : 2 ≤ P) {a b x y : ℕ} (ia : a ≡ 3 * (ownPort P turn * T + s)) (ib : b ≡ 3 * (otherPort P turn * T + s))
+    (P T portPair s gap : ℕ) {g : List ℕ} (many : 2 ≤ P) {a b x y : ℕ} (ia : a ≡ 3 * (ownPort P portPair * T + s)) (ib : b ≡ 3 * (otherPort P portPair * T + s))
     (rx : TwoRead gap a g x) (ry : TwoRead gap b g y) where
-  own-second : elementIn g (ownPort P turn * T + (s + gap)) ≡ elementFrom (upper x)
-  own-second = let e : ownPort P turn * T + (s + gap) ≡ ownPort P turn * T + s + gap = omega arith in ap (elementIn g) e ∙ rx .second (ownPort P turn * T + s) ia
+  own-second : elementIn g (ownPort P portPair * T + (s + gap)) ≡ elementFrom (upper x)
+  own-second = let e : ownPort P portPair * T + (s + gap) ≡ ownPort P portPair * T + s + gap = omega arith in ap (elementIn g) e ∙ rx .second (ownPort P portPair * T + s) ia
 
-  other-second : elementIn g (otherPort P turn * T + (s + gap)) ≡ elementFrom (upper y)
-  other-second = let e : otherPort P turn * T + (s + gap) ≡ otherPort P turn * T + s + gap = omega arith in ap (elementIn g) e ∙ ry .second (otherPort P turn * T + s) ib
+  other-second : elementIn g (otherPort P portPair * T + (s + gap)) ≡ elementFrom (upper y)
+  other-second = let e : otherPort P portPair * T + (s + gap) ≡ otherPort P portPair * T + s + gap = omega arith in ap (elementIn g) e ∙ ry .second (otherPort P portPair * T + s) ib
 
-  pub pair-right : {q u : ℕ} → Both q u x → Partners u x y → PairRight P T turn q u g s (s + gap)
+  pub pair-right : {q u : ℕ} → Both q u x → Partners u x y → PairRight P T portPair q u g s (s + gap)
   pair-right (a, b) (c, d) =
-      let e = rx .first (ownPort P turn * T + s) ia in
-      let h = ry .first (otherPort P turn * T + s) ib in (
+      let e = rx .first (ownPort P portPair * T + s) ia in
+      let h = ry .first (otherPort P portPair * T + s) ib in (
         record { own = rw e a; other = λ n. rw (h, own-second) c },
         record { own = rw own-second b; other = λ n. rw (other-second, e) d },
       )
 
-  pub right-pair : {q u : ℕ} → PairRight P T turn q u g s (s + gap) → Both q u x × Partners u x y
+  pub right-pair : {q u : ℕ} → PairRight P T portPair q u g s (s + gap) → Both q u x × Partners u x y
   right-pair (v, w) =
-      let e = rx .first (ownPort P turn * T + s) ia in
-      let h = ry .first (otherPort P turn * T + s) ib in
+      let e = rx .first (ownPort P portPair * T + s) ia in
+      let h = ry .first (otherPort P portPair * T + s) ib in
       let n : P ≡ 1 → ⊥ = λ z. omega arith in
       ((rw e at (v .own), rw own-second at (w .own)), (rw (h, own-second) at (v .other n), rw (other-second, e) at (w .other n)))
 
 -- ---- pair after pair
 pub pairs-start : {P T gap j start step m : ℕ} {f : Form} {g : List ℕ} {p : Starts} → Starting P T j start step p → Pairs P T gap j start step m f g noSums (p .at) (p .next) 0
-pairs-start b = record { few = omega arith; turn = b .first; done = record { seen = λ q u o. tells-none } }
+pairs-start b = record { few = omega arith; portPair = b .first; done = record { seen = λ q u o. tells-none } }
 
 module _
     {P T gap j start step m : ℕ} {f : Form} {g : List ℕ} (h : PairsIn P T gap j start step m g) {p : Starts} (b : Starting P T j start step p)
@@ -72,13 +72,13 @@ module _
   tn = (j + 2 * i) / 2 % 2
 
   other-at : at + p .across ≡ 3 * (otherPort P tn * T + (start + step * i))
-  other-at = omega (arith, d .turn .at-pair, b .across tn)
+  other-at = omega (arith, d .portPair .at-pair, b .across tn)
 
   pub pair-fits : (at + 3 * gap + 2 < length g) × (at + p .across + 3 * gap + 2 < length g) × (at ≤ 100800)
   pair-fits = (
-    omega (arith, d .turn .at-pair, own-inside h tn i l),
+    omega (arith, d .portPair .at-pair, own-inside h tn i l),
     omega (arith, other-at, other-inside h tn i l),
-    omega (arith, d .turn .at-pair, own-most h tn, h .inside i l, h .room .fits),
+    omega (arith, d .portPair .at-pair, own-most h tn, h .inside i l, h .room .fits),
   )
 
   pub pairs-on :
@@ -86,16 +86,16 @@ module _
       → Pairs P T gap j start step m f g s′ next (at + 6 * step) (i + 1)
   pairs-on {x} {y} {s′} rx ry es =
       let two : step * (i + 1 + 1) ≡ step * i + 2 * step = ap (λ (k : ℕ). step * k) (one-one i) ∙ mul-add step i 2 ∙ (omega arith) in
-      let same : ownPort P ((j + 2 * (i + 1 + 1)) / 2 % 2) * T ≡ ownPort P tn * T = ap (λ (k : ℕ). k * T) (own-turn P ((j + 2 * (i + 1 + 1)) / 2 % 2) tn (omega arith)) in
+      let same : ownPort P ((j + 2 * (i + 1 + 1)) / 2 % 2) * T ≡ ownPort P tn * T = ap (λ (k : ℕ). k * T) (own-pair P ((j + 2 * (i + 1 + 1)) / 2 % 2) tn (omega arith)) in
       record {
         few = omega arith;
-        turn = record { at-pair = d .turn .next-pair; next-pair = omega (arith, d .turn .at-pair, same, two) };
+        portPair = record { at-pair = d .portPair .next-pair; next-pair = omega (arith, d .portPair .at-pair, same, two) };
         done = rw es
             (record {
               seen = λ q u o.
                   tells-more
-                  (λ e. let z = sums-right o x y (rx .few) (ry .few) s e in (z .0, pair-right P T tn (start + step * i) gap (h .many) (d .turn .at-pair) other-at rx ry (z .1) (z .2)))
-                  (λ e a. let z = right-pair P T tn (start + step * i) gap (h .many) (d .turn .at-pair) other-at rx ry a in
+                  (λ e. let z = sums-right o x y (rx .few) (ry .few) s e in (z .0, pair-right P T tn (start + step * i) gap (h .many) (d .portPair .at-pair) other-at rx ry (z .1) (z .2)))
+                  (λ e a. let z = right-pair P T tn (start + step * i) gap (h .many) (d .portPair .at-pair) other-at rx ry a in
                   sums-none o x y (rx .few) (ry .few) s e (z .0) (z .1))
                   (d .done .seen q u o);
             });

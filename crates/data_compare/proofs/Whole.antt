@@ -36,7 +36,7 @@ use Rattle.compare.proofs.Comparing.{nonzero-one}
 use Rattle.compare.proofs.PortWeights.{port-weight}
 use Rattle.areas.specs.declared.Area.{Area}
 use Rattle.areas.specs.Areas.{areaAt, areaCount, areaIndex, areaSends}
-use Rattle.walk.proofs.Addresses.{own-turn}
+use Rattle.walk.proofs.Addresses.{own-pair}
 use Rattle.data_compare.specs.declared.Form.{Form}
 use Rattle.data_compare.specs.Symbols.{areaPlace, areaSymbol, areaSent, AreaHolds, AreaCompared, CompareIn}
 use Rattle.data_compare.specs.Tests.{FormOf}
@@ -70,10 +70,10 @@ module _ (a : Area) (q unit : ℕ) (g : List ℕ) (j : ℕ) where
   -- a symbol, by the own port of index j
   symbol-is : (k : ℕ) → k / 2 % 2 ≡ j / 2 % 2 → areaSymbol a g k ≡ pairOf (elementIn g (ownPort portsIn (j / 2 % 2) * placesIn + nth (areaAt a) placesIn k))
   unfolding areaSymbol areaPlace
-  symbol-is k e = ap (λ (x : ℕ). pairOf (elementIn g (x * placesIn + nth (areaAt a) placesIn k))) (own-turn portsIn (k / 2) (j / 2 % 2) (omega arith))
+  symbol-is k e = ap (λ (x : ℕ). pairOf (elementIn g (x * placesIn + nth (areaAt a) placesIn k))) (own-pair portsIn (k / 2) (j / 2 % 2) (omega arith))
 
-  same-turn : partnerIndex j / 2 % 2 ≡ j / 2 % 2
-  same-turn = omega arith
+  same-pair : partnerIndex j / 2 % 2 ≡ j / 2 % 2
+  same-pair = omega arith
 
   right-fits : Right (areaAt a) portsIn placesIn q unitIn g j → Fits a q unit g j
   unfolding areaPlace
@@ -82,7 +82,7 @@ module _ (a : Area) (q unit : ℕ) (g : List ℕ) (j : ℕ) where
       record {
         known = ap (isSymbol q) e ∙ r .own .known;
         own = r .own .levels ∙ ap (elementOf unitIn) (sym e);
-        other = λ n. r .other n ∙ ap (λ (d : Pair). elementOf unitIn (partnerOf (j % 2) d)) (sym (symbol-is (partnerIndex j) same-turn));
+        other = λ n. r .other n ∙ ap (λ (d : Pair). elementOf unitIn (partnerOf (j % 2) d)) (sym (symbol-is (partnerIndex j) same-pair));
       }
 
   fits-right : Fits a q unit g j → Right (areaAt a) portsIn placesIn q unitIn g j
@@ -91,7 +91,7 @@ module _ (a : Area) (q unit : ℕ) (g : List ℕ) (j : ℕ) where
       let e = symbol-is j refl in
       record {
         own = record { levels = r .own ∙ ap (elementOf unitIn) e; known = ap (isSymbol q) (sym e) ∙ r .known };
-        other = λ n. r .other n ∙ ap (λ (d : Pair). elementOf unitIn (partnerOf (j % 2) d)) (symbol-is (partnerIndex j) same-turn);
+        other = λ n. r .other n ∙ ap (λ (d : Pair). elementOf unitIn (partnerOf (j % 2) d)) (symbol-is (partnerIndex j) same-pair);
       }
 
 -- ---- bytes that are not 0
@@ -123,32 +123,32 @@ count-is own zero = refl
 count-is own (suc n) = ap (λ (x : ℕ). x + cond (own n) 1 0) (count-is own n)
 
 -- ---- the two ports with a term
-sends-own : (P turn : ℕ) → sends P turn (ownPort P turn) ≡ true
+sends-own : (P portPair : ℕ) → sends P portPair (ownPort P portPair) ≡ true
 unfolding sends
-sends-own P turn = rw (eq-eqb (ownPort P turn) (ownPort P turn) refl) refl
+sends-own P portPair = rw (eq-eqb (ownPort P portPair) (ownPort P portPair) refl) refl
 
-sends-other : (P turn : ℕ) → sends P turn (otherPort P turn) ≡ true
+sends-other : (P portPair : ℕ) → sends P portPair (otherPort P portPair) ≡ true
 unfolding sends
-sends-other P turn = rw (eq-eqb (otherPort P turn) (otherPort P turn) refl) (or-true (eqb (otherPort P turn) (ownPort P turn)))
+sends-other P portPair = rw (eq-eqb (otherPort P portPair) (otherPort P portPair) refl) (or-true (eqb (otherPort P portPair) (ownPort P portPair)))
 
-sends-which : (P turn p : ℕ) → sends P turn p ≡ true → (p ≡ ownPort P turn) ⊎ ((p ≡ ownPort P turn → ⊥) × (p ≡ otherPort P turn))
+sends-which : (P portPair p : ℕ) → sends P portPair p ≡ true → (p ≡ ownPort P portPair) ⊎ ((p ≡ ownPort P portPair → ⊥) × (p ≡ otherPort P portPair))
 unfolding sends
-sends-which P turn p h = pick (ℕ-discrete p (ownPort P turn))
+sends-which P portPair p h = pick (ℕ-discrete p (ownPort P portPair))
   where
     second : (x y : Bool) → x ≡ false → x || y ≡ true → y ≡ true
     second x y e d = sym (ap (λ (z : Bool). z || y) e) ∙ d
 
-    pick : Dec (p ≡ ownPort P turn) → (p ≡ ownPort P turn) ⊎ ((p ≡ ownPort P turn → ⊥) × (p ≡ otherPort P turn))
+    pick : Dec (p ≡ ownPort P portPair) → (p ≡ ownPort P portPair) ⊎ ((p ≡ ownPort P portPair → ⊥) × (p ≡ otherPort P portPair))
     pick (yes e) = inl e
-    pick (no n) = inr (n, eqb-true p (otherPort P turn) (second (eqb p (ownPort P turn)) (eqb p (otherPort P turn)) (ne-eqb p (ownPort P turn) n) h))
+    pick (no n) = inr (n, eqb-true p (otherPort P portPair) (second (eqb p (ownPort P portPair)) (eqb p (otherPort P portPair)) (ne-eqb p (ownPort P portPair) n) h))
 
-other-same : (P turn : ℕ) → P ≡ 1 → otherPort P turn ≡ ownPort P turn
+other-same : (P portPair : ℕ) → P ≡ 1 → otherPort P portPair ≡ ownPort P portPair
 unfolding otherPort
-other-same P turn e = omega arith
+other-same P portPair e = omega arith
 
-other-apart : (P turn : ℕ) → 1 ≤ P → (P ≡ 1 → ⊥) → otherPort P turn ≡ ownPort P turn → ⊥
+other-apart : (P portPair : ℕ) → 1 ≤ P → (P ≡ 1 → ⊥) → otherPort P portPair ≡ ownPort P portPair → ⊥
 unfolding otherPort
-other-apart P turn l n e = omega arith
+other-apart P portPair l n e = omega arith
 
 -- ---- an element that the area sends
 module _ (a : Area) (some-places : 0 < placesOf (a .cell)) where

@@ -21,26 +21,26 @@ use Rattle.data_compare.specs.declared.Starts.{Starts}
 use Rattle.data_compare.specs.Tests.{Tells, Own, FormOf, toldBy}
 
 -- place s of a pair, whose other place is t: its symbol on the own port, and on the other one the partner of the other symbol
-pub record PlaceRight (P T turn odd q u : ℕ) (g : List ℕ) (s t : ℕ) : Type 0 where
-  pub own : Own q u (elementIn g (ownPort P turn * T + s))
+pub record PlaceRight (P T portPair odd q u : ℕ) (g : List ℕ) (s t : ℕ) : Type 0 where
+  pub own : Own q u (elementIn g (ownPort P portPair * T + s))
   pub other :
-      (P ≡ 1 → ⊥) → elementIn g (otherPort P turn * T + s) ≡ elementOf u (partnerOf odd (pairOf (elementIn g (ownPort P turn * T + t))))
+      (P ≡ 1 → ⊥) → elementIn g (otherPort P portPair * T + s) ≡ elementOf u (partnerOf odd (pairOf (elementIn g (ownPort P portPair * T + t))))
 
 abbrev pub PairRight : ℕ → ℕ → ℕ → ℕ → ℕ → List ℕ → ℕ → ℕ → Type 0
-PairRight P T turn q u g s t = PlaceRight P T turn 0 q u g s t × PlaceRight P T turn 1 q u g t s
+PairRight P T portPair q u g s t = PlaceRight P T portPair 0 q u g s t × PlaceRight P T portPair 1 q u g t s
 
 -- what stands at index j of a channel that has the places `own`
 abbrev pub Right : (ℕ → Bool) → ℕ → ℕ → ℕ → ℕ → List ℕ → ℕ → Type 0
 Right own P T q u g j = PlaceRight P T (j / 2 % 2) (j % 2) q u g (nth own T j) (nth own T (partnerIndex j))
 
 -- ---- pairs. Where pair i of a loop stands, and the next one, in bytes
-pub record TurnAt (P T j start step at next i : ℕ) : Type 0 where
+pub record PortPairAt (P T j start step at next i : ℕ) : Type 0 where
   pub at-pair : at ≡ 3 * (ownPort P ((j + 2 * i) / 2 % 2) * T + (start + step * i))
   pub next-pair : next ≡ 3 * (ownPort P ((j + 2 * (i + 1)) / 2 % 2) * T + (start + step * (i + 1)))
 
 pub record Starting (P T j start step : ℕ) (r : Starts) : Type 0 where
-  pub first : TurnAt P T j start step (r .at) (r .next) 0
-  pub across : (turn : ℕ) → 3 * (ownPort P turn * T) + r .across ≡ 3 * (otherPort P turn * T)
+  pub first : PortPairAt P T j start step (r .at) (r .next) 0
+  pub across : (portPair : ℕ) → 3 * (ownPort P portPair * T) + r .across ≡ 3 * (otherPort P portPair * T)
 
 -- pair i of them
 abbrev pub PairAt : ℕ → ℕ → ℕ → ℕ → ℕ → ℕ → ℕ → ℕ → List ℕ → ℕ → Type 0
@@ -51,7 +51,7 @@ pub record PairsSeen (P T gap j start step m : ℕ) (f : Form) (g : List ℕ) (r
 
 pub record Pairs (P T gap j start step m : ℕ) (f : Form) (g : List ℕ) (s : Sums) (at next i : ℕ) : Type 0 where
   pub few : i ≤ m
-  pub turn : TurnAt P T j start step at next i
+  pub portPair : PortPairAt P T j start step at next i
   pub done : PairsSeen P T gap j start step i f g (toldBy f s)
 
 -- ---- places e 0, e 1, .. on one port; side by side, one or two at a time, and between holes

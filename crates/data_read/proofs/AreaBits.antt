@@ -11,7 +11,7 @@ use Rattle.modulation.specs.Demapping.{demapOf}
 use Rattle.codeword.proofs.Laws.{output-of, outputs-start}
 use Rattle.precoding.specs.Places.{ownPort}
 use Rattle.plan.specs.Check.{checkOf}
-use Rattle.plan.specs.Rows.{usersOf, nthUser}
+use Rattle.plan.specs.CommandLists.{usersOf, nthUser}
 use Rattle.plan.specs.declared.User.{User}
 use Rattle.plan.specs.declared.Plan.{Plan}
 use Rattle.plan.specs.declared.Checked.the-variants.{Plan as accepted}

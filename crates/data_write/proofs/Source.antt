@@ -11,7 +11,7 @@ use Rattle.base.specs.Bits.{bitAt}
 use Rattle.base.specs.Counts.{cnt}
 use Rattle.gold.specs.declared.Registers.{Registers}
 use Rattle.gold.proofs.Window.{Holds}
-use Rattle.modulation.specs.Symbols.{Order, symbolOf}
+use Rattle.modulation.specs.Symbols.{Order, modulationSymbol}
 use Rattle.codeword.specs.Streams.{outputs, symbolsOf}
 use Rattle.codeword.specs.Bits48.{scrambledBits, Standing, Groups, CanTake}
 use Rattle.codeword.proofs.Laws.{scrambled-lt}
@@ -36,14 +36,14 @@ can-take {u} {n} {q} {j} {bits} {st} {r} g o few s =
 
 -- the words w and x have the symbols of the indices j and j + 1
 pub record SymbolsAt (q : ℕ) (bits : List ℕ) (r : Registers) (j w x : ℕ) : Type 0 where
-  pub first : symbolOf q w ≡ symbolsOf q bits r j
-  pub second : symbolOf q x ≡ symbolsOf q bits r (j + 1)
+  pub first : modulationSymbol q w ≡ symbolsOf q bits r j
+  pub second : modulationSymbol q x ≡ symbolsOf q bits r (j + 1)
 
 module _ (bits : List ℕ) (r : Registers) (q j : ℕ) where
   two : (i : ℕ) → scrambledBits bits r i < 2
   two = scrambled-lt (bitAt bits) (outputs r)
 
-  at-index : (k z : ℕ) → k ≡ j → Holds (scrambledBits bits r) (q * k) q z → symbolOf q z ≡ symbolsOf q bits r j
+  at-index : (k z : ℕ) → k ≡ j → Holds (scrambledBits bits r) (q * k) q z → modulationSymbol q z ≡ symbolsOf q bits r j
   at-index k z e h = symbol-is bits r q k z h ∙ ap (symbolsOf q bits r) e
 
   two-held : (z : ℕ) → Holds (scrambledBits bits r) (q * j) (q * 2) z → SymbolsAt q bits r j (z / 2 ^ q) z
@@ -107,8 +107,8 @@ module _ (own : ℕ → Bool) (P T unit : ℕ) (d : ℕ → Pair) where
   module _ {q : ℕ} {t : List ℕ} (s : TableOf P q unit t) (o : Order q) where
     -- THE LAW OF THE SOURCE for a pair of places
     pub pair-has :
-        (j : ℕ) → j % 2 ≡ 0 → 2 ≤ P → (p gap w x : ℕ) → p + gap < T → cnt own p ≡ j → cnt own (p + gap) ≡ j + 1 → symbolOf q w ≡ d j
-        → symbolOf q x ≡ d (j + 1)
+        (j : ℕ) → j % 2 ≡ 0 → 2 ≤ P → (p gap w x : ℕ) → p + gap < T → cnt own p ≡ j → cnt own (p + gap) ≡ j + 1 → modulationSymbol q w ≡ d j
+        → modulationSymbol q x ≡ d (j + 1)
         → PairHas P T (sentElement own P T unit d) j p gap (jointOf (entryOf t w) (entryOf t x)) (partnersOf (entryOf t w) (entryOf t x))
     pair-has j even many p gap w x l a b ew ex =
         let v = pair-values (s .table) (o .1) (omega arith) (s .small) P (j / 2 % 2) unit refl many w x refl refl refl refl in
@@ -130,7 +130,7 @@ module _ (own : ℕ → Bool) (P T unit : ℕ) (d : ℕ → Pair) where
 
 -- and on one port
 module _ (own : ℕ → Bool) (T unit : ℕ) (d : ℕ → Pair) {q : ℕ} {t : List ℕ} (s : TableOf 1 q unit t) (o : Order q) where
-  pub single-has : (x j w : ℕ) → x < T → cnt own x ≡ j → symbolOf q w ≡ d j → sentElement own 1 T unit d x ≡ elementFrom (entryOf t w)
+  pub single-has : (x j w : ℕ) → x < T → cnt own x ≡ j → modulationSymbol q w ≡ d j → sentElement own 1 T unit d x ≡ elementFrom (entryOf t w)
   unfolding ownPort
   single-has x j w l e ew =
       let z : x ≡ 0 * T + x = omega (arith, zero-mul T) in
@@ -143,9 +143,9 @@ module _ (own : ℕ → Bool) (T unit : ℕ) (d : ℕ → Pair) {q : ℕ} {t : L
   small w = number-few (s .table) (o .1) (omega arith) (s .small) w
 
   pub double-first :
-      (x j w z : ℕ) → x < T → cnt own x ≡ j → symbolOf q w ≡ d j → sentElement own 1 T unit d x ≡ elementFrom (jointOf (entryOf t w) (entryOf t z))
+      (x j w z : ℕ) → x < T → cnt own x ≡ j → modulationSymbol q w ≡ d j → sentElement own 1 T unit d x ≡ elementFrom (jointOf (entryOf t w) (entryOf t z))
   double-first x j w z l e ew = single-has x j w l e ew ∙ sym (joint-low (small w) (small z))
 
   pub double-second :
-      (x j w z : ℕ) → x < T → cnt own x ≡ j → symbolOf q z ≡ d j → sentElement own 1 T unit d x ≡ elementFrom (upper (jointOf (entryOf t w) (entryOf t z)))
+      (x j w z : ℕ) → x < T → cnt own x ≡ j → modulationSymbol q z ≡ d j → sentElement own 1 T unit d x ≡ elementFrom (upper (jointOf (entryOf t w) (entryOf t z)))
   double-second x j w z l e ez = single-has x j z l e ez ∙ sym (joint-high (small w) (small z))

@@ -1,4 +1,4 @@
--- What a turn of the loops of `mirrored` and `skip` keeps. Assumes nothing.
+-- What a step of the loops of `mirrored` and `skip` keeps. Assumes nothing.
 use mathlib.Core.Path.{_≡_, ap, sym, _∙_}
 use Prim.Native.Nat.{ℕ, _+_, _-_, _*_, _/_, _%_, _^_, _<_, _≤_}
 use native.Mathlib.Omega.{arith}

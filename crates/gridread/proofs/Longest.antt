@@ -12,7 +12,7 @@ use Rattle.plan.specs.Lists.{Every}
 use Rattle.plan.specs.Fields.{orders}
 use Rattle.plan.specs.Answers.{Answer, given}
 use Rattle.plan.specs.Check.{checkOf}
-use Rattle.plan.specs.Rows.{usersOf}
+use Rattle.plan.specs.CommandLists.{usersOf}
 use Rattle.plan.specs.Valid.{UserIn}
 use Rattle.plan.specs.declared.Cell.{Cell}
 use Rattle.plan.specs.declared.Frame.{Frame}

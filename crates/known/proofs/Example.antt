@@ -12,7 +12,7 @@ use Rattle.plan.specs.Fields.{cellOk, frameOk, mappingUnits, phichGroups, seque
 use Rattle.plan.specs.Check.{begin, hiFault, userFault, fault, stateAfter, planOf, run, checkOf}
 use Rattle.plan.specs.declared.Plan.{Plan}
 use Rattle.plan.specs.declared.Checked.the-variants.{Plan as accepted}
-use Rattle.plan.specs.Rows.{row, usersOf}
+use Rattle.plan.specs.CommandLists.{commandsFrom, usersOf}
 use Rattle.base.specs.Bits.{bitAt}
 use Rattle.base.specs.Choice.{if_then_else_}
 use Rattle.layout.specs.Rules.{slotLength, inSlot, crsSymbol, marked}
@@ -43,7 +43,7 @@ broadcast-plan = refl
 
 -- ---- the counts
 example-users : usersElements example examplePlan ≡ 2250
-unfolding usersOf row userOf sizeOf entryIn entries allElements sumOf userElements rowElements signals taken halves sumTo slotLength inSlot crsSymbol marked controlSymbols
+unfolding usersOf commandsFrom userOf sizeOf entryIn entries allElements sumOf userElements rowElements signals taken halves sumTo slotLength inSlot crsSymbol marked controlSymbols
 example-users = refl
 
 example-counts : table kinds (kindCount example examplePlan) ≡ exampleCounts
@@ -52,7 +52,7 @@ example-counts =
     sym (nine example examplePlan example-plan 120 0 0 1 2250 0 refl refl refl refl (sym (users-kind example examplePlan example-plan ∙ example-users)) refl 2520 refl)
 
 broadcast-users : usersElements broadcast broadcastPlan ≡ 1830
-unfolding usersOf row userOf sizeOf entryIn entries allElements sumOf userElements rowElements signals taken halves sumTo slotLength inSlot crsSymbol marked controlSymbols
+unfolding usersOf commandsFrom userOf sizeOf entryIn entries allElements sumOf userElements rowElements signals taken halves sumTo slotLength inSlot crsSymbol marked controlSymbols
 broadcast-users = refl
 
 broadcast-counts : table kinds (kindCount broadcast broadcastPlan) ≡ broadcastCounts
@@ -62,7 +62,7 @@ broadcast-counts =
 
 -- ---- the payload: PBCH has no bit, the HI one, the user 2 × 2250
 example-sections : sections example examplePlan ≡ 0 ∷ 1 ∷ 4500 ∷ []
-unfolding heads pbchBitCount computedSections computedBitCount usersOf row userOf sizeOf entryIn entries userElements rowElements signals taken
+unfolding heads pbchBitCount computedSections computedBitCount usersOf commandsFrom userOf sizeOf entryIn entries userElements rowElements signals taken
     halves sumTo slotLength inSlot crsSymbol marked controlSymbols
 example-sections = sections-computed example examplePlan example-plan
 
@@ -72,7 +72,7 @@ example-payload = record { size = rw example-sections refl; spare = rw example-s
 
 -- PBCH has 480 bits, the user 2 × 1830
 broadcast-sections : sections broadcast broadcastPlan ≡ 480 ∷ 0 ∷ 3660 ∷ []
-unfolding heads pbchBitCount computedSections computedBitCount usersOf row userOf sizeOf entryIn entries userElements rowElements signals taken
+unfolding heads pbchBitCount computedSections computedBitCount usersOf commandsFrom userOf sizeOf entryIn entries userElements rowElements signals taken
     halves sumTo slotLength inSlot crsSymbol marked controlSymbols
 broadcast-sections = sections-computed broadcast broadcastPlan broadcast-plan
 

@@ -7,7 +7,7 @@ use native.Mathlib.Nat.{mod-lt, suc-mul, mul-le-mul-right}
 use lib.Dec.{ltb, eqb}
 use borrow.Author.Tests.{ne-eqb, lt-ltb, le-ltb, eqb-true, eqb-false, ltb-true, ltb-false}
 use Rattle.base.proofs.Tests.{by-test}
-use Rattle.base.specs.Choice.{one}
+use Rattle.base.specs.Choice.{indicator}
 use Rattle.base.specs.Counts.{cnt}
 use Rattle.base.proofs.Counts.{cnt-none, cnt-more, cnt-lt}
 use Rattle.plan.specs.declared.Cell.{Cell}
@@ -20,7 +20,7 @@ unfoldable pub below : Cell → ℕ → ℕ
 below c t = belowOf (formatGroup c 0) (formatGroup c 1) (formatGroup c 2) (formatGroup c 3) t
 
 -- below t + 1: below t, or t itself
-pub up : (q t : ℕ) → one (ltb q (suc t)) ≡ one (ltb q t) + one (eqb t q)
+pub up : (q t : ℕ) → indicator (ltb q (suc t)) ≡ indicator (ltb q t) + indicator (eqb t q)
 up q t =
     by-test (ltb q t)
     (λ e. let z : q < t = ltb-true q t e in rw (e, lt-ltb q (suc t) (omega arith), ne-eqb t q (λ w. omega arith)) refl)
@@ -30,7 +30,7 @@ up q t =
 
 -- at most one of four tests holds
 abbrev Sum : Bool → Bool → Bool → Bool → Type 0
-Sum a b c d = one a + one b + one c + one d ≡ one (a || b || c || d)
+Sum a b c d = indicator a + indicator b + indicator c + indicator d ≡ indicator (a || b || c || d)
 
 module _ (t x y z w : ℕ) (xy : (x ≡ y) → ⊥) (xz : (x ≡ z) → ⊥) (xw : (x ≡ w) → ⊥) (yz : (y ≡ z) → ⊥) (yw : (y ≡ w) → ⊥) (zw : (z ≡ w) → ⊥) where
   sums : Sum (eqb t x) (eqb t y) (eqb t z) (eqb t w)
@@ -43,7 +43,7 @@ module _ (t x y z w : ℕ) (xy : (x ≡ y) → ⊥) (xz : (x ≡ z) → ⊥) (xw
       (λ u. let i : t ≡ z = eqb-true t z u in rw (e, d, u, ne-eqb t w (λ q. zw (sym i ∙ q))) refl)
       (λ u. by-test (eqb t w) (λ v. rw (e, d, u, v) refl) (λ v. rw (e, d, u, v) refl))))
 
-one-other : (b : Bool) → cond (not b) 1 0 + one b ≡ 1
+one-other : (b : Bool) → cond (not b) 1 0 + indicator b ≡ 1
 one-other true = refl
 one-other false = refl
 
@@ -70,7 +70,7 @@ module _ (c : Cell) (big : 6 ≤ c .blocks) where
   unfolding below
   below-all = rw (lt-ltb _ _ (format-small 0), lt-ltb _ _ (format-small 1), lt-ltb _ _ (format-small 2), lt-ltb _ _ (format-small 3)) refl
 
-  below-step : (t : ℕ) → below c (suc t) ≡ below c t + one (isFormat c t)
+  below-step : (t : ℕ) → below c (suc t) ≡ below c t + indicator (isFormat c t)
   unfolding below isFormat
   below-step t =
       let q = formatGroup c in
@@ -87,7 +87,7 @@ module _ (c : Cell) (big : 6 ≤ c .blocks) where
       let q = formatGroup c in
       rw (cnt-none (isLeft c), le-ltb (q 0) 0 (omega arith), le-ltb (q 1) 0 (omega arith), le-ltb (q 2) 0 (omega arith), le-ltb (q 3) 0 (omega arith)) refl
 
-  number-step : (t : ℕ) → number c (suc t) + one (isFormat c t) ≡ number c t + 1
+  number-step : (t : ℕ) → number c (suc t) + indicator (isFormat c t) ≡ number c t + 1
   unfolding isLeft
   number-step t = omega (arith, cnt-more (isLeft c) t, one-other (isFormat c t))
 

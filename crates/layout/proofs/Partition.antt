@@ -12,7 +12,7 @@ use Rattle.base.proofs.Tests.{by-test, clash, both, is-false, on-if}
 use Rattle.base.specs.Tables.{table}
 use Rattle.plan.specs.Lists.{noneOf, Every, Apart}
 use Rattle.plan.specs.Fields.{mappingUnits}
-use Rattle.plan.specs.Rows.{usersOf}
+use Rattle.plan.specs.CommandLists.{usersOf}
 use Rattle.plan.specs.Valid.{Has, Disjoint}
 use Rattle.plan.specs.declared.Cell.{Cell}
 use Rattle.plan.specs.declared.Frame.{Frame}

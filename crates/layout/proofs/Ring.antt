@@ -19,14 +19,14 @@ wrap x h u =
     (λ e. inr (ltb-false x h e, once x h (ltb-false x h e) u))
 
 module _ (C h : ℕ) (pos : 0 < h) where
-  turned : (a : ℕ) → (C + a) % h ≡ (C % h + a) % h
-  turned a = sym (mod-add-mod _ _ _)
+  shifted : (a : ℕ) → (C + a) % h ≡ (C % h + a) % h
+  shifted a = sym (mod-add-mod _ _ _)
 
   pub past-of : (a n : ℕ) → a < h → n ≡ (C + a) % h → past C h n ≡ a
   past-of a n l e = go (wrap (C % h + a) h (omega (arith, mod-lt C pos)))
     where
       m : n ≡ (C % h + a) % h
-      m = e ∙ turned a
+      m = e ∙ shifted a
 
       go : ((C % h + a < h) × ((C % h + a) % h ≡ C % h + a)) ⊎ ((h ≤ C % h + a) × ((C % h + a) % h ≡ C % h + a - h)) → past C h n ≡ a
       go (inl x) =
@@ -43,10 +43,10 @@ module _ (C h : ℕ) (pos : 0 < h) where
       go : ((n + (h - C % h) < h) × (past C h n ≡ n + (h - C % h))) ⊎ ((h ≤ n + (h - C % h)) × (past C h n ≡ n + (h - C % h) - h)) → n ≡ (C + past C h n) % h
       go (inl x) =
           let w : C % h + past C h n ≡ n + h = omega (arith, mod-lt C pos) in
-          sym (turned (past C h n) ∙ ap (λ (y : ℕ). y % h) w ∙ once (n + h) h (omega arith) (omega arith) ∙ (let v : n + h - h ≡ n = omega arith in v))
+          sym (shifted (past C h n) ∙ ap (λ (y : ℕ). y % h) w ∙ once (n + h) h (omega arith) (omega arith) ∙ (let v : n + h - h ≡ n = omega arith in v))
       go (inr x) =
           let w : C % h + past C h n ≡ n = omega (arith, mod-lt C pos) in
-          sym (turned (past C h n) ∙ ap (λ (y : ℕ). y % h) w ∙ mod-eq-of-lt l)
+          sym (shifted (past C h n) ∙ ap (λ (y : ℕ). y % h) w ∙ mod-eq-of-lt l)
 
   pub past-small : (n : ℕ) → past C h n < h
   past-small n = mod-lt (n + (h - C % h)) pos

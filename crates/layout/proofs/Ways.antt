@@ -15,14 +15,14 @@ use Rattle.base.proofs.Some.{some-in}
 use Rattle.plan.specs.Lists.{oneOf}
 use Rattle.plan.specs.Commands.{userOf}
 use Rattle.plan.specs.Fields.{mappingUnits}
-use Rattle.plan.specs.Rows.{nextOf, usersFrom, usersOf, row}
+use Rattle.plan.specs.CommandLists.{nextOf, usersFrom, usersOf, commandsFrom}
 use Rattle.plan.specs.declared.Cell.{Cell}
 use Rattle.plan.specs.declared.Frame.{Frame}
 use Rattle.plan.specs.declared.User.{User}
 use Rattle.plan.specs.declared.Plan.{Plan}
 use Rattle.plan.proofs.OneOf.{not-in}
 use Rattle.plan.proofs.Listed.{and-left, and-right}
-use Rattle.plan.proofs.RowLaws.{row-next}
+use Rattle.plan.proofs.CommandLists.{commands-next}
 use Rattle.base.specs.Choice.{if_then_else_}
 use Rattle.base.proofs.Tests.{by-test, same-test}
 use Rattle.layout.specs.Rules.{slotLength, slotOf, inSlot, crsShift, middle, centre, used, marked, inSyncArea, inPbchArea, formatGroup, isFormat, groupsLeft}
@@ -223,16 +223,16 @@ module _ (w : List ℕ) (at k i : ℕ) where
     pub user-found : (m : ℕ) → 0 < m → r ≡ true → (n : ℕ) → UserOf i ≡ userFrom i (usersFrom (drop at w) m) n k
     unfolding userFrom
     user-found zero l t n = absurd (not-suc-le-zero l)
-    user-found (suc m) l t n = rw (row-next userOf w at m, ← eu, ← er n, t) refl
+    user-found (suc m) l t n = rw (commands-next userOf w at m, ← eu, ← er n, t) refl
 
     pub user-passed : (m : ℕ) → 0 < m → r ≡ false → (to : ℕ) → to ≡ nextOf w at → (j : ℕ) → j ≡ i + 1
         → (n : ℕ) → userFrom j (usersFrom (drop to w) (m - 1)) n k ≡ userFrom i (usersFrom (drop at w) m) n k
     unfolding userFrom
     user-passed zero l t to et j ej n = absurd (not-suc-le-zero l)
-    user-passed (suc m) l t to et j ej n = rw (sub-one, ej, row-next userOf w at m, ← eu, ← er n, t, ← et) refl
+    user-passed (suc m) l t to et j ej n = rw (sub-one, ej, commands-next userOf w at m, ← eu, ← er n, t, ← et) refl
 
   pub user-end : (m : ℕ) → m ≡ 0 → (n : ℕ) → Idle ≡ userFrom i (usersFrom (drop at w) m) n k
-  unfolding userFrom row
+  unfolding userFrom commandsFrom
   user-end m e n = rw e refl
 
 pub all-users : (us : List User) (k m n : ℕ) → userFrom (m - m) us n k ≡ userFrom 0 us n k

@@ -5,12 +5,12 @@ use mathlib.Core.Bool.{Bool, true, false, _&&_, _||_}
 use mathlib.Core.List.{List, [], _∷_}
 use lib.Dec.{leb, ltb, eqb}
 use Rattle.plan.specs.Fields.{mappingUnits}
-use Rattle.plan.specs.Rows.{usersOf}
+use Rattle.plan.specs.CommandLists.{usersOf}
 use Rattle.plan.specs.declared.Cell.{Cell}
 use Rattle.plan.specs.declared.Frame.{Frame}
 use Rattle.plan.specs.declared.User.{User}
 use Rattle.plan.specs.declared.Plan.{Plan}
-use Rattle.base.specs.Choice.{if_then_else_, one}
+use Rattle.base.specs.Choice.{if_then_else_, indicator}
 use Rattle.base.specs.Counts.{cnt}
 use Rattle.layout.specs.Rules.{slotLength, slotOf, crsSymbol, crsShift, standsAt, used, inSyncArea, inPbchArea, isFormat, groupsLeft, isLeft, quadNumber}
 use Rattle.layout.specs.Owners.{controlSymbols, blocksHave}
@@ -28,7 +28,7 @@ pilot c s k = if crsSymbol c 0 s then pilotOf c 0 s k else if crsSymbol c 2 s th
 
 -- how many of the groups a, b, c, d stand below t
 abbrev pub belowOf : ℕ → ℕ → ℕ → ℕ → ℕ → ℕ
-belowOf a b c d t = one (ltb a t) + one (ltb b t) + one (ltb c t) + one (ltb d t)
+belowOf a b c d t = indicator (ltb a t) + indicator (ltb b t) + indicator (ltb c t) + indicator (ltb d t)
 
 -- a group left's number: how many groups left stand below it; and whether unit m takes number n
 abbrev pub number : Cell → ℕ → ℕ

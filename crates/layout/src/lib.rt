@@ -5,7 +5,7 @@ ghost use mathlib.Core.Bool.{_&&_};
 ghost use lib.ListN.{drop};
 ghost use lib.Dec.{leb, ltb};
 ghost use Rattle.plan.specs.Check.{checkOf};
-ghost use Rattle.plan.specs.Rows.{usersFrom};
+ghost use Rattle.plan.specs.CommandLists.{usersFrom};
 ghost use Rattle.plan.specs.declared.Checked.the-variants.{Plan as accepted};
 ghost use Rattle.layout.specs.Rules.{slotLength, inSlot, crsSymbol, crsShift, middle, marked, inSyncArea, inPbchArea, formatGroup, groupsLeft};
 ghost use Rattle.layout.specs.Owners.{ownerNumber, symbols as symbolsOf, carriers as carriersOf, gridPlace, controlSymbols, blocksHave, ownerOf};

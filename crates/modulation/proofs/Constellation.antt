@@ -9,7 +9,7 @@ use Rattle.base.specs.declared.Pair.{Pair}
 use Rattle.base.specs.declared.Element.{Element}
 use Rattle.base.specs.Bytes.{byteOf, signedOf, pairOf}
 use Rattle.base.specs.Pairs.{Small}
-use Rattle.modulation.specs.Symbols.{Order, symbolOf}
+use Rattle.modulation.specs.Symbols.{Order, modulationSymbol}
 use Rattle.modulation.specs.Demapping.{levelBits, isLevel, woven, number, Word, answerOf, demapOf}
 use Rattle.modulation.specs.Marks.{isSymbol}
 use Rattle.modulation.proofs.Levels.{level-nonzero}
@@ -39,9 +39,9 @@ demapped q d even = let e : (q + 1) / 2 ≡ q / 2 = omega arith in rw e refl
 answered : (t : Bool) (w : ℕ) → t ≡ true → answerOf t w ≡ Word w
 answered t w e = rw e refl
 
-pub symbol-known : (q w : ℕ) → Order q → isSymbol q (symbolOf q w) ≡ true
+pub symbol-known : (q w : ℕ) → Order q → isSymbol q (modulationSymbol q w) ≡ true
 symbol-known q w o =
-    let d = symbolOf q w in
+    let d = modulationSymbol q w in
     is-true (isSymbol q d) (answer-word (isSymbol q d) _ (w % 2 ^ q) (sym (demapped q d (o .0)) ∙ demap-symbol q w) .0)
 
 byte-nonzero : (z : ℤ) → natAbs z ≤ 7 → 0 < natAbs z → byteOf z ≡ 0 → ⊥
@@ -50,7 +50,7 @@ byte-nonzero (negsuc n) l h e = omega arith
 
 -- ---- a symbol that some bits have
 module _ (q : ℕ) (d : Pair) (o : Order q) (known : isSymbol q d ≡ true) where
-  pub word-of : (v : ℕ) × (demapOf q d ≡ Word v) × (v < 2 ^ q) × (symbolOf q v ≡ d)
+  pub word-of : (v : ℕ) × (demapOf q d ≡ Word v) × (v < 2 ^ q) × (modulationSymbol q v ≡ d)
   word-of =
       let v = number 2 (woven (levelBits (q / 2) (d .re)) (levelBits (q / 2) (d .im))) in
       let e : demapOf q d ≡ Word v = demapped q d (o .0) ∙ answered (isSymbol q d) v known in

@@ -7,22 +7,22 @@ use native.Mathlib.Omega.{arith}
 use lib.Dec.{T, eqb, leb, leb→le}
 use lib.Ieee.Fits.{and-l, and-r}
 use lib.IntN.{pos, _-ℤ_}
-use Rattle.base.specs.Signs.{turn}
+use Rattle.base.specs.Signs.{flip}
 use Rattle.base.proofs.Computed.{every}
 use Rattle.modulation.specs.Symbols.{level, units, unitIn, unitOf}
 
 -- (1 - 2 b0, 1 - 2 b1)
-pub qpsk : (a : ℕ) → level (a ∷ []) ≡ turn a (pos 1)
+pub qpsk : (a : ℕ) → level (a ∷ []) ≡ flip a (pos 1)
 unfolding level
 qpsk a = refl
 
 -- (1 - 2 b0)(2 - (1 - 2 b2))
-pub qam16 : (a b : ℕ) → level (a ∷ b ∷ []) ≡ turn a (pos 2 -ℤ turn b (pos 1))
+pub qam16 : (a b : ℕ) → level (a ∷ b ∷ []) ≡ flip a (pos 2 -ℤ flip b (pos 1))
 unfolding level
 qam16 a b = refl
 
 -- (1 - 2 b0)(4 - (1 - 2 b2)(2 - (1 - 2 b4)))
-pub qam64 : (a b c : ℕ) → level (a ∷ b ∷ c ∷ []) ≡ turn a (pos 4 -ℤ turn b (pos 2 -ℤ turn c (pos 1)))
+pub qam64 : (a b c : ℕ) → level (a ∷ b ∷ c ∷ []) ≡ flip a (pos 4 -ℤ flip b (pos 2 -ℤ flip c (pos 1)))
 unfolding level
 qam64 a b c = refl
 

@@ -8,8 +8,8 @@ use borrow.Author.Tests.{le-ltb}
 use lib.Dec.{T}
 use lib.ListN.{length}
 use lib.IntN.{ℤ, pos, negsuc, negℤ, natAbs, _+ℤ_, _-ℤ_, +ℤ-assoc, +ℤ-idl, +ℤ-invr, negℤ-negℤ, negℤ-+ℤ}
-use Rattle.base.specs.Signs.{turn, below}
-use Rattle.base.proofs.Signs.{turn-back, eqZ→eq, eqZ-refl}
+use Rattle.base.specs.Signs.{flip, below}
+use Rattle.base.proofs.Signs.{flip-back, eqZ→eq, eqZ-refl}
 use Rattle.modulation.specs.Symbols.{level}
 use Rattle.modulation.specs.Demapping.{levelBits, isLevel}
 
@@ -32,18 +32,18 @@ room m (pos zero) h = above-of (m + 0) (2 * m) (omega arith) (omega arith)
 room m (pos (suc n)) h = rw (le-ltb m (suc n) (omega arith)) (above-of (m - suc n) (2 * m) (omega arith) (omega arith))
 room m (negsuc n) h = above-of (m + suc n) (2 * m) (omega arith) (omega arith)
 
-turn-small : (b : ℕ) {n : ℕ} {z : ℤ} → Above n z → natAbs (turn b z) < n
-turn-small zero (above h) = h
-turn-small (suc b) (above h) = h
+flip-small : (b : ℕ) {n : ℕ} {z : ℤ} → Above n z → natAbs (flip b z) < n
+flip-small zero (above h) = h
+flip-small (suc b) (above h) = h
 
 pub level-small : (bs : List ℕ) → natAbs (level bs) < 2 ^ length bs
 unfolding level
 level-small [] = omega arith
-level-small (b ∷ bs) = rw pow-succ' (turn-small b (room (2 ^ length bs) (level bs) (level-small bs)))
+level-small (b ∷ bs) = rw pow-succ' (flip-small b (room (2 ^ length bs) (level bs) (level-small bs)))
 
-below-turn : (b : ℕ) {n : ℕ} {z : ℤ} → b ≤ 1 → Above n z → below (turn b z) ≡ b
-below-turn zero h (above k) = refl
-below-turn (suc b) h (above k) = omega arith
+below-flip : (b : ℕ) {n : ℕ} {z : ℤ} → b ≤ 1 → Above n z → below (flip b z) ≡ b
+below-flip zero h (above k) = refl
+below-flip (suc b) h (above k) = omega arith
 
 sub-sub : (a x : ℤ) → a -ℤ (a -ℤ x) ≡ x
 sub-sub a x =
@@ -57,9 +57,9 @@ levels [] ok = refl
 levels (b ∷ bs) ok =
     let m = pos (2 ^ length bs) in
     let z = m -ℤ level bs in
-    let e = below-turn b (ok .0) (room (2 ^ length bs) (level bs) (level-small bs)) in
+    let e = below-flip b (ok .0) (room (2 ^ length bs) (level bs) (level-small bs)) in
     ap₂ (λ (x : ℕ) (xs : List ℕ). x ∷ xs) e
-    (ap (levelBits (length bs)) (ap (λ (x : ℕ). m -ℤ turn x (turn b z)) e ∙ ap (λ (y : ℤ). m -ℤ y) (turn-back b z) ∙ sub-sub m (level bs))
+    (ap (levelBits (length bs)) (ap (λ (x : ℕ). m -ℤ flip x (flip b z)) e ∙ ap (λ (y : ℤ). m -ℤ y) (flip-back b z) ∙ sub-sub m (level bs))
     ∙ levels bs (ok .1))
 
 -- ---- the test: true for the level of any bits
@@ -83,14 +83,14 @@ bits-bits (suc n) (pos k) = (omega arith, bits-bits n _)
 bits-bits (suc n) (negsuc k) = (omega arith, bits-bits n _)
 
 -- ---- a level of some bits is not 0
-turn-above : (b : ℕ) {n : ℕ} {z : ℤ} → Above n z → 0 < natAbs (turn b z)
-turn-above zero (above h) = omega arith
-turn-above (suc b) (above h) = omega arith
+flip-above : (b : ℕ) {n : ℕ} {z : ℤ} → Above n z → 0 < natAbs (flip b z)
+flip-above zero (above h) = omega arith
+flip-above (suc b) (above h) = omega arith
 
 pub level-nonzero : (n : ℕ) (z : ℤ) → 0 < n → T (isLevel n z) → 0 < natAbs z
 unfolding levelBits level
 level-nonzero zero z h t = absurd (omega arith)
 level-nonzero (suc n) z h t =
-    let bs = levelBits n (pos (2 ^ n) -ℤ turn (below z) z) in
-    let e : natAbs (turn (below z) (pos (2 ^ length bs) -ℤ level bs)) ≡ natAbs z = ap natAbs (level-back (suc n) z t) in
-    omega (arith, turn-above (below z) (room (2 ^ length bs) (level bs) (level-small bs)))
+    let bs = levelBits n (pos (2 ^ n) -ℤ flip (below z) z) in
+    let e : natAbs (flip (below z) (pos (2 ^ length bs) -ℤ level bs)) ≡ natAbs z = ap natAbs (level-back (suc n) z t) in
+    omega (arith, flip-above (below z) (room (2 ^ length bs) (level bs) (level-small bs)))

@@ -16,7 +16,7 @@ use Rattle.base.specs.Tables.{table}
 use Rattle.base.proofs.Fits.{fits-abs}
 use Rattle.base.proofs.Pairs.{pair-of}
 use Rattle.base.proofs.Tables.{table-at}
-use Rattle.modulation.specs.Symbols.{bitsOf, evens, odds, level, symbolOf}
+use Rattle.modulation.specs.Symbols.{bitsOf, evens, odds, level, modulationSymbol}
 use Rattle.modulation.proofs.Levels.{level-small}
 use Rattle.modulation.proofs.Words.{word-length, word-low}
 use Rattle.modulation.proofs.Places.{evens-length}
@@ -48,7 +48,7 @@ last-out (suc (suc r)) w e =
     ap₂ (λ (b : ℕ) (bs : List ℕ). b ∷ bs) (sym (dig-shr w 1 (suc r) ∙ ap (dig w) up)) (last-out r w (omega arith))
 
 pub both : (r q w : ℕ) → q ≡ suc r → r % 2 ≡ 1 → r ≤ 13 →
-    _≡_ {A = Pair} (record { re = toZ w8 (ofZ w8 (getD (levelTable r) (w / 2 % 2 ^ r) (pos 0))); im = toZ w8 (ofZ w8 (getD (levelTable r) (w % 2 ^ r) (pos 0))) }) (symbolOf q w)
-unfolding symbolOf bitsOf odds
+    _≡_ {A = Pair} (record { re = toZ w8 (ofZ w8 (getD (levelTable r) (w / 2 % 2 ^ r) (pos 0))); im = toZ w8 (ofZ w8 (getD (levelTable r) (w % 2 ^ r) (pos 0))) }) (modulationSymbol q w)
+unfolding modulationSymbol bitsOf odds
 both r q w e odd h =
-    pair-of (level-at r (w / 2) h ∙ ap level (sym (last-out r w odd))) (level-at r w h) ∙ ap (λ (n : ℕ). symbolOf n w) (sym e)
+    pair-of (level-at r (w / 2) h ∙ ap level (sym (last-out r w odd))) (level-at r w h) ∙ ap (λ (n : ℕ). modulationSymbol n w) (sym e)

@@ -13,7 +13,7 @@ use lib.Pow.{pow-mono}
 use Rattle.base.specs.declared.Pair.{Pair}
 use Rattle.base.specs.Pairs.{Small}
 use Rattle.base.proofs.Pairs.{pair-of}
-use Rattle.modulation.specs.Symbols.{Order, bitsOf, evens, odds, level, symbolOf}
+use Rattle.modulation.specs.Symbols.{Order, bitsOf, evens, odds, level, modulationSymbol}
 use Rattle.modulation.specs.Demapping.{levelBits, isLevel, woven, number, Demapped, Word, NoLevel, answerOf, demapOf}
 use Rattle.modulation.proofs.Levels.{Bits, level-small, levels, is-level, level-back, bits-length, bits-bits}
 use Rattle.modulation.proofs.Words.{word-length, word-bits, number-word, number-small, word-number}
@@ -44,8 +44,8 @@ level-told : (n : ℕ) (bs : List ℕ) → length bs ≡ n → Bits bs → T (is
 level-told n bs e ok = rw (sym e) (is-level bs ok, levels bs ok)
 
 -- ---- from a word
-pub demap-symbol : (q w : ℕ) → demapOf q (symbolOf q w) ≡ Word (w % 2 ^ q)
-unfolding demapOf symbolOf
+pub demap-symbol : (q w : ℕ) → demapOf q (modulationSymbol q w) ≡ Word (w % 2 ^ q)
+unfolding demapOf modulationSymbol
 demap-symbol q w =
     let bs = bitsOf q w in
     let n = word-length q w in
@@ -54,10 +54,10 @@ demap-symbol q w =
     answer-yes (isLevel ((q + 1) / 2) (level (evens bs))) (isLevel (q / 2) (level (odds bs))) _ (i .0) (j .0)
     ∙ ap Word (ap (number 2) (ap₂ woven (i .1) (j .1) ∙ rejoined bs) ∙ number-word q w)
 
-pub demap-back : (q w : ℕ) → w < 2 ^ q → demapOf q (symbolOf q w) ≡ Word w
+pub demap-back : (q w : ℕ) → w < 2 ^ q → demapOf q (modulationSymbol q w) ≡ Word w
 demap-back q w h = demap-symbol q w ∙ ap Word (mod-eq-of-lt h)
 
-pub symbol-injective : (q v w : ℕ) → v < 2 ^ q → w < 2 ^ q → symbolOf q v ≡ symbolOf q w → v ≡ w
+pub symbol-injective : (q v w : ℕ) → v < 2 ^ q → w < 2 ^ q → modulationSymbol q v ≡ modulationSymbol q w → v ≡ w
 symbol-injective q v w hv hw e = word-same v w (sym (demap-back q v hv) ∙ ap (demapOf q) e ∙ demap-back q w hw)
 
 -- ---- from a pair of levels
@@ -86,13 +86,13 @@ module _ (q : ℕ) (p : Pair) where
   word-of : bitsOf q (number 2 (woven even-bits odd-bits)) ≡ woven even-bits odd-bits
   word-of = ap (λ (n : ℕ). bitsOf n (number 2 (woven even-bits odd-bits))) (sym joined-length) ∙ word-number (woven even-bits odd-bits) joined-bits
 
-  pub demap-only : (w : ℕ) → demapOf q p ≡ Word w → (symbolOf q w ≡ p) × (w < 2 ^ q)
-  unfolding demapOf symbolOf even-bits odd-bits
+  pub demap-only : (w : ℕ) → demapOf q p ≡ Word w → (modulationSymbol q w ≡ p) × (w < 2 ^ q)
+  unfolding demapOf modulationSymbol even-bits odd-bits
   demap-only w e =
       let t = isLevel ((q + 1) / 2) (p .re) in
       let u = isLevel (q / 2) (p .im) in
       let a = answer-word (t && u) _ w e in
-      let s : symbolOf q (number 2 (woven even-bits odd-bits)) ≡ p =
+      let s : modulationSymbol q (number 2 (woven even-bits odd-bits)) ≡ p =
       pair-of
       (ap (λ (bs : List ℕ). level (evens bs)) word-of ∙ ap level (joined .even) ∙ level-back ((q + 1) / 2) (p .re) (and-l t u (a .0)))
       (ap (λ (bs : List ℕ). level (odds bs)) word-of ∙ ap level (joined .odd) ∙ level-back (q / 2) (p .im) (and-r t u (a .0))) in
@@ -100,15 +100,15 @@ module _ (q : ℕ) (p : Pair) where
       (rw (a .1) at s, rw (a .1) at l)
 
 -- no word at all has a pair that is refused
-pub no-level : (q : ℕ) (p : Pair) → (demapOf q p ≡ NoLevel) ↔ ((w : ℕ) → symbolOf q w ≡ p → ⊥)
+pub no-level : (q : ℕ) (p : Pair) → (demapOf q p ≡ NoLevel) ↔ ((w : ℕ) → modulationSymbol q w ≡ p → ⊥)
 no-level q p = (
   (λ e w s. word-never (w % 2 ^ q) (sym (demap-symbol q w) ∙ ap (demapOf q) s ∙ e)),
   (λ h. refused (demapOf q p) (λ w e. h w (demap-only q p w e .0))),
 )
 
 -- ---- sizes
-pub symbol-small : (m q w : ℕ) → q ≤ 2 * m → Small (2 ^ m - 1) (symbolOf q w)
-unfolding symbolOf
+pub symbol-small : (m q w : ℕ) → q ≤ 2 * m → Small (2 ^ m - 1) (modulationSymbol q w)
+unfolding modulationSymbol
 symbol-small m q w h =
     let bs = bitsOf q w in
     let n = word-length q w in
@@ -116,5 +116,5 @@ symbol-small m q w h =
     let j : 2 ^ length (odds bs) ≤ 2 ^ m = pow-mono (omega (arith, odds-length bs)) in
     (omega (arith, level-small (evens bs)), omega (arith, level-small (odds bs)))
 
-pub order-small : (q w : ℕ) → Order q → Small 7 (symbolOf q w)
+pub order-small : (q w : ℕ) → Order q → Small 7 (modulationSymbol q w)
 order-small q w o = symbol-small 3 q w (o .2)

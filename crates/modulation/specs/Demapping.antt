@@ -4,14 +4,14 @@ use mathlib.Core.Bool.{Bool, true, false, _&&_}
 use mathlib.Core.List.{List, [], _∷_}
 use lib.ListN.{length}
 use lib.IntN.{ℤ, pos, _-ℤ_}
-use Rattle.base.specs.Signs.{turn, below, eqZ}
+use Rattle.base.specs.Signs.{flip, below, eqZ}
 use Rattle.base.specs.declared.Pair.{Pair}
 use Rattle.modulation.specs.Symbols.{level}
 
 -- the n bits of a level: its sign is the first, and 2 ^ (n - 1) less its size is the level of the others
 unfoldable pub levelBits : ℕ → ℤ → List ℕ
 levelBits zero z = []
-levelBits (suc n) z = below z ∷ levelBits n (pos (2 ^ n) -ℤ turn (below z) z)
+levelBits (suc n) z = below z ∷ levelBits n (pos (2 ^ n) -ℤ flip (below z) z)
 
 -- whether some n bits have the level z: whether those bits do
 unfoldable pub isLevel : ℕ → ℤ → Bool

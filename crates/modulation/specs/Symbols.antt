@@ -6,7 +6,7 @@ use mathlib.Core.List.{List, [], _∷_}
 use lib.ListN.{length}
 use lib.Dec.{eqb}
 use lib.IntN.{ℤ, pos, _-ℤ_}
-use Rattle.base.specs.Signs.{turn}
+use Rattle.base.specs.Signs.{flip}
 use Rattle.base.specs.Digits.{dig}
 use Rattle.base.specs.declared.Pair.{Pair}
 
@@ -34,11 +34,11 @@ odds (b ∷ bs) = evens bs
 -- (1 - 2b) times what 2 ^ n exceeds the level of the n bits that follow by
 unfoldable pub level : List ℕ → ℤ
 level [] = pos 0
-level (b ∷ bs) = turn b (pos (2 ^ length bs) -ℤ level bs)
+level (b ∷ bs) = flip b (pos (2 ^ length bs) -ℤ level bs)
 
 -- I from the even bits, "J from odd bits"
-unfoldable pub symbolOf : ℕ → ℕ → Pair
-symbolOf q w = record { re = level (evens (bitsOf q w)); im = level (odds (bitsOf q w)) }
+unfoldable pub modulationSymbol : ℕ → ℕ → Pair
+modulationSymbol q w = record { re = level (evens (bitsOf q w)); im = level (odds (bitsOf q w)) }
 
 -- "Units 2, 10, 42" by the order; an order more is a row more
 abbrev pub units : List (ℕ × ℕ)

@@ -2,13 +2,13 @@
 // table that `constellation` fills.
 use base::Pair;
 ghost use mathlib.Core.Path.{_≡_};
-ghost use Rattle.modulation.specs.Symbols.{symbolOf, unitOf};
+ghost use Rattle.modulation.specs.Symbols.{modulationSymbol, unitOf};
 
 const LEVELS: [i8; 2] = [1, -1];
 
 // The QPSK symbol of the two lowest bits of w, the first more significant.
 pub fn qpsk(w: u32) -> Pair
-    ensures { λ r. ⌜ r ≡ symbolOf 2 w ⌝ }
+    ensures { λ r. ⌜ r ≡ modulationSymbol 2 w ⌝ }
 {
     let t = LEVELS;
     let i = (w / 2 % 2) as usize;

@@ -11,7 +11,7 @@ use borrow.Author.Tests.{ltb-true, ltb-false, eqb-true}
 use Rattle.base.specs.Tables.{table}
 use Rattle.plan.specs.Lists.{Among, Every}
 use Rattle.plan.specs.Fields.{mappingUnits}
-use Rattle.plan.specs.Rows.{hisOf, usersOf}
+use Rattle.plan.specs.CommandLists.{hisOf, usersOf}
 use Rattle.plan.specs.Valid.{HiIn, Valid}
 use Rattle.plan.specs.declared.Cell.{Cell}
 use Rattle.plan.specs.declared.Hi.{Hi}

@@ -15,7 +15,7 @@ use Rattle.base.specs.Bits.{bitAt}
 use Rattle.plan.specs.Lists.{Among, Every}
 use Rattle.plan.specs.Fields.{mappingUnits}
 use Rattle.plan.specs.Check.{checkOf}
-use Rattle.plan.specs.Rows.{hisOf, usersOf}
+use Rattle.plan.specs.CommandLists.{hisOf, usersOf}
 use Rattle.plan.specs.Valid.{Valid}
 use Rattle.plan.specs.declared.Plan.{Plan}
 use Rattle.plan.specs.declared.Checked.the-variants.{Plan as accepted}

@@ -12,7 +12,7 @@ use Rattle.plan.specs.Lists.{Every}
 use Rattle.plan.specs.Fields.{orders}
 use Rattle.plan.specs.Commands.{userOf}
 use Rattle.plan.specs.Check.{checkOf}
-use Rattle.plan.specs.Rows.{nextOf, usersFrom, usersOf}
+use Rattle.plan.specs.CommandLists.{nextOf, usersFrom, usersOf}
 use Rattle.plan.specs.Valid.{UserIn, Valid}
 use Rattle.plan.specs.declared.Cell.{Cell}
 use Rattle.plan.specs.declared.Frame.{Frame}
@@ -21,7 +21,7 @@ use Rattle.plan.specs.declared.Plan.{Plan}
 use Rattle.plan.specs.declared.Checked.the-variants.{Plan as accepted}
 use Rattle.plan.proofs.OneOf.{among-holds}
 use Rattle.plan.proofs.Valid.{valid}
-use Rattle.plan.proofs.RowLaws.{row-next, row-zero}
+use Rattle.plan.proofs.CommandLists.{commands-next, commands-zero}
 use Rattle.base.specs.Choice.{if_then_else_}
 use Rattle.base.proofs.Tests.{by-test, on-if}
 use Rattle.layout.specs.Owners.{symbols}
@@ -93,7 +93,7 @@ bytes-most c f (u ∷ us) h = omega (arith, bits-most c f u (h .0), bytes-most c
 -- ---- the users in turn
 pub next-user : (w : List ℕ) (at n : ℕ) (u : User) → 0 < n → u ≡ userOf (drop at w) → (to : ℕ) → to ≡ nextOf w at → usersFrom (drop at w) n ≡ u ∷ usersFrom (drop to w) (n - 1)
 next-user w at zero u h e to q = absurd (not-suc-le-zero h)
-next-user w at (suc n) u h e to q = rw (sub-one, e, q) (row-next userOf w at n)
+next-user w at (suc n) u h e to q = rw (sub-one, e, q) (commands-next userOf w at n)
 
 pub bytes-next :
     (c : Cell) (f : Frame) (u : User) (us rest : List User) → us ≡ u ∷ rest
@@ -103,7 +103,7 @@ bytes-next c f u us rest e = ap (λ (l : List User). bytesOf (computedSections c
 
 pub bytes-none : (w : List ℕ) (c : Cell) (f : Frame) (at n : ℕ) → n ≤ 0 → bytesOf (computedSections c f (usersFrom (drop at w) n)) ≡ 0
 unfolding computedSections bytesOf
-bytes-none w c f at n h = rw (row-zero userOf (drop at w) n (omega arith)) refl
+bytes-none w c f at n h = rw (commands-zero userOf (drop at w) n (omega arith)) refl
 
 -- ---- the start of the users' sections, and all sections
 module _ (p : Plan) (a : ℕ) (ea : a ≡ pbchBitCount (p .cell) (p .frame)) where

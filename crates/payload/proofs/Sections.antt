@@ -10,7 +10,7 @@ use lib.Seq.{take-append-add, getD-append-add, take-length}
 use Rattle.base.specs.Tables.{table}
 use Rattle.base.proofs.Tables.{table-at, table-length}
 use Rattle.plan.specs.Check.{checkOf}
-use Rattle.plan.specs.Rows.{usersOf, nthUser}
+use Rattle.plan.specs.CommandLists.{usersOf, nthUser}
 use Rattle.plan.specs.declared.Cell.{Cell}
 use Rattle.plan.specs.declared.Frame.{Frame}
 use Rattle.plan.specs.declared.User.{User}

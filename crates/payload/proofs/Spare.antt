@@ -16,13 +16,13 @@ use Rattle.base.proofs.Tables.{table-same}
 use Rattle.plan.specs.Lists.{noneOf}
 use Rattle.plan.specs.Commands.{userOf}
 use Rattle.plan.specs.Check.{checkOf}
-use Rattle.plan.specs.Rows.{nextOf, usersFrom, usersOf}
+use Rattle.plan.specs.CommandLists.{nextOf, usersFrom, usersOf}
 use Rattle.plan.specs.declared.Cell.{Cell}
 use Rattle.plan.specs.declared.Frame.{Frame}
 use Rattle.plan.specs.declared.User.{User}
 use Rattle.plan.specs.declared.Plan.{Plan}
 use Rattle.plan.specs.declared.Checked.the-variants.{Plan as accepted}
-use Rattle.plan.proofs.RowLaws.{row-zero}
+use Rattle.plan.proofs.CommandLists.{commands-zero}
 use Rattle.payload.specs.Sections.{sectionBytes, bytesOf, span, spareAt, sparesFrom}
 use Rattle.payload.specs.Payload.{pbchBitCount, heads, payloadLength, usersStart, spareBits, noneSet, spareClear}
 use Rattle.payload.specs.Loops.{computedBitCount, computedSections}
@@ -115,7 +115,7 @@ module _ {w : List ℕ} {c : Cell} {f : Frame} {start count : ℕ} {s : List ℕ
   pub clearing-end : left ≤ 0 → true ≡ noneSet s (sparesFrom first (computedSections c f (usersFrom (drop start w) count)))
   unfolding computedSections
   clearing-end h =
-      sym (ap (λ (l : List User). noneSet s (sparesFrom byte (computedSections c f l))) (row-zero userOf (drop at w) left (omega arith)) ∙ spares-none s byte) ∙ g .same
+      sym (ap (λ (l : List User). noneSet s (sparesFrom byte (computedSections c f l))) (commands-zero userOf (drop at w) left (omega arith)) ∙ spares-none s byte) ∙ g .same
 
   module _ (h : 0 < left) (u : User) (e : u ≡ userOf (drop at w)) where
     abbrev All : List User

@@ -8,7 +8,7 @@ use native.Mathlib.Nat.{not-suc-le-zero}
 use native.Mathlib.Omega.{arith}
 use lib.Dec.{leb, ltb, eqb}
 use borrow.Author.Tests.{ltb-true, ltb-false, lt-ltb, le-ltb, le-leb, lt-leb, eq-eqb, ne-eqb, eqb-true, eqb-false}
-use Rattle.base.specs.Choice.{if_then_else_, one}
+use Rattle.base.specs.Choice.{if_then_else_, indicator}
 use Rattle.base.specs.Tables.{table}
 use Rattle.base.proofs.Tests.{by-test}
 use Rattle.plan.specs.Lists.{Among, Every}
@@ -43,11 +43,11 @@ occurs-nil b = refl
 
 pub occurs-append : (b : ℕ) (xs ys : List ℕ) → occurs b (xs ++ ys) ≡ occurs b xs + occurs b ys
 unfolding occurs
-occurs-append b xs ys = list-append xs ys (λ (x : ℕ). one (eqb x b))
+occurs-append b xs ys = list-append xs ys (λ (x : ℕ). indicator (eqb x b))
 
 -- ---- position b is one of the n from a on: 1 or 0
 unfoldable pub within : ℕ → ℕ → ℕ → ℕ
-within a n b = one (leb a b && ltb b (a + n))
+within a n b = indicator (leb a b && ltb b (a + n))
 
 pub within-in : (a n b : ℕ) → a ≤ b → b < a + n → within a n b ≡ 1
 unfolding within
@@ -89,19 +89,19 @@ within-none a b = pick (ltb b a) refl
     pick true e = within-below a 0 b (ltb-true b a e)
     pick false e = within-above a 0 b (omega (arith, ltb-false b a e))
 
-pub within-one : (a b : ℕ) → within a 1 b ≡ one (eqb a b)
+pub within-one : (a b : ℕ) → within a 1 b ≡ indicator (eqb a b)
 within-one a b = pick (eqb a b) refl
   where
     off : (t : Bool) → ltb b a ≡ t → (a ≡ b → ⊥) → within a 1 b ≡ 0
     off true e n = within-below a 1 b (ltb-true b a e)
     off false e n = let h : a ≤ b = ltb-false b a e in within-above a 1 b (omega arith)
 
-    pick : (t : Bool) → eqb a b ≡ t → within a 1 b ≡ one t
+    pick : (t : Bool) → eqb a b ≡ t → within a 1 b ≡ indicator t
     pick true e = let q : a ≡ b = eqb-true a b e in within-in a 1 b (omega arith) (omega arith)
     pick false e = off (ltb b a) refl (eqb-false a b e)
 
 -- how often b stands among the n positions from a on
-span-sum : (a b n : ℕ) → sumTo n (λ j. one (eqb (a + j) b)) ≡ within a n b
+span-sum : (a b n : ℕ) → sumTo n (λ j. indicator (eqb (a + j) b)) ≡ within a n b
 unfolding sumTo
 span-sum a b zero = sym (within-none a b)
 span-sum a b (suc n) =
@@ -110,7 +110,7 @@ span-sum a b (suc n) =
 
 pub occurs-span : (a n b : ℕ) → occurs b (span a n) ≡ within a n b
 unfolding occurs span
-occurs-span a n b = sum-table (λ (x : ℕ). one (eqb x b)) n (λ (j : ℕ). a + j) ∙ span-sum a b n
+occurs-span a n b = sum-table (λ (x : ℕ). indicator (eqb x b)) n (λ (j : ℕ). a + j) ∙ span-sum a b n
 
 -- ---- membership
 pub among-occurs : (b : ℕ) (xs : List ℕ) → Among b xs → 1 ≤ occurs b xs
@@ -124,7 +124,7 @@ unfolding occurs sumOf
 occurs-among b [] h = absurd (not-suc-le-zero h)
 occurs-among b (x ∷ xs) h = pick (eqb x b) refl h (occurs-among b xs)
   where
-    pick : (t : Bool) → eqb x b ≡ t → 1 ≤ one t + occurs b xs → (1 ≤ occurs b xs → Among b xs) → Among b (x ∷ xs)
+    pick : (t : Bool) → eqb x b ≡ t → 1 ≤ indicator t + occurs b xs → (1 ≤ occurs b xs → Among b xs) → Among b (x ∷ xs)
     pick true e l ih = inl (sym (eqb-true x b e))
     pick false e l ih = inr (ih (omega arith))
 

@@ -4,8 +4,8 @@ use Prim.Native.Nat.{ℕ, _+_}
 use mathlib.Core.List.{List, [], _∷_, _++_}
 use lib.Dec.{eqb}
 use lib.ListN.{length}
-use Rattle.base.specs.Choice.{if_then_else_, one}
-use Rattle.plan.specs.Rows.{hisOf}
+use Rattle.base.specs.Choice.{if_then_else_, indicator}
+use Rattle.plan.specs.CommandLists.{hisOf}
 use Rattle.plan.specs.declared.Hi.{Hi}
 use Rattle.plan.specs.declared.Plan.{Plan}
 use Rattle.phich.specs.Spreading.{spreadLength}
@@ -40,7 +40,7 @@ ownerBits w p Idle = []
 -- ---- how the theorem counts
 -- how often position b stands in a list
 unfoldable pub occurs : ℕ → List ℕ → ℕ
-occurs b xs = sumOf xs (λ (x : ℕ). one (eqb x b))
+occurs b xs = sumOf xs (λ (x : ℕ). indicator (eqb x b))
 
 -- the bits of all these owners, one owner's after the other's
 unfoldable pub bitsOfAll : (Owner → List ℕ) → List Owner → List ℕ

@@ -9,7 +9,7 @@ use lib.ListN.{length}
 use Rattle.base.specs.Bits.{bitAt}
 use Rattle.base.specs.Tables.{table}
 use Rattle.plan.specs.Lists.{noneOf, Every}
-use Rattle.plan.specs.Rows.{usersOf, nthUser}
+use Rattle.plan.specs.CommandLists.{usersOf, nthUser}
 use Rattle.plan.specs.declared.Cell.{Cell}
 use Rattle.plan.specs.declared.Frame.{Frame}
 use Rattle.plan.specs.declared.Plan.{Plan}

@@ -3,7 +3,7 @@ ghost use mathlib.Core.Path.{_≡_};
 ghost use Prim.Native.Nat.{_+_, _*_, _≤_};
 ghost use lib.ListN.{length, drop};
 ghost use Rattle.plan.specs.Check.{checkOf};
-ghost use Rattle.plan.specs.Rows.{usersFrom};
+ghost use Rattle.plan.specs.CommandLists.{usersFrom};
 ghost use Rattle.plan.specs.declared.Checked.the-variants.{Plan as accepted};
 ghost use Rattle.counts.specs.Shape.{countBy, ShapeIn};
 ghost use Rattle.payload.specs.Sections.{sectionBytes, bytesOf, spareAt, sparesFrom};

@@ -7,7 +7,7 @@ use native.Mathlib.Omega.{arith}
 use lib.ListN.{getD}
 use Rattle.base.specs.declared.Pair.{Pair}
 use Rattle.base.specs.Signs.{below}
-use Rattle.base.specs.Pairs.{nil, turned}
+use Rattle.base.specs.Pairs.{nil, flipped}
 use Rattle.base.specs.Tables.{table}
 use Rattle.base.proofs.Tables.{table-length, table-at, filled}
 use Rattle.plan.specs.declared.Hi.{Hi}
@@ -26,7 +26,7 @@ module _ (l : ℕ) (ok : Length l) (c c′ : ℕ → ℕ) (same : (e : ℕ) → 
   part-chips : (h : Hi) (b i : ℕ) → i < 12 → partAt l c h b i ≡ partAt l c′ h b i
   part-chips h b i k =
       part-wave l ok c h b i
-      ∙ ap (λ (x : ℕ). turned x (turned b (waveAt l (firstPlace l h) (h .sequence) i))) (same (i / 4 * l + i % 4 % l) (chip-lt l ok i (i % 4 % l) k (mod-lt (i % 4) (ok .0))))
+      ∙ ap (λ (x : ℕ). flipped x (flipped b (waveAt l (firstPlace l h) (h .sequence) i))) (same (i / 4 * l + i % 4 % l) (chip-lt l ok i (i % 4 % l) k (mod-lt (i % 4) (ok .0))))
       ∙ sym (part-wave l ok c′ h b i)
 
   -- from a word's bits to the sequence they are of

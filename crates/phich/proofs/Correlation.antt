@@ -4,10 +4,10 @@ use mathlib.Core.Path.{_≡_, refl, sym, ap, ap₂, _∙_}
 use native.Mathlib.Omega.{arith}
 use lib.IntN.{ℤ, pos, _+ℤ_}
 use Rattle.base.specs.declared.Pair.{Pair}
-use Rattle.base.specs.Signs.{turn, by}
-use Rattle.base.specs.Pairs.{nil, plus, turned}
-use Rattle.base.proofs.Pairs.{turned-back}
-use Rattle.base.proofs.Signs.{by-add, by-zero, by-turn, by-turned, turn-add, turn-zero, four}
+use Rattle.base.specs.Signs.{flip, by}
+use Rattle.base.specs.Pairs.{nil, plus, flipped}
+use Rattle.base.proofs.Pairs.{flipped-back}
+use Rattle.base.proofs.Signs.{by-add, by-zero, by-flip, by-flipped, flip-add, flip-zero, four}
 use Rattle.phich.specs.Recovery.{dot, total}
 
 -- ---- products
@@ -19,18 +19,18 @@ dot-plus s p q =
 pub dot-nil : (s : Pair) → dot s nil ≡ pos 0
 dot-nil s = ap₂ (λ (x y : ℤ). x +ℤ y) (by-zero (s .re)) (by-zero (s .im))
 
-pub dot-turn : (b : ℕ) (s p : Pair) → dot s (turned b p) ≡ turn b (dot s p)
-dot-turn b s p =
-    ap₂ (λ (x y : ℤ). x +ℤ y) (by-turn b (s .re) (p .re)) (by-turn b (s .im) (p .im))
-    ∙ sym (turn-add b (by (s .re) (p .re)) (by (s .im) (p .im)))
+pub dot-flip : (b : ℕ) (s p : Pair) → dot s (flipped b p) ≡ flip b (dot s p)
+dot-flip b s p =
+    ap₂ (λ (x y : ℤ). x +ℤ y) (by-flip b (s .re) (p .re)) (by-flip b (s .im) (p .im))
+    ∙ sym (flip-add b (by (s .re) (p .re)) (by (s .im) (p .im)))
 
--- both turned
-pub dot-turned : (b : ℕ) (s p : Pair) → dot (turned b s) (turned b p) ≡ dot s p
-dot-turned b s p = ap₂ (λ (x y : ℤ). x +ℤ y) (by-turned b (s .re) (p .re)) (by-turned b (s .im) (p .im))
+-- both flipped
+pub dot-flipped : (b : ℕ) (s p : Pair) → dot (flipped b s) (flipped b p) ≡ dot s p
+dot-flipped b s p = ap₂ (λ (x y : ℤ). x +ℤ y) (by-flipped b (s .re) (p .re)) (by-flipped b (s .im) (p .im))
 
--- the first one turned
-pub turned-dot : (b : ℕ) (s p : Pair) → dot (turned b s) p ≡ turn b (dot s p)
-turned-dot b s p = ap (dot (turned b s)) (sym (turned-back b p)) ∙ dot-turned b s (turned b p) ∙ dot-turn b s p
+-- the first one flipped
+pub flipped-dot : (b : ℕ) (s p : Pair) → dot (flipped b s) p ≡ flip b (dot s p)
+flipped-dot b s p = ap (dot (flipped b s)) (sym (flipped-back b p)) ∙ dot-flipped b s (flipped b p) ∙ dot-flip b s p
 
 -- ---- totals
 pub total-same : (n : ℕ) (f g : ℕ → ℤ) → ((i : ℕ) → i < n → f i ≡ g i) → total n f ≡ total n g
@@ -43,10 +43,10 @@ unfolding total
 total-add zero f g = refl
 total-add (suc n) f g = ap (λ (x : ℤ). x +ℤ (f n +ℤ g n)) (total-add n f g) ∙ four (total n f) (total n g) (f n) (g n)
 
-pub total-turn : (n b : ℕ) (f : ℕ → ℤ) → total n (λ i. turn b (f i)) ≡ turn b (total n f)
+pub total-flip : (n b : ℕ) (f : ℕ → ℤ) → total n (λ i. flip b (f i)) ≡ flip b (total n f)
 unfolding total
-total-turn zero b f = sym (turn-zero b)
-total-turn (suc n) b f = ap (λ (x : ℤ). x +ℤ turn b (f n)) (total-turn n b f) ∙ sym (turn-add b (total n f) (f n))
+total-flip zero b f = sym (flip-zero b)
+total-flip (suc n) b f = ap (λ (x : ℤ). x +ℤ flip b (f n)) (total-flip n b f) ∙ sym (flip-add b (total n f) (f n))
 
 pub total-zero : (n : ℕ) → total n (λ i. pos 0) ≡ pos 0
 unfolding total

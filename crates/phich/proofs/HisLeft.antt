@@ -14,8 +14,8 @@ use Rattle.base.proofs.Pairs.{plus-assoc, plus-nil, nil-plus}
 use Rattle.base.proofs.Tables.{table-length, table-at}
 use Rattle.plan.specs.declared.Hi.{Hi}
 use Rattle.plan.specs.Commands.{hiOf}
-use Rattle.plan.specs.Rows.{hisFrom, nextOf}
-use Rattle.plan.proofs.RowLaws.{row-next, row-zero}
+use Rattle.plan.specs.CommandLists.{hisFrom, nextOf}
+use Rattle.plan.proofs.CommandLists.{row-next, row-zero}
 use Rattle.phich.specs.His.{hiNumber}
 use Rattle.phich.specs.Units.{mappingUnit, sumAt}
 use Rattle.phich.specs.Recovery.{bitIn}
@@ -45,7 +45,7 @@ module _ {plan : List ℕ} {at count from k : ℕ} (t : At plan at count from k)
       let e : count - k - 1 ≡ count - (k + 1) = omega arith in
       first plan from (count - k) (omega arith) ∙ ap (λ (n : ℕ). hiOf (drop from plan) ∷ hisFrom (drop (nextOf plan from) plan) n) e
 
-  -- the HI of this turn
+  -- the next HI
   pub here : hiOf (drop from plan) ≡ hiNumber (hisFrom (drop at plan) count) k
   here =
       let z : k + 0 ≡ k = omega arith in
@@ -65,14 +65,14 @@ module _ {plan : List ℕ} {at count from k : ℕ} (t : At plan at count from k)
   here-in ok e = rw (e, here) (ok .each k more)
 
 -- ---- the sums: k HIs are summed
-pub record Turn (l : ℕ) (plan : List ℕ) (at count : ℕ) (bit : ℕ → ℕ) (s : List ℕ) (from k : ℕ) : Type 0 where
+pub record Summed (l : ℕ) (plan : List ℕ) (at count : ℕ) (bit : ℕ → ℕ) (s : List ℕ) (from k : ℕ) : Type 0 where
   pub where-at : At plan at count from k
   pub size : length s ≡ 200
   pub so-far : ℕ → Pair
   pub holds : (y : ℕ) → y < 100 → Holds s y (so-far y)
   pub whole : (y : ℕ) → plus (so-far y) (sumAt l unscrambled (y / 4) bit (y % 4) (left plan from count k) k) ≡ quadSum l bit (hisFrom (drop at plan) count) y
 
-pub start : (l : ℕ) (plan : List ℕ) (at count : ℕ) (bit : ℕ → ℕ) (s : List ℕ) → s ≡ table 200 (λ i. 0) → Turn l plan at count bit s at 0
+pub start : (l : ℕ) (plan : List ℕ) (at count : ℕ) (bit : ℕ → ℕ) (s : List ℕ) → s ≡ table 200 (λ i. 0) → Summed l plan at count bit s at 0
 unfolding quadSum residue
 start l plan at count bit s z =
     let e : count - 0 ≡ count = omega arith in
@@ -84,7 +84,7 @@ start l plan at count bit s z =
       whole = λ y. rw e (nil-plus _);
     }
 
-module _ {l : ℕ} {plan : List ℕ} {at count : ℕ} {bit : ℕ → ℕ} {s : List ℕ} {from k : ℕ} (t : Turn l plan at count bit s from k) (more : k < count) where
+module _ {l : ℕ} {plan : List ℕ} {at count : ℕ} {bit : ℕ → ℕ} {s : List ℕ} {from k : ℕ} (t : Summed l plan at count bit s from k) (more : k < count) where
   adds :
       (y : ℕ) → sumAt l unscrambled (y / 4) bit (y % 4) (left plan from count k) k ≡ plus (ownPart l (hiOf (drop from plan)) (bit k) y)
       (sumAt l unscrambled (y / 4) bit (y % 4) (left plan (nextOf plan from) count (k + 1)) (k + 1))
@@ -93,7 +93,7 @@ module _ {l : ℕ} {plan : List ℕ} {at count : ℕ} {bit : ℕ → ℕ} {s : L
       ap (λ (hs : List Hi). sumAt l unscrambled (y / 4) bit (y % 4) hs k) (split (t .where-at) more)
       ∙ ap (λ (n : ℕ). plus (ownPart l (hiOf (drop from plan)) (bit k) y) (sumAt l unscrambled (y / 4) bit (y % 4) (left plan (nextOf plan from) count (k + 1)) n)) (sym (add-one k))
 
-  pub next : {h : Hi} {b n : ℕ} {u : List ℕ} → h ≡ hiOf (drop from plan) → b ≡ bit k → n ≡ nextOf plan from → Adds (ownPart l h b) s u → Turn l plan at count bit u n (k + 1)
+  pub next : {h : Hi} {b n : ℕ} {u : List ℕ} → h ≡ hiOf (drop from plan) → b ≡ bit k → n ≡ nextOf plan from → Adds (ownPart l h b) s u → Summed l plan at count bit u n (k + 1)
   next {h = h} {b = b} {u = u} eh eb en a =
       let own : Adds (ownPart l (hiOf (drop from plan)) (bit k)) s u = rw (← eh, ← eb) a in
       record {
@@ -109,7 +109,7 @@ module _ {l : ℕ} {plan : List ℕ} {at count : ℕ} {bit : ℕ → ℕ} {s : L
   unfolding bitsFrom
   bit-here x first eh eb = eb ∙ ap (λ (y : Hi). bitIn l x y (quadOf first (mappingUnit l y))) (eh ∙ here (t .where-at) more)
 
-pub finish : {l : ℕ} {plan : List ℕ} {at count : ℕ} {bit : ℕ → ℕ} {s : List ℕ} {from k : ℕ} → Turn l plan at count bit s from k → count ≤ k → QuadSums l bit (hisFrom (drop at plan) count) s
+pub finish : {l : ℕ} {plan : List ℕ} {at count : ℕ} {bit : ℕ → ℕ} {s : List ℕ} {from k : ℕ} → Summed l plan at count bit s from k → count ≤ k → QuadSums l bit (hisFrom (drop at plan) count) s
 unfolding sumAt
 finish {l = l} {plan = plan} {count = count} {bit = bit} {s = s} {from = from} {k = k} t h =
     record {

@@ -10,15 +10,15 @@ use borrow.Author.Tests.{eq-eqb, ne-eqb, lt-ltb, le-ltb, ltb-true, ltb-false}
 use lib.Dec.{eqb, ltb}
 use lib.ListN.{length}
 use Rattle.base.specs.declared.Pair.{Pair}
-use Rattle.base.specs.Pairs.{nil, plus, turned, Small}
-use Rattle.base.proofs.Pairs.{plus-nil, nil-plus, turned-small}
+use Rattle.base.specs.Pairs.{nil, plus, flipped, Small}
+use Rattle.base.proofs.Pairs.{plus-nil, nil-plus, flipped-small}
 use Rattle.base.proofs.Tests.{by-test}
 use Rattle.plan.specs.declared.Hi.{Hi}
 use Rattle.phich.specs.Spreading.{Length, signAt, plainChip}
 use Rattle.phich.specs.Units.{mappingUnit, firstPlace, partAt, addedAt}
 use Rattle.phich.specs.Loops.{HiIn, ownPart, unscrambled, only, Adds}
 use Rattle.phich.proofs.Lengths.{by-length}
-use Rattle.phich.proofs.Parts.{part-below, part-above, part-in, chip-turns}
+use Rattle.phich.proofs.Parts.{part-below, part-above, part-in, chip-flips}
 use Rattle.phich.proofs.Adding.{adds-none, adds-then, adds-same}
 
 -- a group's places are in one quad, and of 25 units
@@ -55,14 +55,14 @@ module _ (l : ℕ) (ok : Length l) (h : Hi) (b : ℕ) where
   unfolding ownPart addedAt
   own-unit y e = ap (λ (t : Bool). cond t (partAt l unscrambled h b (y % 4)) nil) (eq-eqb (mappingUnit l h) (y / 4) e)
 
-  own-in : (n : ℕ) → n < l → ownPart l h b (first + n) ≡ turned b (plainChip (signAt l (h .sequence) n))
+  own-in : (n : ℕ) → n < l → ownPart l h b (first + n) ≡ flipped b (plainChip (signAt l (h .sequence) n))
   unfolding mappingUnit firstPlace
   own-in n r =
       let f = group-fits l ok (h .group) in
       let e : (first + n) % 4 % 4 - first % 4 ≡ n = omega (arith, f) in
       own-unit (first + n) (omega (arith, f))
       ∙ part-in l unscrambled h b ((first + n) % 4) (omega (arith, f)) (omega (arith, f))
-      ∙ ap (λ (k : ℕ). turned b (plainChip (signAt l (h .sequence) k))) e
+      ∙ ap (λ (k : ℕ). flipped b (plainChip (signAt l (h .sequence) k))) e
 
   own-before : (y : ℕ) → y < first → ownPart l h b y ≡ nil
   unfolding mappingUnit firstPlace
@@ -97,12 +97,12 @@ module _ (l : ℕ) (ok : Length l) (h : Hi) (b : ℕ) where
       pick true e = refl
       pick false e = sym (own-after y (omega (arith, ltb-false y (first + l) e)))
 
-  upto-more : (n : ℕ) → n < l → (y : ℕ) → plus (upTo l h b n y) (only (first + n) (turned b (plainChip (signAt l (h .sequence) n))) y) ≡ upTo l h b (n + 1) y
+  upto-more : (n : ℕ) → n < l → (y : ℕ) → plus (upTo l h b n y) (only (first + n) (flipped b (plainChip (signAt l (h .sequence) n))) y) ≡ upTo l h b (n + 1) y
   unfolding upTo only
   upto-more n r y = pick (ℕ-discrete y (first + n))
     where
       pick :
-          Dec (y ≡ first + n) → plus (cond (ltb y (first + n)) (ownPart l h b y) nil) (cond (eqb y (first + n)) (turned b (plainChip (signAt l (h .sequence) n))) nil) ≡ cond
+          Dec (y ≡ first + n) → plus (cond (ltb y (first + n)) (ownPart l h b y) nil) (cond (eqb y (first + n)) (flipped b (plainChip (signAt l (h .sequence) n))) nil) ≡ cond
           (ltb y (first + (n + 1))) (ownPart l h b y) nil
       pick (yes e) =
           rw (eq-eqb y (first + n) e, le-ltb y (first + n) (omega arith), lt-ltb y (first + (n + 1)) (omega arith))
@@ -119,16 +119,16 @@ module _ (l : ℕ) (ok : Length l) (h : Hi) (b : ℕ) where
   add-start s e = record { done = omega arith; size = e; added = adds-same (λ y. sym (upto-none y)) (adds-none s) }
 
   pub add-next :
-      {n q g : ℕ} {chip d : Pair} {s t u : List ℕ} → Added l h b n s t → n < l → q ≡ h .sequence → chip ≡ plainChip (signAt l q n) → d ≡ turned b chip → g ≡ h .group
+      {n q g : ℕ} {chip d : Pair} {s t u : List ℕ} → Added l h b n s t → n < l → q ≡ h .sequence → chip ≡ plainChip (signAt l q n) → d ≡ flipped b chip → g ≡ h .group
       → Adds (only (g * l + n) d) t u → Added l h b (n + 1) s u
   add-next {n = n} {t = t} {u = u} a r eq ec ed eg w =
-      let e = ed ∙ ap (turned b) (ec ∙ ap (λ (k : ℕ). plainChip (signAt l k n)) eq) in
-      let one : Adds (only (first + n) (turned b (plainChip (signAt l (h .sequence) n)))) t u = rw (← eg, ← e) w in
+      let e = ed ∙ ap (flipped b) (ec ∙ ap (λ (k : ℕ). plainChip (signAt l k n)) eq) in
+      let one : Adds (only (first + n) (flipped b (plainChip (signAt l (h .sequence) n)))) t u = rw (← eg, ← e) w in
       record { done = omega arith; size = a .size; added = adds-same (upto-more n r) (adds-then (a .added) one) }
 
   pub add-finish : {n : ℕ} {s t : List ℕ} → Added l h b n s t → l ≤ n → Adds (ownPart l h b) s t
   add-finish {n = n} a r = let e : n ≡ l = omega (arith, a .done) in adds-same upto-all (rw e at (a .added))
 
--- a chip can be turned, and is small then
-pub turned-chip : (l q n b : ℕ) {chip d : Pair} → chip ≡ plainChip (signAt l q n) → d ≡ turned b chip → Small 127 d
-turned-chip l q n b {chip} e f = rw f (turned-small b 127 chip (chip-turns l q n e))
+-- a chip can be flipped, and is small then
+pub flipped-chip : (l q n b : ℕ) {chip d : Pair} → chip ≡ plainChip (signAt l q n) → d ≡ flipped b chip → Small 127 d
+flipped-chip l q n b {chip} e f = rw f (flipped-small b 127 chip (chip-flips l q n e))

@@ -1,4 +1,4 @@
--- One HI's part at a place: by its group's places, as a turned wave, and that it is at most 1 either way. Assumes nothing.
+-- One HI's part at a place: by its group's places, as a flipped wave, and that it is at most 1 either way. Assumes nothing.
 use Prim.Native.Nat.{ℕ, zero, suc, _+_, _-_, _*_, _/_, _%_, _≤_, _<_}
 use mathlib.Core.Path.{_≡_, refl, sym, ap, ap₂, _∙_, subst}
 use mathlib.Core.Bool.{Bool, true, false, cond, _&&_}
@@ -10,10 +10,10 @@ use lib.Dec.{T, eqb, leb, ltb, leb→le, ltb→lt}
 use lib.Ieee.Fits.{and-l, and-r}
 use lib.IntN.{natAbs}
 use Rattle.base.specs.declared.Pair.{Pair}
-use Rattle.base.specs.Pairs.{nil, turned, Small}
+use Rattle.base.specs.Pairs.{nil, flipped, Small}
 use Rattle.base.proofs.Computed.{every, every-at}
 use Rattle.base.proofs.Fits.{abs-add, abs-minus}
-use Rattle.base.proofs.Pairs.{turned-nil, turned-small}
+use Rattle.base.proofs.Pairs.{flipped-nil, flipped-small}
 use Rattle.phich.specs.declared.SignPair.{SignPair}
 use Rattle.plan.specs.declared.Hi.{Hi}
 use Rattle.phich.specs.Spreading.{Length, «±0», normal, extended, sequences, signAt, plainChip, chipAt}
@@ -39,13 +39,13 @@ module _ (l : ℕ) (c : ℕ → ℕ) (h : Hi) (b i : ℕ) where
   unfolding has
   part-above j k = has-not l c h b i (ap₂ (λ (t u : Bool). t && u) (le-leb (firstPlace l h) (i % 4) j) (le-ltb (i % 4) (firstPlace l h + l) (omega arith)))
 
-  pub part-in : firstPlace l h ≤ i % 4 → i % 4 - firstPlace l h < l → partAt l c h b i ≡ turned (c (chipNumber l h i)) (turned b (plainChip (signAt l (h .sequence) (i % 4 - firstPlace l h))))
+  pub part-in : firstPlace l h ≤ i % 4 → i % 4 - firstPlace l h < l → partAt l c h b i ≡ flipped (c (chipNumber l h i)) (flipped b (plainChip (signAt l (h .sequence) (i % 4 - firstPlace l h))))
   unfolding has chipAt
   part-in j k =
       has-so l c h b i (ap₂ (λ (t u : Bool). t && u) (le-leb (firstPlace l h) (i % 4) j) (lt-ltb (i % 4) (firstPlace l h + l) (omega arith)))
-      ∙ ap (λ (n : ℕ). turned (c (chipNumber l h i)) (turned b (plainChip (signAt l (h .sequence) n)))) (chip-mod l (i / 4) (i % 4 - firstPlace l h) k)
+      ∙ ap (λ (n : ℕ). flipped (c (chipNumber l h i)) (flipped b (plainChip (signAt l (h .sequence) n)))) (chip-mod l (i / 4) (i % 4 - firstPlace l h) k)
 
--- ---- the same scrambling bit for each group: a wave, without bit and scrambling, and its turns
+-- ---- the same scrambling bit for each group: a wave, without bit and scrambling, and its flips
 -- sequence q from the first place f on, at place i
 unfoldable pub waveAt : ℕ → ℕ → ℕ → ℕ → Pair
 waveAt l f q i = cond (leb f (i % 4) && ltb (i % 4) (f + l)) (plainChip (signAt l q (i % 4 - f))) nil
@@ -55,18 +55,18 @@ inside f t l e =
     let y : T (leb f t && ltb t (f + l)) = subst T (sym e) tt in
     (leb→le f t (and-l (leb f t) (ltb t (f + l)) y), ltb→lt t (f + l) (and-r (leb f t) (ltb t (f + l)) y))
 
-pub part-wave : (l : ℕ) → Length l → (c : ℕ → ℕ) (h : Hi) (b i : ℕ) → partAt l c h b i ≡ turned (c (i / 4 * l + i % 4 % l)) (turned b (waveAt l (firstPlace l h) (h .sequence) i))
+pub part-wave : (l : ℕ) → Length l → (c : ℕ → ℕ) (h : Hi) (b i : ℕ) → partAt l c h b i ≡ flipped (c (i / 4 * l + i % 4 % l)) (flipped b (waveAt l (firstPlace l h) (h .sequence) i))
 unfolding partAt has waveAt chipAt firstPlace
 part-wave l ok c h b i = pick (leb (firstPlace l h) (i % 4) && ltb (i % 4) (firstPlace l h + l)) refl
   where
     pick :
-        (t : Bool) → (leb (firstPlace l h) (i % 4) && ltb (i % 4) (firstPlace l h + l)) ≡ t → cond t (chipAt l c (h .sequence) b (chipNumber l h i)) nil ≡ turned
-        (c (i / 4 * l + i % 4 % l)) (turned b (cond t (plainChip (signAt l (h .sequence) (i % 4 - firstPlace l h))) nil))
+        (t : Bool) → (leb (firstPlace l h) (i % 4) && ltb (i % 4) (firstPlace l h + l)) ≡ t → cond t (chipAt l c (h .sequence) b (chipNumber l h i)) nil ≡ flipped
+        (c (i / 4 * l + i % 4 % l)) (flipped b (cond t (plainChip (signAt l (h .sequence) (i % 4 - firstPlace l h))) nil))
     pick true s =
         let w = inside (firstPlace l h) (i % 4) l s in
         let m : i % 4 - firstPlace l h ≡ i % 4 % l = place-mod l ok (h .group) (i % 4) (omega arith) (w .0) (w .1) in
-        ap₂ (λ (x y : ℕ). turned (c (i / 4 * l + x)) (turned b (plainChip (signAt l (h .sequence) y)))) m (chip-mod l (i / 4) (i % 4 - firstPlace l h) (omega arith))
-    pick false s = sym (ap (turned (c (i / 4 * l + i % 4 % l))) (turned-nil b) ∙ turned-nil (c (i / 4 * l + i % 4 % l)))
+        ap₂ (λ (x y : ℕ). flipped (c (i / 4 * l + x)) (flipped b (plainChip (signAt l (h .sequence) y)))) m (chip-mod l (i / 4) (i % 4 - firstPlace l h) (omega arith))
+    pick false s = sym (ap (flipped (c (i / 4 * l + i % 4 % l))) (flipped-nil b) ∙ flipped-nil (c (i / 4 * l + i % 4 % l)))
 
 -- ---- sizes: every entry of a table is 1, -1, j or -j, by one test over the tables
 abbrev unit : SignPair → Bool
@@ -114,14 +114,14 @@ chip-small l q t =
     let w = signAt l q t in
     (omega (arith, entry l q t, abs-minus (w .re) (w .im)), omega (arith, entry l q t, abs-add (w .re) (w .im)))
 
--- none is -128, so its signs can be turned
-pub chip-turns : (l q t : ℕ) {p : Pair} → p ≡ plainChip (signAt l q t) → Small 127 p
-chip-turns l q t e = let s = chip-small l q t in rw e (omega (arith, s .0), omega (arith, s .1))
+-- none is -128, so its signs can be flipped
+pub chip-flips : (l q t : ℕ) {p : Pair} → p ≡ plainChip (signAt l q t) → Small 127 p
+chip-flips l q t e = let s = chip-small l q t in rw e (omega (arith, s .0), omega (arith, s .1))
 
 pub part-small : (l : ℕ) (c : ℕ → ℕ) (h : Hi) (b i : ℕ) → Small 1 (partAt l c h b i)
 unfolding partAt chipAt
 part-small l c h b i = pick (has l h i)
   where
     pick : (t : Bool) → Small 1 (cond t (chipAt l c (h .sequence) b (chipNumber l h i)) nil)
-    pick true = turned-small (c (chipNumber l h i)) 1 _ (turned-small b 1 _ (chip-small l (h .sequence) ((chipNumber l h i) % l)))
+    pick true = flipped-small (c (chipNumber l h i)) 1 _ (flipped-small b 1 _ (chip-small l (h .sequence) ((chipNumber l h i) % l)))
     pick false = (omega arith, omega arith)

@@ -14,8 +14,8 @@ use mir.Syntax.{w16}
 use mir.Val.{SFits, toZ, ofZ}
 use mir.Facts.{toZ-ofZ}
 use Rattle.base.specs.declared.Pair.{Pair}
-use Rattle.base.specs.Signs.{turn, below}
-use Rattle.base.specs.Pairs.{nil, turned}
+use Rattle.base.specs.Signs.{flip, below}
+use Rattle.base.specs.Pairs.{nil, flipped}
 use Rattle.base.proofs.Fits.{abs-add, fits-abs, below-yes, below-not}
 use Rattle.base.proofs.Tables.{table-at}
 use Rattle.plan.specs.declared.Hi.{Hi}
@@ -24,7 +24,7 @@ use Rattle.phich.specs.Units.{mappingUnit, firstPlace, partAt}
 use Rattle.phich.specs.Recovery.{dot, total, along, bitIn}
 use Rattle.phich.specs.Loops.{levelsAt, quadOf}
 use Rattle.phich.proofs.Lengths.{by-length}
-use Rattle.phich.proofs.Correlation.{turned-dot, total-same}
+use Rattle.phich.proofs.Correlation.{flipped-dot, total-same}
 use Rattle.phich.proofs.Parts.{part-below, part-above, part-in}
 use Rattle.phich.proofs.Along.{along-same}
 use Rattle.phich.proofs.Own.{group-fits}
@@ -61,7 +61,7 @@ window l ok g f u =
 
 -- the product along chip n of the HI h, scrambled
 abbrev term : ℕ → (ℕ → ℕ) → Hi → List ℕ → ℕ → ℤ
-term l c h s n = dot (turned (c n) (plainChip (signAt l (h .sequence) n))) (levelsAt s (h .group * l + n))
+term l c h s n = dot (flipped (c n) (plainChip (signAt l (h .sequence) n))) (levelsAt s (h .group * l + n))
 
 module _ (l : ℕ) (c : ℕ → ℕ) (h : Hi) (ok : Length l) (s : List ℕ) where
   abbrev place : ℕ → ℤ
@@ -78,7 +78,7 @@ module _ (l : ℕ) (c : ℕ → ℕ) (h : Hi) (ok : Length l) (s : List ℕ) whe
       let x : i / 4 * l + (i % 4 - a % 4) ≡ n = ap₂ (λ (u v : ℕ). u * l + v) z e ∙ omega (arith, zero-mul l) in
       let y : 4 * (a / 4) + i ≡ a + n = omega arith in
       ap₂ dot
-      (part-in l c h 0 i (omega (arith, f)) (omega (arith, f)) ∙ ap₂ (λ (u v : ℕ). turned (c u) (plainChip (signAt l (h .sequence) v))) x e)
+      (part-in l c h 0 i (omega (arith, f)) (omega (arith, f)) ∙ ap₂ (λ (u v : ℕ). flipped (c u) (plainChip (signAt l (h .sequence) v))) x e)
       (ap (levelsAt s) y)
 
   -- THE LAW: along the HI are its own places alone
@@ -109,11 +109,11 @@ module _ {l : ℕ} {c : ℕ → ℕ} {h : Hi} {s : List ℕ} where
 
     pub next :
         {q g b : ℕ} {chip p : Pair} {z : ℤ} → q ≡ h .sequence → chip ≡ plainChip (signAt l q n) → g ≡ h .group → p ≡ levelsAt s (g * l + n)
-        → z ≡ dot chip p → b ≡ c n → d ≡ turn b z → Totalled l c h s (toZ w16 (ofZ w16 (x +ℤ toZ w16 (ofZ w16 d)))) (n + 1)
+        → z ≡ dot chip p → b ≡ c n → d ≡ flip b z → Totalled l c h s (toZ w16 (ofZ w16 (x +ℤ toZ w16 (ofZ w16 d)))) (n + 1)
     unfolding total
     next eq ec eg ep ez eb ed =
         let e = ez ∙ ap₂ dot (ec ∙ ap (λ (k : ℕ). plainChip (signAt l k n)) eq) (ep ∙ ap (λ (k : ℕ). levelsAt s (k * l + n)) eg) in
-        let f = ed ∙ ap₂ turn eb e ∙ sym (turned-dot (c n) (plainChip (signAt l (h .sequence) n)) (levelsAt s (h .group * l + n))) in
+        let f = ed ∙ ap₂ flip eb e ∙ sym (flipped-dot (c n) (plainChip (signAt l (h .sequence) n)) (levelsAt s (h .group * l + n))) in
         record {
           done = omega arith;
           value = next-is ∙ ap₂ (λ (u v : ℤ). u +ℤ v) (t .value) f ∙ ap (λ (k : ℕ). total k (term l c h s)) (sym (add-one n));

@@ -7,8 +7,8 @@ use native.Mathlib.Nat.{not-suc-le-zero, le-of-suc-le-suc, add-zero}
 use native.Mathlib.Omega.{arith}
 use lib.ListN.{length}
 use lib.IntN.{ℤ, pos, _+ℤ_, +ℤ-idl, +ℤ-idr}
-use Rattle.base.specs.Signs.{turn, below}
-use Rattle.base.proofs.Signs.{turn-zero}
+use Rattle.base.specs.Signs.{flip, below}
+use Rattle.base.proofs.Signs.{flip-zero}
 use Rattle.plan.specs.declared.Hi.{Hi}
 use Rattle.phich.specs.His.{hiNumber, Fresh, Distinct}
 use Rattle.phich.specs.Spreading.{Length}
@@ -45,26 +45,26 @@ module _ (l : ℕ) (ok : Length l) (c : ℕ → ℕ) where
   none-along g wg bit [] k w f = along-nil l c g
   none-along g wg bit (h ∷ hs) k w f =
       along-sum l c g (mappingUnit l g) bit h hs k
-      ∙ ap₂ (λ (x y : ℤ). turn (bit k) x +ℤ y) (apart l ok c g h wg (w .0) (f .0)) (none-along g wg bit hs (suc k) (w .1) (f .1))
-      ∙ ap (λ (x : ℤ). x +ℤ pos 0) (turn-zero (bit k))
+      ∙ ap₂ (λ (x y : ℤ). flip (bit k) x +ℤ y) (apart l ok c g h wg (w .0) (f .0)) (none-along g wg bit hs (suc k) (w .1) (f .1))
+      ∙ ap (λ (x : ℤ). x +ℤ pos 0) (flip-zero (bit k))
 
   -- g is number n: its bit, times the square
-  one-along : {hs : List Hi} {k n : ℕ} {g : Hi} (bit : ℕ → ℕ) → Within l hs → Distinct hs → Stands hs k g n → along l c g (λ i. sumAt l c (mappingUnit l g) bit i hs k) ≡ turn (bit n) (pos (2 * l))
+  one-along : {hs : List Hi} {k n : ℕ} {g : Hi} (bit : ℕ → ℕ) → Within l hs → Distinct hs → Stands hs k g n → along l c g (λ i. sumAt l c (mappingUnit l g) bit i hs k) ≡ flip (bit n) (pos (2 * l))
   unfolding Within Distinct
   one-along {g = g} bit w d (here {hs = hs} {k = k}) =
       along-sum l c g (mappingUnit l g) bit g hs k
-      ∙ ap₂ (λ (x y : ℤ). turn (bit k) x +ℤ y) (square l ok c g (w .0)) (none-along g (w .0) bit hs (suc k) (w .1) (d .0))
-      ∙ +ℤ-idr (turn (bit k) (pos (2 * l)))
+      ∙ ap₂ (λ (x y : ℤ). flip (bit k) x +ℤ y) (square l ok c g (w .0)) (none-along g (w .0) bit hs (suc k) (w .1) (d .0))
+      ∙ +ℤ-idr (flip (bit k) (pos (2 * l)))
   one-along {n = n} {g = g} bit w d (later {x = x} {hs = hs} {k = k} s) =
       along-sum l c g (mappingUnit l g) bit x hs k
-      ∙ ap₂ (λ (x y : ℤ). turn (bit k) x +ℤ y) (apart l ok c g x (within-at l (w .1) s) (w .0) (fresh-apart x (d .0) s)) (one-along bit (w .1) (d .1) s)
-      ∙ ap (λ (x : ℤ). x +ℤ turn (bit n) (pos (2 * l))) (turn-zero (bit k))
-      ∙ +ℤ-idl (turn (bit n) (pos (2 * l)))
+      ∙ ap₂ (λ (x y : ℤ). flip (bit k) x +ℤ y) (apart l ok c g x (within-at l (w .1) s) (w .0) (fresh-apart x (d .0) s)) (one-along bit (w .1) (d .1) s)
+      ∙ ap (λ (x : ℤ). x +ℤ flip (bit n) (pos (2 * l))) (flip-zero (bit k))
+      ∙ +ℤ-idl (flip (bit n) (pos (2 * l)))
 
-below-turn : (b n : ℕ) → b ≤ 1 → 0 < n → below (turn b (pos n)) ≡ b
-below-turn b zero hb hn = absurd (not-suc-le-zero hn)
-below-turn zero (suc n) hb hn = refl
-below-turn (suc b) (suc n) hb hn = omega arith
+below-flip : (b n : ℕ) → b ≤ 1 → 0 < n → below (flip b (pos n)) ≡ b
+below-flip b zero hb hn = absurd (not-suc-le-zero hn)
+below-flip zero (suc n) hb hn = refl
+below-flip (suc b) (suc n) hb hn = omega arith
 
 -- the law, read as a bit
 pub below-along :
@@ -73,4 +73,4 @@ pub below-along :
 below-along l ok c hs n w d bit b r =
     let e : 0 + n ≡ n = omega arith in
     ap below (one-along l ok c bit w d (subst (λ (i : ℕ). Stands hs 0 (hiNumber hs n) i) e (stands hs 0 n r)))
-    ∙ below-turn (bit n) (2 * l) b (omega arith)
+    ∙ below-flip (bit n) (2 * l) b (omega arith)

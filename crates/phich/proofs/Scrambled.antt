@@ -1,4 +1,4 @@
--- Scrambling distributes over sums: the twelve sums of a unit are those of one quad, each turned by the scrambling bit of its place, which is the
+-- Scrambling distributes over sums: the twelve sums of a unit are those of one quad, each flipped by the scrambling bit of its place, which is the
 -- same for both groups of a unit. So they come from the bytes of the unit's quad. Assumes nothing.
 use Prim.Native.Nat.{ℕ, suc, _+_, _-_, _*_, _/_, _%_, _<_}
 use mathlib.Core.Path.{_≡_, sym, ap, ap₂, _∙_, subst}
@@ -11,9 +11,9 @@ use lib.ListN.{length, getD, take, drop, length-drop}
 use lib.Seq.{getD-take, getD-drop, length-take-le}
 use Rattle.base.specs.declared.Pair.{Pair}
 use Rattle.base.specs.Bytes.{signedOf}
-use Rattle.base.specs.Pairs.{nil, plus, turned, Small}
-use Rattle.base.proofs.Pairs.{pair-of, turned-nil}
-use Rattle.base.proofs.Signs.{turn-add}
+use Rattle.base.specs.Pairs.{nil, plus, flipped, Small}
+use Rattle.base.proofs.Pairs.{pair-of, flipped-nil}
+use Rattle.base.proofs.Signs.{flip-add}
 use Rattle.plan.specs.declared.Hi.{Hi}
 use Rattle.phich.specs.His.{Distinct}
 use Rattle.phich.specs.Spreading.{Length, signAt, plainChip}
@@ -26,8 +26,8 @@ use Rattle.phich.proofs.Parts.{waveAt, part-wave}
 use Rattle.phich.proofs.Residues.{residue-back}
 use Rattle.phich.proofs.Units.{sum-small, agreed}
 
-turned-plus : (b : ℕ) (p q : Pair) → turned b (plus p q) ≡ plus (turned b p) (turned b q)
-turned-plus b p q = pair-of (turn-add b (p .re) (q .re)) (turn-add b (p .im) (q .im))
+flipped-plus : (b : ℕ) (p q : Pair) → flipped b (plus p q) ≡ plus (flipped b p) (flipped b q)
+flipped-plus b p q = pair-of (flip-add b (p .re) (q .re)) (flip-add b (p .im) (q .im))
 
 module _ (l : ℕ) (ok : Length l) (c : ℕ → ℕ) where
   -- the wave is that of the place's place in its quad
@@ -37,27 +37,27 @@ module _ (l : ℕ) (ok : Length l) (c : ℕ → ℕ) where
       let e : i % 4 ≡ i % 4 % 4 = omega arith in
       ap (λ (t : ℕ). cond (leb f t && ltb t (f + l)) (plainChip (signAt l q (t - f))) nil) e
 
-  part-turned : (h : Hi) (b i : ℕ) → partAt l c h b i ≡ turned (c (chipOf l i)) (partAt l unscrambled h b (i % 4))
-  part-turned h b i =
+  part-flipped : (h : Hi) (b i : ℕ) → partAt l c h b i ≡ flipped (c (chipOf l i)) (partAt l unscrambled h b (i % 4))
+  part-flipped h b i =
       part-wave l ok c h b i
-      ∙ ap (λ (p : Pair). turned (c (chipOf l i)) (turned b p)) (same-wave (firstPlace l h) (h .sequence) i)
-      ∙ ap (turned (c (chipOf l i))) (sym (part-wave l ok unscrambled h b (i % 4)))
+      ∙ ap (λ (p : Pair). flipped (c (chipOf l i)) (flipped b p)) (same-wave (firstPlace l h) (h .sequence) i)
+      ∙ ap (flipped (c (chipOf l i))) (sym (part-wave l ok unscrambled h b (i % 4)))
 
-  added-turned : (m : ℕ) (h : Hi) (b i : ℕ) → addedAt l c m h b i ≡ turned (c (chipOf l i)) (addedAt l unscrambled m h b (i % 4))
+  added-flipped : (m : ℕ) (h : Hi) (b i : ℕ) → addedAt l c m h b i ≡ flipped (c (chipOf l i)) (addedAt l unscrambled m h b (i % 4))
   unfolding addedAt
-  added-turned m h b i = pick (eqb (mappingUnit l h) m)
+  added-flipped m h b i = pick (eqb (mappingUnit l h) m)
     where
-      pick : (t : Bool) → cond t (partAt l c h b i) nil ≡ turned (c (chipOf l i)) (cond t (partAt l unscrambled h b (i % 4)) nil)
-      pick true = part-turned h b i
-      pick false = sym (turned-nil (c (chipOf l i)))
+      pick : (t : Bool) → cond t (partAt l c h b i) nil ≡ flipped (c (chipOf l i)) (cond t (partAt l unscrambled h b (i % 4)) nil)
+      pick true = part-flipped h b i
+      pick false = sym (flipped-nil (c (chipOf l i)))
 
   -- THE LAW
-  sum-turned : (m : ℕ) (bit : ℕ → ℕ) (i : ℕ) (hs : List Hi) (k : ℕ) → sumAt l c m bit i hs k ≡ turned (c (chipOf l i)) (sumAt l unscrambled m bit (i % 4) hs k)
+  sum-flipped : (m : ℕ) (bit : ℕ → ℕ) (i : ℕ) (hs : List Hi) (k : ℕ) → sumAt l c m bit i hs k ≡ flipped (c (chipOf l i)) (sumAt l unscrambled m bit (i % 4) hs k)
   unfolding sumAt
-  sum-turned m bit i [] k = sym (turned-nil (c (chipOf l i)))
-  sum-turned m bit i (h ∷ hs) k =
-      ap₂ plus (added-turned m h (bit k) i) (sum-turned m bit i hs (suc k))
-      ∙ sym (turned-plus (c (chipOf l i)) (addedAt l unscrambled m h (bit k) (i % 4)) (sumAt l unscrambled m bit (i % 4) hs (suc k)))
+  sum-flipped m bit i [] k = sym (flipped-nil (c (chipOf l i)))
+  sum-flipped m bit i (h ∷ hs) k =
+      ap₂ plus (added-flipped m h (bit k) i) (sum-flipped m bit i hs (suc k))
+      ∙ sym (flipped-plus (c (chipOf l i)) (addedAt l unscrambled m h (bit k) (i % 4)) (sumAt l unscrambled m bit (i % 4) hs (suc k)))
 
 -- ---- the eight bytes of unit m
 pub part-is : (m : ℕ) (s : List ℕ) → take (8 * m + 8 - 8 * m) (drop (8 * m) s) ≡ take 8 (drop (8 * m) s)
@@ -103,7 +103,7 @@ module _ {l : ℕ} {bit : ℕ → ℕ} {hs : List Hi} {s : List ℕ} (q : QuadSu
   unfolding scrambledSums mappingUnitSums
   unit-scrambled c =
       table-agree nil 12 _ _ (λ i r.
-      ap (turned (c (chipOf l i))) (levels-are (i % 4) (omega arith)) ∙ sym (sum-turned l ok c m bit i hs 0))
+      ap (flipped (c (chipOf l i))) (levels-are (i % 4) (omega arith)) ∙ sym (sum-flipped l ok c m bit i hs 0))
 
 -- ---- the same bits make the same sums
 pub quads-same : {l : ℕ} {bit bit′ : ℕ → ℕ} {hs : List Hi} {s : List ℕ} → ((n : ℕ) → n < length hs → bit n ≡ bit′ n) → QuadSums l bit hs s → QuadSums l bit′ hs s
@@ -119,4 +119,4 @@ quads-same {l = l} {bit = bit} {bit′ = bit′} {hs = hs} same q =
 pub scrambled-chips : (l : ℕ) → Length l → (c c′ : ℕ → ℕ) → ((e : ℕ) → e < 12 → c e ≡ c′ e) → (part : List ℕ) → scrambledSums l c part ≡ scrambledSums l c′ part
 unfolding scrambledSums
 scrambled-chips l ok c c′ same part =
-    table-agree nil 12 _ _ (λ i r. ap (λ (x : ℕ). turned x (levelsAt part (i % 4))) (same (chipOf l i) (chip-lt l ok i (i % 4 % l) r (mod-lt (i % 4) (ok .0)))))
+    table-agree nil 12 _ _ (λ i r. ap (λ (x : ℕ). flipped x (levelsAt part (i % 4))) (same (chipOf l i) (chip-lt l ok i (i % 4 % l) r (mod-lt (i % 4) (ok .0)))))

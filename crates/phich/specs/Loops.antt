@@ -8,10 +8,10 @@ use lib.ListN.{length, getD, drop}
 use lib.IntN.{ℤ, pos, negsuc}
 use Rattle.base.specs.declared.Pair.{Pair}
 use Rattle.base.specs.Bytes.{signedOf}
-use Rattle.base.specs.Pairs.{nil, plus, turned, Small}
+use Rattle.base.specs.Pairs.{nil, plus, flipped, Small}
 use Rattle.base.specs.Tables.{table}
 use Rattle.plan.specs.declared.Hi.{Hi}
-use Rattle.plan.specs.Rows.{hisFrom}
+use Rattle.plan.specs.CommandLists.{hisFrom}
 use Rattle.phich.specs.His.{hiNumber}
 use Rattle.phich.specs.declared.SignPair.{SignPair}
 use Rattle.phich.specs.Spreading.{Length, «±0», signAt}
@@ -88,4 +88,4 @@ pub record Levels (n : ℕ) (part : List ℕ) : Type 0 where
 
 -- the unit's twelve sums, scrambled
 unfoldable pub scrambledSums : ℕ → (ℕ → ℕ) → List ℕ → List Pair
-scrambledSums l x part = table 12 (λ (i : ℕ). turned (x (chipOf l i)) (levelsAt part (i % 4)))
+scrambledSums l x part = table 12 (λ (i : ℕ). flipped (x (chipOf l i)) (levelsAt part (i % 4)))

@@ -8,7 +8,7 @@ use lib.Dec.{eqb}
 use lib.IntN.{pos, negsuc, _+ℤ_, _-ℤ_}
 use Rattle.base.specs.Choice.{if_then_else_}
 use Rattle.base.specs.declared.Pair.{Pair}
-use Rattle.base.specs.Pairs.{turned}
+use Rattle.base.specs.Pairs.{flipped}
 use Rattle.base.specs.Digits.{dig}
 use Rattle.plan.specs.declared.Cell.{Cell}
 use Rattle.phich.specs.declared.SignPair.{SignPair}
@@ -62,7 +62,7 @@ plainChip w = record { re = w .re -ℤ w .im; im = w .re +ℤ w .im }
 -- d(e) = w(e mod N_SF) (1 - 2c(e)) z(floor(e / N_SF)), the chip e of the sequence q: a bit b is sent three times, so that z
 -- is the same for each of the 3 N_SF chips
 unfoldable pub chipAt : ℕ → (ℕ → ℕ) → ℕ → ℕ → ℕ → Pair
-chipAt l c q b e = turned (c e) (turned b (plainChip (signAt l q (e % l))))
+chipAt l c q b e = flipped (c e) (flipped b (plainChip (signAt l q (e % l))))
 
 -- the scrambling bits c(0), .., c(11) as the twelve low bits of a word, c(0) the most significant
 unfoldable pub wordBit : ℕ → ℕ → ℕ

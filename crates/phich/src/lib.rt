@@ -10,11 +10,11 @@ ghost use mathlib.Core.Path.{_≡_};
 ghost use Prim.Native.Nat.{ℕ, _+_, _*_, _/_, _%_, _≤_, _<_};
 ghost use lib.ListN.{length, drop};
 ghost use lib.IntN.{natAbs};
-ghost use Rattle.base.specs.Signs.{turn, by as bySign};
+ghost use Rattle.base.specs.Signs.{flip, by as bySign};
 ghost use Rattle.base.specs.Pairs.{Small};
 ghost use Rattle.base.specs.Bits.{bitAt};
 ghost use Rattle.base.specs.Tables.{table};
-ghost use Rattle.plan.specs.Rows.{hisFrom};
+ghost use Rattle.plan.specs.CommandLists.{hisFrom};
 ghost use Rattle.phich.specs.Spreading.{Length, plainChip, wordBit};
 ghost use Rattle.phich.specs.Units.{mappingUnit};
 ghost use Rattle.phich.specs.Recovery.{dot as dotOf, bitIn};
@@ -126,7 +126,7 @@ fn add_hi(sums: &mut [u8; 200], l: usize, h: Hi, b: u8)
     let mut n: usize = 0;
     while n < l {
         let chip = plain_chip(row[n]);
-        add_at(sums, base::wide(h.group) * l + n, base::turned(b, chip));
+        add_at(sums, base::wide(h.group) * l + n, base::flipped(b, chip));
         n += 1;
     }
 }
@@ -157,7 +157,7 @@ pub fn unit_sums(l: usize, w: u32, part: &[u8]) -> [Pair; 12]
     while i < 12 {
         let s = scrambling(w, chip_of(l, i));
         let d = levels_at(part, i % 4);
-        sums[i] = base::turned(s, d);
+        sums[i] = base::flipped(s, d);
         i += 1;
     }
     sums
@@ -182,10 +182,10 @@ fn dot(s: Pair, p: Pair) -> i16
     by(a, p.re) + by(b, p.im)
 }
 
-// A product turned by its scrambling bit. It is of sixteen bits, as a level of -128 in a grid has no negative of eight.
-fn turned_by(b: u8, z: i16) -> i16
+// A product, its sign flipped by its scrambling bit. It is of sixteen bits, as a level of -128 in a grid has no negative of eight.
+fn flipped_by(b: u8, z: i16) -> i16
     requires { ⌜ natAbs z ≤ 256 ⌝ }
-    ensures { λ r. ⌜ (r ≡ turn b z) × (natAbs r ≤ 256) ⌝ }
+    ensures { λ r. ⌜ (r ≡ flip b z) × (natAbs r ≤ 256) ⌝ }
 {
     if b == 0 { z } else { -z }
 }
@@ -201,7 +201,7 @@ pub fn bit_of(l: usize, w: u32, h: Hi, first: &[u8; 200]) -> u8
     while n < l {
         let chip = plain_chip(row[n]);
         let p = levels_at(first, base::wide(h.group) * l + n);
-        let d = turned_by(scrambling(w, n), dot(chip, p));
+        let d = flipped_by(scrambling(w, n), dot(chip, p));
         t += d;
         n += 1;
     }

@@ -1,4 +1,4 @@
--- The tests of the program: what `known`, `ready` and `turns` have seen. Assumes nothing.
+-- The tests of the program: what `known`, `ready` and `flips` have seen. Assumes nothing.
 use Prim.Native.Nat.{ℕ, _+_, _-_, _*_, _≤_, _<_}
 use mathlib.Core.Path.{_≡_, refl, sym}
 use mathlib.Core.Bool.{Bool, true, false, not, cond}
@@ -14,7 +14,7 @@ use lib.ListN.{length, getD, drop}
 use Rattle.base.specs.Bytes.{signedOf}
 use Rattle.plan.specs.declared.Hi.{Hi}
 use Rattle.plan.specs.Commands.{hiOf}
-use Rattle.plan.specs.Rows.{hisFrom, nextOf}
+use Rattle.plan.specs.CommandLists.{hisFrom, nextOf}
 use Rattle.phich.specs.His.{hiNumber}
 use Rattle.phich.specs.Spreading.{Length}
 use Rattle.phich.specs.Units.{mappingUnit}
@@ -54,17 +54,17 @@ next {l = l} {plan = plan} {count = count} {from = from} {k = k} t r {h = h} eh 
 pub finish : {l : ℕ} {plan : List ℕ} {count from k : ℕ} → Known l plan count from k → count ≤ k → HisIn l plan 0 count
 finish t r = record { each = λ n q. t .each n (omega arith) }
 
--- ---- `turns`: the bytes below i are not -128
-pub record Turned (part : List ℕ) (i : ℕ) : Type 0 where
+-- ---- `flips`: the bytes below i are not -128
+pub record Flips (part : List ℕ) (i : ℕ) : Type 0 where
   pub size : length part ≡ 8
   pub done : i ≤ 8
   pub each : (j : ℕ) → j < i → (getD part j 0 < 256) × (getD part j 0 ≡ 128 → ⊥)
 
-pub turned-none : {part : List ℕ} → length part ≡ 8 → Turned part 0
-turned-none e = record { size = e; done = omega arith; each = λ j r. absurd (not-suc-le-zero r) }
+pub flips-none : {part : List ℕ} → length part ≡ 8 → Flips part 0
+flips-none e = record { size = e; done = omega arith; each = λ j r. absurd (not-suc-le-zero r) }
 
-pub turned-more : {part : List ℕ} {i : ℕ} → Turned part i → i < 8 → getD part i 0 < 256 → (getD part i 0 ≡ 128 → ⊥) → Turned part (i + 1)
-turned-more t r b n = record { size = t .size; done = omega arith; each = below-more _ _ (t .each) (b, n) }
+pub flips-more : {part : List ℕ} {i : ℕ} → Flips part i → i < 8 → getD part i 0 < 256 → (getD part i 0 ≡ 128 → ⊥) → Flips part (i + 1)
+flips-more t r b n = record { size = t .size; done = omega arith; each = below-more _ _ (t .each) (b, n) }
 
 small-level : (b : ℕ) → b < 256 → (b ≡ 128 → ⊥) → natAbs (signedOf b) ≤ 127
 small-level b r n = pick (ltb b 128) refl
@@ -73,8 +73,8 @@ small-level b r n = pick (ltb b 128) refl
     pick true e = omega (arith, ltb-true b 128 e)
     pick false e = omega (arith, ltb-false b 128 e, n)
 
-pub turned-all : {part : List ℕ} {i : ℕ} → Turned part i → 8 ≤ i → Levels 127 part
-turned-all {part = part} {i = n} t r = record { size = t .size; small = λ i k. (level (2 * i) (omega arith), level (2 * i + 1) (omega arith)) }
+pub flips-all : {part : List ℕ} {i : ℕ} → Flips part i → 8 ≤ i → Levels 127 part
+flips-all {part = part} {i = n} t r = record { size = t .size; small = λ i k. (level (2 * i) (omega arith), level (2 * i + 1) (omega arith)) }
   where
     level : (j : ℕ) → j < 8 → natAbs (signedOf (getD part j 0)) ≤ 127
     level j k = let e = t .each j (omega arith) in small-level (getD part j 0) (e .0) (e .1)

@@ -130,8 +130,8 @@ fn sum(l: usize, plan: &[u8], count: usize, bits: &[u8], sums: &mut [u8; 200])
     }
 }
 
-// Whether the eight bytes of a unit can be turned: none of them is -128.
-fn turns(part: &[u8]) -> bool
+// Whether the eight bytes of a unit can be flipped: none of them is -128.
+fn flips(part: &[u8]) -> bool
     ensures { λ r. ⌜ (r ≡ true → Levels 127 (now (part .entry))) ⌝ }
 {
     if part.len() != 8 {
@@ -150,7 +150,7 @@ fn turns(part: &[u8]) -> bool
 fn unit(l: usize, w: u32, part: &[u8]) -> [Pair; 12]
     requires { ⌜ Length l ⌝ }
 {
-    if turns(part) {
+    if flips(part) {
         return phich::unit_sums(l, w, part);
     }
     [Pair { re: 0, im: 0 }; 12]

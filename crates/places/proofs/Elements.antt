@@ -6,7 +6,7 @@ use mathlib.Core.List.{List}
 use native.Mathlib.Nat.{suc-mul, zero-mul}
 use native.Mathlib.Omega.{arith}
 use Rattle.plan.specs.declared.Plan.{Plan}
-use Rattle.base.specs.Choice.{one}
+use Rattle.base.specs.Choice.{indicator}
 use Rattle.layout.specs.Owners.{symbols, carriers, owns}
 use Rattle.layout.specs.declared.Owner.{Owner}
 use Rattle.counts.specs.Sums.{sumTo}
@@ -16,17 +16,17 @@ use Rattle.places.specs.Places.{placeNumber, placesOf, ownsAt}
 use Rattle.base.proofs.Counts.{cnt-add}
 use Rattle.places.proofs.Numbers.{owns-at}
 
-as-one : (b : Bool) → cond b 1 0 ≡ one b
+as-one : (b : Bool) → cond b 1 0 ≡ indicator b
 as-one true = refl
 as-one false = refl
 
 module _ (w : List ℕ) (p : Plan) (o : Owner) where
-  row : (s d : ℕ) → d ≤ carriers (p .cell) → cnt (λ (k : ℕ). ownsAt w p o (placeNumber (p .cell) s k)) d ≡ sumTo d (λ k. one (owns w p o s k))
+  row : (s d : ℕ) → d ≤ carriers (p .cell) → cnt (λ (k : ℕ). ownsAt w p o (placeNumber (p .cell) s k)) d ≡ sumTo d (λ k. indicator (owns w p o s k))
   unfolding cnt sumTo
   row s zero l = refl
-  row s (suc d) l = ap₂ _+_ (row s d (omega arith)) (as-one (ownsAt w p o (placeNumber (p .cell) s d)) ∙ ap one (owns-at w p o s d (omega arith)))
+  row s (suc d) l = ap₂ _+_ (row s d (omega arith)) (as-one (ownsAt w p o (placeNumber (p .cell) s d)) ∙ ap indicator (owns-at w p o s d (omega arith)))
 
-  rows : (n : ℕ) → cnt (ownsAt w p o) (n * carriers (p .cell)) ≡ sumTo n (λ s. sumTo (carriers (p .cell)) (λ k. one (owns w p o s k)))
+  rows : (n : ℕ) → cnt (ownsAt w p o) (n * carriers (p .cell)) ≡ sumTo n (λ s. sumTo (carriers (p .cell)) (λ k. indicator (owns w p o s k)))
   unfolding cnt sumTo
   rows zero = ap (cnt (ownsAt w p o)) (zero-mul (carriers (p .cell)))
   rows (suc n) =

@@ -8,7 +8,7 @@ use lib.Dec.{leb}
 use borrow.Author.Tests.{le-leb, leb-true}
 use Rattle.base.proofs.Tests.{by-test, same-test}
 use Rattle.plan.specs.Check.{checkOf}
-use Rattle.plan.specs.Rows.{usersOf}
+use Rattle.plan.specs.CommandLists.{usersOf}
 use Rattle.plan.specs.declared.Cell.{Cell}
 use Rattle.plan.specs.declared.Frame.{Frame}
 use Rattle.plan.specs.declared.User.{User}

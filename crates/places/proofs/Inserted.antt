@@ -8,7 +8,7 @@ use native.Mathlib.Decide.{decLe}
 use lib.Dec.{ltb}
 use borrow.Author.Tests.{lt-ltb, le-ltb, not-true}
 use Rattle.base.proofs.Tests.{clash}
-use Rattle.base.specs.Choice.{one}
+use Rattle.base.specs.Choice.{indicator}
 use Rattle.plan.specs.declared.Cell.{Cell}
 use Rattle.layout.specs.Rules.{formatGroup, isFormat, groupsLeft, isLeft, quadNumber, quadGroup}
 use Rattle.layout.specs.Chain.{belowOf, number}
@@ -42,7 +42,7 @@ module _ (c : Cell) (big : 6 ≤ c .blocks) where
     at = nth-is (isLeft c) (2 * c .blocks) n (omega (arith, left-count c big))
 
     -- a group of PCFICH below it is counted, one above is not
-    step-is : (i : ℕ) → i < 4 → step n (F i) ≡ one (ltb (F i) G)
+    step-is : (i : ℕ) → i < 4 → step n (F i) ≡ indicator (ltb (F i) G)
     step-is i l = go (decLe (suc (F i)) G)
       where
         numbered : number c (F i) + belowOf (F 0) (F 1) (F 2) (F 3) (F i) ≡ F i
@@ -51,7 +51,7 @@ module _ (c : Cell) (big : 6 ≤ c .blocks) where
         other : F i ≡ G → ⊥
         other e = clash (ap (isFormat c) (sym e) ∙ format-groups c big .has-group i l) (not-format c G (at .0))
 
-        go : Dec (suc (F i) ≤ G) → step n (F i) ≡ one (ltb (F i) G)
+        go : Dec (suc (F i) ≤ G) → step n (F i) ≡ indicator (ltb (F i) G)
         go (yes h) =
             let u : number c (F i) ≤ n = omega (arith, cnt-le (isLeft c) (F i) G (omega arith), at .2) in
             rw (lt-ltb (F i) G h, lt-ltb (F i) (n + 1 + belowOf (F 0) (F 1) (F 2) (F 3) (F i)) (omega (arith, numbered))) refl

@@ -8,7 +8,7 @@ use native.Mathlib.Omega.{arith}
 use lib.Dec.{T, eqb, ltb, eqb→eq}
 use lib.Ieee.Bits.{is-true}
 use borrow.Author.Tests.{eq-eqb, ne-eqb, eqb-true, ltb-true}
-use Rattle.base.specs.Choice.{one}
+use Rattle.base.specs.Choice.{indicator}
 use Rattle.base.specs.Counts.{cnt, nth, which, Listed}
 use Rattle.base.proofs.Computed.{allBelow, below-at}
 use Rattle.base.proofs.Counts.{cnt-none, cnt-add, cnt-same, cnt-skip, cnt-lt, nth-of, nth-is, which-is}
@@ -120,7 +120,7 @@ index-small c k h e = omega (arith, index-below c 0 k h e, four c (elementGroup 
 
 -- the j-th place by its offset: two of each three subcarriers
 unfoldable offset : ℕ → ℕ → ℕ
-offset v j = 3 * (j / 2) + j % 2 + one (ltb v (j % 2 + 1))
+offset v j = 3 * (j / 2) + j % 2 + indicator (ltb v (j % 2 + 1))
 
 abbrev offsetIs : ℕ → ℕ → Bool
 offsetIs v j = eqb (cnt (keeps v) (offset v j)) j && keeps v (offset v j) && ltb (offset v j) 6
@@ -129,7 +129,7 @@ offsets : T (allBelow (λ (v : ℕ). allBelow (offsetIs v) 4) 3)
 unfolding cnt offset
 offsets = tt
 
-pub place-is : (c : Cell) (t j : ℕ) → t < 2 * c .blocks → j < 4 → quadPlace c 0 t j ≡ 6 * t + (3 * (j / 2) + j % 2 + one (ltb (c .identity % 3) (j % 2 + 1)))
+pub place-is : (c : Cell) (t j : ℕ) → t < 2 * c .blocks → j < 4 → quadPlace c 0 t j ≡ 6 * t + (3 * (j / 2) + j % 2 + indicator (ltb (c .identity % 3) (j % 2 + 1)))
 unfolding quadPlace offset
 place-is c t j in-t h =
     let v = c .identity % 3 in

@@ -4,7 +4,7 @@ use mathlib.Core.Path.{_≡_, refl, sym, ap, _∙_}
 use native.Mathlib.Nat.{mul-le-mul}
 use native.Mathlib.Omega.{arith}
 use lib.Dec.{ltb}
-use Rattle.base.specs.Choice.{one}
+use Rattle.base.specs.Choice.{indicator}
 use Rattle.plan.specs.declared.Cell.{Cell}
 use Rattle.layout.specs.Rules.{formatGroup, groupsLeft, quadNumber, quadGroup}
 use Rattle.layout.proofs.Units.{number-lt}
@@ -23,7 +23,7 @@ module _ (c : Cell) {h : ℕ} (eh : h ≡ groupsLeft c) where
   unfolding quadNumber
   number-in m i big small = rw eh (refl, omega (arith, number-lt c big m i))
 
-pub step-sum : (a b c d n t : ℕ) {x r : ℕ} → x ≡ belowOf a b c d t → r ≡ one (ltb t (n + 1 + x)) → r ≡ stepOf a b c d n t
+pub step-sum : (a b c d n t : ℕ) {x r : ℕ} → x ≡ belowOf a b c d t → r ≡ indicator (ltb t (n + 1 + x)) → r ≡ stepOf a b c d n t
 step-sum a b c d n t ex er = rw (← ex) er
 
 module _ (c : Cell) (m i : ℕ) (big : 6 ≤ c .blocks) {w x y z n : ℕ}
@@ -33,5 +33,5 @@ module _ (c : Cell) (m i : ℕ) (big : 6 ≤ c .blocks) {w x y z n : ℕ}
       → n + (a + b + d + e) ≡ quadGroup c m i
   unit-sum ea eb ed ee = cc (unit-inserted c big m i)
 
-pub place-sum : (c : Cell) (g j : ℕ) {x : ℕ} → g < 2 * c .blocks → j < 4 → x ≡ one (ltb (c .identity % 3) (j % 2 + 1)) → 6 * g + (3 * (j / 2) + j % 2 + x) ≡ quadPlace c 0 g j
+pub place-sum : (c : Cell) (g j : ℕ) {x : ℕ} → g < 2 * c .blocks → j < 4 → x ≡ indicator (ltb (c .identity % 3) (j % 2 + 1)) → 6 * g + (3 * (j / 2) + j % 2 + x) ≡ quadPlace c 0 g j
 place-sum c g j in-g h e = ap (λ (x : ℕ). 6 * g + (3 * (j / 2) + j % 2 + x)) e ∙ sym (place-is c g j in-g h)

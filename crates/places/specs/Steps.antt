@@ -1,9 +1,9 @@
 -- For the inner contracts only: the groups of PCFICH that stand below a group left, found without a list of groups.
 use Prim.Native.Nat.{ℕ, _+_}
 use lib.Dec.{ltb}
-use Rattle.base.specs.Choice.{one}
+use Rattle.base.specs.Choice.{indicator}
 use Rattle.layout.specs.Chain.{belowOf}
 
 -- 1 where at most n of the other groups stand below t
 abbrev pub stepOf : ℕ → ℕ → ℕ → ℕ → ℕ → ℕ → ℕ
-stepOf a b c d n t = one (ltb t (n + 1 + belowOf a b c d t))
+stepOf a b c d n t = indicator (ltb t (n + 1 + belowOf a b c d t))

@@ -9,7 +9,7 @@ use lib.ListN.{drop}
 use Rattle.plan.specs.Commands.{byte, hiOf, userOf}
 use Rattle.plan.specs.Fields.{samePair}
 use Rattle.plan.specs.Finding.{sameRnti, sharesBlock, inCommon, clashes, firstFrom, earlierOf}
-use Rattle.plan.specs.Rows.{nextOf}
+use Rattle.plan.specs.CommandLists.{nextOf}
 use Rattle.plan.specs.declared.Hi.{Hi}
 use Rattle.plan.specs.declared.User.{User}
 use Rattle.plan.specs.declared.Shared.{Shared}

@@ -10,7 +10,7 @@ use lib.ListN.{length}
 use Rattle.plan.specs.Lists.{Every, Apart}
 use Rattle.plan.specs.Fields.{widths, portCounts, sixthCounts, mappingUnits, phichGroups, sequencesOf}
 use Rattle.plan.specs.Check.{checkOf}
-use Rattle.plan.specs.Rows.{hisOf, usersOf}
+use Rattle.plan.specs.CommandLists.{hisOf, usersOf}
 use Rattle.plan.specs.Valid.{CellIn, HiIn, UserIn, OtherPair, Disjoint}
 use Rattle.plan.specs.declared.Cell.{Cell}
 use Rattle.plan.specs.declared.Hi.{Hi}

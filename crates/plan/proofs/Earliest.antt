@@ -15,7 +15,7 @@ use Rattle.plan.specs.Fields.{orders, phichGroups, sequencesOf, samePair
 use Rattle.plan.specs.Check.{State, begin, stateAfter, planOf}
 use Rattle.plan.specs.Finding.{demand, cellCause, frameCause, hiCause, sameRnti, sharesBlock, userCause, brokenCause, inOrder, fieldCause, causeAt, causeOf, refusedAt, stopAt, walkFrom, walkOf}
 use Rattle.plan.specs.Finding.{sharedBy, clashes, firstFrom, earlierOf, findingAt, explainedBy, findingOf, EarlierIs, EarlierNamed}
-use Rattle.plan.specs.Rows.{past, nextOf}
+use Rattle.plan.specs.CommandLists.{past, nextOf}
 use Rattle.plan.specs.declared.Cell.{Cell}
 use Rattle.plan.specs.declared.Frame.{Frame}
 use Rattle.plan.specs.declared.Plan.{Plan}
@@ -38,7 +38,7 @@ use Rattle.plan.specs.declared.Earlier.the-variants.{Nothing, Is}
 use Rattle.plan.proofs.Listed.{choose, none-snoc}
 use Rattle.plan.proofs.Entries.{told, next}
 use Rattle.plan.proofs.Reading.{drop-next}
-use Rattle.plan.proofs.RowLaws.{past-more, past-none}
+use Rattle.plan.proofs.CommandLists.{past-more, past-none}
 use Rattle.plan.proofs.Verdict.{one-more}
 
 -- ---- the first of k commands after the first m of the plan w, by the test t

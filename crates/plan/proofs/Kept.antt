@@ -1,4 +1,4 @@
--- What the check has made sure of at each turn: the HIs and the USERs so far are in range, and no two of them share anything. Assumes nothing.
+-- What the check has made sure of at each command: the HIs and the USERs so far are in range, and no two of them share anything. Assumes nothing.
 use Prim.Native.Nat.{_+_}
 use mathlib.Core.Path.{_≡_, refl, sym, _∙_}
 use mathlib.Core.Bool.{Bool, true, false, _&&_, _||_, false≢true}

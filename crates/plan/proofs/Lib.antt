@@ -1,10 +1,10 @@
--- Laws that the proofs cite. For the crates above: Verdict, Earliest, Valid, Counts, RowLaws, Entries, Reading, Answers. About lists alone: OneOf, Listed, Few.
+-- Laws that the proofs cite. For the crates above: Verdict, Earliest, Valid, Counts, CommandLists, Entries, Reading, Answers. About lists alone: OneOf, Listed, Few.
 pub mod OneOf
 pub mod Listed
 pub mod Few
 pub mod Entries
 pub mod Reading
-pub mod RowLaws
+pub mod CommandLists
 mod FieldLaws
 mod CauseLaws
 mod Kept

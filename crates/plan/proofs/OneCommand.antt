@@ -1,4 +1,4 @@
--- One turn of the check: what the explanation from a position on is, by the command there and its cause. Assumes nothing.
+-- One command of the check: what the explanation from a position on is, by the command there and its cause. Assumes nothing.
 use Prim.Native.Nat.{ℕ, _+_, _-_, _*_, _≤_, _<_}
 use mathlib.Core.Path.{_≡_, refl, sym, ap, ap₂, _∙_, subst}
 use mathlib.Core.Bool.{Bool, true, false, cond}
@@ -14,13 +14,13 @@ use Rattle.plan.specs.Lists.{oneOf}
 use Rattle.plan.specs.Commands.{byte, hiOf, userOf, sizeOf, commandOf, commandsAfter, commands}
 use Rattle.plan.specs.Check.{State, due, stateAfter, planOf}
 use Rattle.plan.specs.Finding.{demand, hiCause, userCause, commandBytes, brokenCause, inOrder, fieldCause, causeAt, causeOf, foundAt, refusedAt, stopAt, walkFrom}
-use Rattle.plan.specs.Rows.{row, past, nextOf, hisFrom, usersFrom}
+use Rattle.plan.specs.CommandLists.{commandsFrom, past, nextOf, hisFrom, usersFrom}
 use Rattle.plan.specs.Loops.{bodyState, restFrom, bodyRest, planRest, lateFor, lateCause, EndDue}
 use Rattle.plan.specs.declared.Cell.{Cell}
 use Rattle.plan.specs.declared.Frame.{Frame}
 use Rattle.plan.specs.declared.Hi.{Hi}
 use Rattle.plan.specs.declared.User.{User}
-use Rattle.plan.specs.declared.Row.{Row}
+use Rattle.plan.specs.declared.CommandList.{CommandList}
 use Rattle.plan.specs.declared.Plan.{Plan}
 use Rattle.plan.specs.declared.Command.{Command}
 use Rattle.plan.specs.declared.Command.the-variants.{Cell as cell, Frame as frame, Hi as hi, User as user, End as end, Broken as broken}
@@ -35,7 +35,7 @@ use Rattle.plan.proofs.Command.{the-type}
 use Rattle.plan.proofs.OneOf.{not-in}
 use Rattle.plan.proofs.Entries.{told, next}
 use Rattle.plan.proofs.Reading.{next-in, drop-next}
-use Rattle.plan.proofs.RowLaws.{row-length, row-none, row-more, past-more, past-none}
+use Rattle.plan.proofs.CommandLists.{commands-length, commands-none, commands-more, past-more, past-none}
 use Rattle.plan.proofs.CauseLaws.{passed}
 
 -- ---- any state: the explanation from command number n on, at position at
@@ -50,8 +50,8 @@ module _ (w : List ℕ) (st : State) (n at : ℕ) (x : Command) (e : commandOf (
   pub stopped : (k : Cause) → causeOf st there x ≡ Is k → restFrom w st n at ≡ refusedAt n at k
   stopped k q = opened ∙ rw q refl
 
-  pub turned : causeOf st there x ≡ Nothing → (s : State) → stateAfter st x ≡ s → (m to : ℕ) → n + 1 ≡ m → at + sizeOf there ≡ to → restFrom w st n at ≡ restFrom w s m to
-  turned q s es m to em et = opened ∙ rw (q, es, em, drop-drop (sizeOf there) at w, et) refl
+  pub stepped : causeOf st there x ≡ Nothing → (s : State) → stateAfter st x ≡ s → (m to : ℕ) → n + 1 ≡ m → at + sizeOf there ≡ to → restFrom w st n at ≡ restFrom w s m to
+  stepped q s es m to em et = opened ∙ rw (q, es, em, drop-drop (sizeOf there) at w, et) refl
 
 -- a command that is not due, or that is missing, before END
 abbrev pub fits : ℕ → Command → Bool
@@ -133,7 +133,7 @@ standing-first w start h =
     }
 
 pub on-no-lists : (w : List ℕ) (start : ℕ) (F : List Hi → List User → Type 0) → F [] [] → F (hisFrom (drop start w) 0) (usersFrom (drop start w) 0)
-unfolding row
+unfolding commandsFrom
 on-no-lists w start F x = x
 
 module _ (w : List ℕ) (c : Cell) (f : Frame) (start n mid m at : ℕ) where
@@ -198,23 +198,23 @@ module _ (w : List ℕ) (c : Cell) (f : Frame) (start n mid m at : ℕ) where
         more-his : hisFrom (drop start w) n ++ (h ∷ []) ≡ hisFrom (drop start w) (n + 1)
         more-his =
             ap (λ (x : Hi). hisFrom (drop start w) n ++ (x ∷ [])) (told here (hi h) e .0 ∙ ap hiOf (at-mid ∙ g .his-end))
-            ∙ sym (row-more hiOf n (drop start w))
+            ∙ sym (commands-more hiOf n (drop start w))
 
         -- what holds of the HIs with this one, and of the USERs, of which there are none
         pub on-more-his : (F : List Hi → List User → Type 0) → F (hisFrom (drop start w) n ++ (h ∷ [])) (usersFrom (drop mid w) m) →
             F (hisFrom (drop start w) (n + 1)) (usersFrom (drop (mid + 3) w) m)
-        on-more-his F x = rw (← more-his) (rw (row-none userOf (drop mid w) (drop (mid + 3) w) m none) at x)
+        on-more-his F x = rw (← more-his) (rw (commands-none userOf (drop mid w) (drop (mid + 3) w) m none) at x)
 
         after-hi : stateAfter St (hi h) ≡ bodyState w c f start (n + 1) (mid + 3) m
         unfolding stateAfter bodyState
         after-hi =
             let k : _≡_ {A = ℕ} 2 (cond (eqb m 0) 2 3) = rw (eq-eqb m 0 none) refl in
             ap (λ (x : ℕ). made x c f start (hisFrom (drop start w) n ++ (h ∷ [])) (usersFrom (drop mid w) m)) k
-            ∙ ap₂ (made (cond (eqb m 0) 2 3) c f start) more-his (row-none userOf (drop mid w) (drop (mid + 3) w) m none)
+            ∙ ap₂ (made (cond (eqb m 0) 2 3) c f start) more-his (commands-none userOf (drop mid w) (drop (mid + 3) w) m none)
 
-        pub hi-turn : Rest ≡ bodyRest w c f start (n + 1) (mid + 3) m to
-        hi-turn =
-            turned w St (n + m + 3) at (hi h) e hi-some (hi-cause ∙ sym q) _ after-hi (n + 1 + m + 3) to (omega arith)
+        pub hi-step : Rest ≡ bodyRest w c f start (n + 1) (mid + 3) m to
+        hi-step =
+            stepped w St (n + m + 3) at (hi h) e hi-some (hi-cause ∙ sym q) _ after-hi (n + 1 + m + 3) to (omega arith)
             (omega (arith, et, hi-next, told here (hi h) e .1))
 
   -- ---- a USER
@@ -253,7 +253,7 @@ module _ (w : List ℕ) (c : Cell) (f : Frame) (start n mid m at : ℕ) where
         more-users : usersFrom (drop mid w) m ++ (u ∷ []) ≡ usersFrom (drop mid w) (m + 1)
         more-users =
             ap (λ (x : User). usersFrom (drop mid w) m ++ (x ∷ [])) (told here (user u) e .0 ∙ ap userOf (g .users-end))
-            ∙ sym (row-more userOf m (drop mid w))
+            ∙ sym (commands-more userOf m (drop mid w))
 
         pub on-more-users : (F : List User → Type 0) → F (usersFrom (drop mid w) m ++ (u ∷ [])) → F (usersFrom (drop mid w) (m + 1))
         on-more-users F x = subst F more-users x
@@ -264,9 +264,9 @@ module _ (w : List ℕ) (c : Cell) (f : Frame) (start n mid m at : ℕ) where
             let k : _≡_ {A = ℕ} 3 (cond (eqb (m + 1) 0) 2 3) = rw (ne-eqb (m + 1) 0 (λ z. omega arith)) refl in
             ap₂ (λ (x : ℕ) (us : List User). made x c f start (hisFrom (drop start w) n) us) k more-users
 
-        pub user-turn : Nothing ≡ UserC u → Rest ≡ bodyRest w c f start n mid (m + 1) to
-        user-turn q =
-            turned w St (n + m + 3) at (user u) e user-some (user-cause ∙ sym q) _ after-user (n + (m + 1) + 3) to (omega arith) (sym (et ∙ user-next))
+        pub user-step : Nothing ≡ UserC u → Rest ≡ bodyRest w c f start n mid (m + 1) to
+        user-step q =
+            stepped w St (n + m + 3) at (user u) e user-some (user-cause ∙ sym q) _ after-user (n + (m + 1) + 3) to (omega arith) (sym (et ∙ user-next))
 
   -- ---- END
   module _ (e : commandOf here ≡ end) where
@@ -277,12 +277,12 @@ module _ (w : List ℕ) (c : Cell) (f : Frame) (start n mid m at : ℕ) where
     unfolding bodyState causeAt inOrder fieldCause
     end-cause = rw (stage-last, stage-due) refl
 
-    pub end-turn : Rest ≡ restFrom w (stateAfter St end) (n + m + 3 + 1) (at + 1)
-    end-turn =
-        turned w St (n + m + 3) at end e (omega (arith, told here end e .2)) end-cause _ refl _ (at + 1) refl (omega (arith, told here end e .1))
+    pub end-step : Rest ≡ restFrom w (stateAfter St end) (n + m + 3 + 1) (at + 1)
+    end-step =
+        stepped w St (n + m + 3) at end e (omega (arith, told here end e .2)) end-cause _ refl _ (at + 1) refl (omega (arith, told here end e .1))
 
 -- ---- after END: a command, or none
-module _ (w : List ℕ) (c : Cell) (f : Frame) (his users : Row) (k to : ℕ) where
+module _ (w : List ℕ) (c : Cell) (f : Frame) (his users : CommandList) (k to : ℕ) where
   abbrev Ended : State
   Ended = stateAfter (bodyState w c f (his .at) (his .count) (users .at) (users .count)) end
 
@@ -293,7 +293,7 @@ module _ (w : List ℕ) (c : Cell) (f : Frame) (his users : Row) (k to : ℕ) wh
   pub last : users .at ≡ his .at + 3 * his .count → length w ≤ to → restFrom w Ended k to ≡ Accepted (record { cell = c; frame = f; his = his; users = users })
   unfolding walkFrom commandsAfter planOf bodyState stateAfter
   last e h =
-      rw (drop-of-length-le w h, row-length hiOf (drop (his .at) w) (his .count), row-length userOf (drop (users .at) w) (users .count), ← e) refl
+      rw (drop-of-length-le w h, commands-length hiOf (drop (his .at) w) (his .count), commands-length userOf (drop (users .at) w) (users .count), ← e) refl
 
 -- ---- where END is due
 module _ {w : List ℕ} {p : Plan} {at : ℕ} (d : EndDue w p at) where
@@ -304,14 +304,14 @@ module _ {w : List ℕ} {p : Plan} {at : ℕ} (d : EndDue w p at) where
   Due = bodyState w (p .cell) (p .frame) (p .his .at) (p .his .count) (p .users .at) (p .users .count)
 
   module _ (e : commandOf (drop at w) ≡ end) where
-    turn : planRest w p at ≡ restFrom w (stateAfter Due end) (n + 1) (at + 1)
-    turn = end-turn w (p .cell) (p .frame) (p .his .at) (p .his .count) (p .users .at) (p .users .count) at e
+    step : planRest w p at ≡ restFrom w (stateAfter Due end) (n + 1) (at + 1)
+    step = end-step w (p .cell) (p .frame) (p .his .at) (p .his .count) (p .users .at) (p .users .count) at e
 
     pub end-more : at + 1 < length w → {g : Stop} → g ≡ foundAt (n + 1) (at + 1) AfterEnd → Refused g ≡ planRest w p at
-    end-more l eg = ap Refused eg ∙ sym (turn ∙ not-last w (p .cell) (p .frame) (p .his) (p .users) (n + 1) (at + 1) l)
+    end-more l eg = ap Refused eg ∙ sym (step ∙ not-last w (p .cell) (p .frame) (p .his) (p .users) (n + 1) (at + 1) l)
 
     pub end-last : length w ≤ at + 1 → Accepted p ≡ planRest w p at
-    end-last l = sym (turn ∙ last w (p .cell) (p .frame) (p .his) (p .users) (n + 1) (at + 1) (d .mid-at) l)
+    end-last l = sym (step ∙ last w (p .cell) (p .frame) (p .his) (p .users) (n + 1) (at + 1) (d .mid-at) l)
 
   pub end-late : {x : Command} → commandOf (drop at w) ≡ x → OneOf (0 ∷ 1 ∷ 2 ∷ 3 ∷ 5 ∷ []) (tagOf the-type x) →
       {k : Cause} → k ≡ lateCause (drop at w) → {g : Stop} → g ≡ foundAt n at k → Refused g ≡ planRest w p at

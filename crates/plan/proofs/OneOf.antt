@@ -44,9 +44,9 @@ one-left x ks i l = rw (drop-of-length-le ks l) refl
 abbrev pub Looked : ℕ → List ℕ → ℕ → Bool → Type 0
 Looked x ks i t = t || oneOf x (drop i ks) ≡ oneOf x ks
 
-pub looked-turn : (x : ℕ) (ks : List ℕ) (i : ℕ) (t : Bool) → i < length ks → Looked x ks i t → Looked x ks (i + 1) (t || eqb x (getD ks i 0))
-looked-turn x ks i true l h = h
-looked-turn x ks i false l h = sym (at-place x ks i l) ∙ h
+pub looked-step : (x : ℕ) (ks : List ℕ) (i : ℕ) (t : Bool) → i < length ks → Looked x ks i t → Looked x ks (i + 1) (t || eqb x (getD ks i 0))
+looked-step x ks i true l h = h
+looked-step x ks i false l h = sym (at-place x ks i l) ∙ h
 
 pub looked-last : (x : ℕ) (ks : List ℕ) (i : ℕ) (t : Bool) → length ks ≤ i → Looked x ks i t → t ≡ oneOf x ks
 looked-last x ks i true l h = h

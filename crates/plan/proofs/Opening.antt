@@ -11,7 +11,7 @@ use Rattle.plan.specs.Lists.{oneOf}
 use Rattle.plan.specs.Commands.{commandOf}
 use Rattle.plan.specs.Check.{begin, stateAfter}
 use Rattle.plan.specs.Finding.{cellCause, frameCause, inOrder, fieldCause, causeAt, causeOf, foundAt, refusedAt, walkOf}
-use Rattle.plan.specs.Rows.{row}
+use Rattle.plan.specs.CommandLists.{commandsFrom}
 use Rattle.plan.specs.Loops.{lateCause, celled, bodyState, restFrom, bodyRest}
 use Rattle.plan.specs.declared.Cell.{Cell}
 use Rattle.plan.specs.declared.Frame.{Frame}
@@ -26,7 +26,7 @@ use Rattle.plan.specs.declared.Walked.the-variants.{Refused}
 use Rattle.plan.proofs.Command.{the-type}
 use Rattle.plan.proofs.OneOf.{not-in}
 use Rattle.plan.proofs.Entries.{told}
-use Rattle.plan.proofs.OneCommand.{stopped, turned, fits, late}
+use Rattle.plan.proofs.OneCommand.{stopped, stepped, fits, late}
 
 -- ---- before CELL
 module _ (w : List ℕ) where
@@ -52,9 +52,9 @@ module _ (w : List ℕ) where
     unfolding walkOf
     cell-refused q eg = ap Refused eg ∙ sym (stopped w begin 1 0 (cell c) e (omega (arith, told w (cell c) e .2)) _ (cell-cause ∙ q))
 
-    pub cell-turn : r ≡ Nothing → restFrom w (celled c 7) 2 7 ≡ walkOf w
+    pub cell-step : r ≡ Nothing → restFrom w (celled c 7) 2 7 ≡ walkOf w
     unfolding walkOf begin stateAfter celled
-    cell-turn q = sym (turned w begin 1 0 (cell c) e (omega (arith, told w (cell c) e .2)) (cell-cause ∙ q) _ refl 2 7 refl (omega (arith, told w (cell c) e .1)))
+    cell-step q = sym (stepped w begin 1 0 (cell c) e (omega (arith, told w (cell c) e .2)) (cell-cause ∙ q) _ refl 2 7 refl (omega (arith, told w (cell c) e .1)))
 
 -- ---- before FRAME, which is due at position at
 module _ (w : List ℕ) (c : Cell) (at : ℕ) where
@@ -89,7 +89,7 @@ module _ (w : List ℕ) (c : Cell) (at : ℕ) where
       pub frame-refused : {k : Cause} → r ≡ Is k → {g : Stop} → g ≡ foundAt 2 at k → Refused g ≡ Rest
       frame-refused q eg = ap Refused eg ∙ sym (stopped w (celled c at) 2 at (frame f) e (omega (arith, told here (frame f) e .2)) _ (frame-cause ∙ q))
 
-      pub frame-turn : r ≡ Nothing → bodyRest w c f (at + 5) 0 (at + 5) 0 (at + 5) ≡ Rest
-      unfolding stateAfter celled bodyState row
-      frame-turn q =
-          sym (turned w (celled c at) 2 at (frame f) e (omega (arith, told here (frame f) e .2)) (frame-cause ∙ q) _ refl 3 (at + 5) refl (omega (arith, told here (frame f) e .1)))
+      pub frame-step : r ≡ Nothing → bodyRest w c f (at + 5) 0 (at + 5) 0 (at + 5) ≡ Rest
+      unfolding stateAfter celled bodyState commandsFrom
+      frame-step q =
+          sym (stepped w (celled c at) 2 at (frame f) e (omega (arith, told here (frame f) e .2)) (frame-cause ∙ q) _ refl 3 (at + 5) refl (omega (arith, told here (frame f) e .1)))

@@ -1,4 +1,4 @@
--- The loops over the HIs and over the USERs: what holds at each turn, from the first to the last. Assumes nothing.
+-- The loops over the HIs and over the USERs: what holds at each command, from the first to the last. Assumes nothing.
 use Prim.Native.Nat.{ℕ, _+_, _-_, _*_, _/_, _≤_, _<_}
 use mathlib.Core.Path.{_≡_, refl, sym, ap, _∙_, subst}
 use mathlib.Core.Bool.{Bool, false}
@@ -9,7 +9,7 @@ use lib.Seq.{getD-set-other}
 use Rattle.bitset.specs.Sets.{added, joined}
 use Rattle.plan.specs.Commands.{userOf, frameOf, commandOf}
 use Rattle.plan.specs.Finding.{hiCause, userCause, foundAt}
-use Rattle.plan.specs.Rows.{nextOf, hisFrom, usersFrom}
+use Rattle.plan.specs.CommandLists.{nextOf, hisFrom, usersFrom}
 use Rattle.plan.specs.Loops.{bodyRest, standsAt, pairOf, PairsUsed, blocksOf, UsersUsed, HisPast, HisRead, EndDue}
 use Rattle.plan.specs.Valid.{CellIn, HiIn}
 use Rattle.plan.specs.declared.Cell.{Cell}
@@ -25,10 +25,10 @@ use Rattle.plan.specs.declared.Counted.the-variants.{Count, Refused as f
 use Rattle.plan.specs.declared.Walked.the-variants.{Refused}
 use Rattle.plan.proofs.Entries.{told}
 use Rattle.plan.proofs.Reading.{no-hi-stands, no-user-stands}
-use Rattle.plan.proofs.RowLaws.{row-length, past-none}
+use Rattle.plan.proofs.CommandLists.{commands-length, past-none}
 use Rattle.plan.proofs.OneCommand.{Standing, standing-first, on-no-lists}
-use Rattle.plan.proofs.OneCommand.{hi-refused, hi-next, hi-room, standing-hi, on-more-his, hi-turn}
-use Rattle.plan.proofs.OneCommand.{user-refused, user-next, user-room, standing-user, on-more-users, user-turn}
+use Rattle.plan.proofs.OneCommand.{hi-refused, hi-next, hi-room, standing-hi, on-more-his, hi-step}
+use Rattle.plan.proofs.OneCommand.{user-refused, user-next, user-room, standing-user, on-more-users, user-step}
 use Rattle.plan.proofs.CauseLaws.{hi-passed, user-passed}
 use Rattle.plan.proofs.Kept.{Kept, kept-first, kept-user}
 use Rattle.plan.proofs.Counts.{blocks-most, few-users}
@@ -94,7 +94,7 @@ module _ {w : List ℕ} {c : Cell} {start n at : ℕ} {pairs : List ℕ} {h : Hi
         rw s
         (record {
           standing = rw s at (standing-hi w c (frameOf []) start n at 0 at h (z .there) (g .standing) none to et);
-          same = λ f. rw s at (sym (hi-turn w c f start n at 0 at h (z .there) (g .standing) none to et) ∙ g .same f);
+          same = λ f. rw s at (sym (hi-step w c f start n at 0 at h (z .there) (g .standing) none to et) ∙ g .same f);
           words = rw m (length-set pairs _ _) ∙ g .words;
           used =
               on-more-his w c (frameOf []) start n at 0 at h (z .there) (g .standing) none to et (λ (hs : List Hi) (us : List User). PairsUsed c now hs)
@@ -166,9 +166,9 @@ module _ {w : List ℕ} {c : Cell} {f : Frame} {start n mid m at : ℕ} {rntis b
       on-more-users w c f start n mid m at u (z .there) (g .standing) to et (Kept c []) (kept-user (g .kept) u none) in
       record {
         standing = standing-user w c f start n mid m at u (z .there) (g .standing) to et;
-        same = sym (user-turn w c f start n mid m at u (z .there) (g .standing) to et none) ∙ g .same;
+        same = sym (user-step w c f start n mid m at u (z .there) (g .standing) to et none) ∙ g .same;
         first = λ x. absurd (omega arith);
-        few = omega (arith, few-users c (usersFrom (drop mid w) (m + 1)) (k .users) (k .apart), row-length userOf (drop mid w) (m + 1), blocks-most c (z .ok));
+        few = omega (arith, few-users c (usersFrom (drop mid w) (m + 1)) (k .users) (k .apart), commands-length userOf (drop mid w) (m + 1), blocks-most c (z .ok));
         places = length-set rntis m (u .rnti) ∙ g .places;
         free = λ i l. getD-set-other rntis m i (u .rnti) 0 (λ x. omega arith) ∙ g .free i (omega arith);
         kept = k;

@@ -10,7 +10,7 @@ use lib.Seq.{getD-drop, drop-drop, drop-length}
 use borrow.Author.Tests.{eq-eqb, ne-eqb, eqb-true, le-leb, lt-leb, leb-true, leb-false}
 use Rattle.base.proofs.Tests.{both}
 use Rattle.plan.specs.Commands.{byte, cellOf, frameOf, hiOf, userOf, Entry, entries, entryIn, entryFor, sizeOf, commandOf}
-use Rattle.plan.specs.Rows.{nextOf}
+use Rattle.plan.specs.CommandLists.{nextOf}
 use Rattle.plan.specs.Loops.{standsAt}
 use Rattle.plan.specs.declared.Cell.{Cell}
 use Rattle.plan.specs.declared.Frame.{Frame}

@@ -10,7 +10,7 @@ use borrow.Author.Tests.{ltb-true, ltb-false}
 use Rattle.plan.specs.Commands.{byte, hiOf, userOf, commandOf}
 use Rattle.plan.specs.Check.{State, begin, stateAfter, checkOf}
 use Rattle.plan.specs.Finding.{demand, cellCause, frameCause, hiCause, userCause, walkOf}
-use Rattle.plan.specs.Rows.{nextOf, hisFrom, usersFrom, hisOf, usersOf}
+use Rattle.plan.specs.CommandLists.{nextOf, hisFrom, usersFrom, hisOf, usersOf}
 use Rattle.plan.specs.Loops.{celled, bodyState, restFrom, bodyRest}
 use Rattle.plan.specs.Valid.{CellIn, FrameIn, Valid}
 use Rattle.plan.specs.declared.Cell.{Cell}
@@ -29,13 +29,13 @@ use Rattle.plan.specs.declared.Walked.the-variants.{Accepted, Refused}
 use Rattle.plan.specs.declared.Checked.the-variants.{Plan as accepted}
 use Rattle.plan.proofs.Entries.{told}
 use Rattle.plan.proofs.Reading.{gone}
-use Rattle.plan.proofs.RowLaws.{row-length}
+use Rattle.plan.proofs.CommandLists.{commands-length}
 use Rattle.plan.proofs.Kept.{Kept, kept-first, kept-hi, kept-user}
 use Rattle.plan.proofs.CauseLaws.{passed, cell-in, frame-in}
 use Rattle.plan.proofs.Verdict.{accepted-both}
-use Rattle.plan.proofs.OneCommand.{fits, late, stage-first, stage-second, stage-last, Standing, standing-first, on-no-lists, end-room, end-turn, not-last, last}
-use Rattle.plan.proofs.OneCommand.{hi-refused, standing-hi, on-more-his, hi-next, hi-turn, user-refused, standing-user, on-more-users, user-next, user-turn}
-use Rattle.plan.proofs.Opening.{cell-refused, cell-turn, frame-room, frame-refused, frame-turn}
+use Rattle.plan.proofs.OneCommand.{fits, late, stage-first, stage-second, stage-last, Standing, standing-first, on-no-lists, end-room, end-step, not-last, last}
+use Rattle.plan.proofs.OneCommand.{hi-refused, standing-hi, on-more-his, hi-next, hi-step, user-refused, standing-user, on-more-users, user-next, user-step}
+use Rattle.plan.proofs.Opening.{cell-refused, cell-step, frame-room, frame-refused, frame-step}
 
 -- ---- answers
 not-both : {a : Walked} {g : Stop} {p : Plan} → a ≡ Refused g → a ≡ Accepted p → ⊥
@@ -105,8 +105,8 @@ module _ (w : List ℕ) (p : Plan) (c : Cell) (f : Frame) (ci : CellIn c) (fi : 
         pairs = g .kept .pairs;
         users = g .kept .users;
         apart = g .kept .apart;
-        his-count = row-length hiOf (drop start w) n;
-        users-count = row-length userOf (drop mid w) m;
+        his-count = commands-length hiOf (drop start w) n;
+        users-count = commands-length userOf (drop mid w) m;
         users-at = s .mid-at;
         inside = omega (arith, s .behind);
         ends = sym (s .users-end) ∙ one-byte (drop at w) one (told (drop at w) end e .0);
@@ -117,32 +117,32 @@ module _ (w : List ℕ) (p : Plan) (c : Cell) (f : Frame) (ci : CellIn c) (fi : 
   at-hi k n mid m at ih l g h e (Is y) q r = absurd (not-both (hi-refused w c f start n mid m at h e y q) r)
   at-hi k n mid m at ih l g h e Nothing q r =
       ih (n + 1) (mid + 3) m (nextOf w at) (omega (arith, hi-next w c f start n mid m at h e)) (more-hi n mid m at g h e q)
-      (sym (hi-turn w c f start n mid m at h e (g .standing) q (nextOf w at) refl) ∙ r)
+      (sym (hi-step w c f start n mid m at h e (g .standing) q (nextOf w at) refl) ∙ r)
 
   at-user : (k n mid m at : ℕ) → Rest k → length w ≤ at + suc k → Good n mid m at → (u : User) → commandOf (drop at w) ≡ user u →
       (q : Reason) → q ≡ userCause c (Users mid m) u → Runs n mid m at → Valid w p
   at-user k n mid m at ih l g u e (Is y) q r = absurd (not-both (user-refused w c f start n mid m at u e y q) r)
   at-user k n mid m at ih l g u e Nothing q r =
       ih n mid (m + 1) (nextOf w at) (omega (arith, user-next w c f start n mid m at u e, told (drop at w) (user u) e .1)) (more-user n mid m at g u e q)
-      (sym (user-turn w c f start n mid m at u e (g .standing) (nextOf w at) refl q) ∙ r)
+      (sym (user-step w c f start n mid m at u e (g .standing) (nextOf w at) refl q) ∙ r)
 
   never : (n mid m at : ℕ) (x : Command) → commandOf (drop at w) ≡ x → fits (cond (eqb m 0) 2 3) x ≡ false → Runs n mid m at → Valid w p
   unfolding bodyState
   never n mid m at x e t r = not-due (bodyState w c f start n mid m) (stage-last (eqb m 0)) w (n + m + 3) at x e t r
 
-  turn : (k n mid m at : ℕ) → Rest k → length w ≤ at + suc k → Good n mid m at → (x : Command) → commandOf (drop at w) ≡ x → Runs n mid m at → Valid w p
-  turn k n mid m at ih l g (cell y) e r = never n mid m at (cell y) e (stage-first (eqb m 0)) r
-  turn k n mid m at ih l g (frame y) e r = never n mid m at (frame y) e (stage-second (eqb m 0)) r
-  turn k n mid m at ih l g (hi h) e r = at-hi k n mid m at ih l g h e (demand (eqb m 0) OutOfOrder (hiCause c (His n) h)) refl r
-  turn k n mid m at ih l g (user u) e r = at-user k n mid m at ih l g u e (userCause c (Users mid m) u) refl r
-  turn k n mid m at ih l g end e r = at-end n mid m at (ltb (at + 1) (length w)) refl g e (sym (end-turn w c f start n mid m at e) ∙ r)
-  turn k n mid m at ih l g broken e r = never n mid m at broken e refl r
+  step : (k n mid m at : ℕ) → Rest k → length w ≤ at + suc k → Good n mid m at → (x : Command) → commandOf (drop at w) ≡ x → Runs n mid m at → Valid w p
+  step k n mid m at ih l g (cell y) e r = never n mid m at (cell y) e (stage-first (eqb m 0)) r
+  step k n mid m at ih l g (frame y) e r = never n mid m at (frame y) e (stage-second (eqb m 0)) r
+  step k n mid m at ih l g (hi h) e r = at-hi k n mid m at ih l g h e (demand (eqb m 0) OutOfOrder (hiCause c (His n) h)) refl r
+  step k n mid m at ih l g (user u) e r = at-user k n mid m at ih l g u e (userCause c (Users mid m) u) refl r
+  step k n mid m at ih l g end e r = at-end n mid m at (ltb (at + 1) (length w)) refl g e (sym (end-step w c f start n mid m at e) ∙ r)
+  step k n mid m at ih l g broken e r = never n mid m at broken e refl r
 
   rest : (k : ℕ) → Rest k
   rest zero n mid m at l g r =
       let z : length w ≤ at = omega arith in
       never n mid m at broken (sym (gone w at z)) refl r
-  rest (suc k) n mid m at l g r = turn k n mid m at (rest k) l g (commandOf (drop at w)) refl r
+  rest (suc k) n mid m at l g r = step k n mid m at (rest k) l g (commandOf (drop at w)) refl r
 
   from-frame : start ≤ length w → Runs 0 start 0 start → Valid w p
   from-frame h r =
@@ -154,7 +154,7 @@ module _ (w : List ℕ) (p : Plan) (c : Cell) (f : Frame) (ci : CellIn c) (fi : 
 module _ (w : List ℕ) (p : Plan) where
   by-frame : (c : Cell) (at : ℕ) (f : Frame) → CellIn c → commandOf (drop at w) ≡ frame f → (t : Reason) → t ≡ frameCause f → restFrom w (celled c at) 2 at ≡ Accepted p → Valid w p
   by-frame c at f ci e Nothing o r =
-      from-frame w p c f ci (frame-in f o) (at + 5) (frame-room w c at f e) (frame-turn w c at f e o refl ∙ r)
+      from-frame w p c f ci (frame-in f o) (at + 5) (frame-room w c at f e) (frame-step w c at f e o refl ∙ r)
   by-frame c at f ci e (Is k) o r = absurd (not-both (sym (frame-refused w c at f e o refl refl)) r)
 
   second : (c : Cell) (at : ℕ) → CellIn c → (x : Command) → commandOf (drop at w) ≡ x → restFrom w (celled c at) 2 at ≡ Accepted p → Valid w p
@@ -167,7 +167,7 @@ module _ (w : List ℕ) (p : Plan) where
   second c at ci broken e r = not-due (celled c at) refl w 2 at broken e refl r
 
   by-cell : (c : Cell) → commandOf w ≡ cell c → (t : Reason) → t ≡ cellCause c → walkOf w ≡ Accepted p → Valid w p
-  by-cell c e Nothing o r = second c 7 (cell-in c o) (commandOf (drop 7 w)) refl (cell-turn w c e o refl ∙ r)
+  by-cell c e Nothing o r = second c 7 (cell-in c o) (commandOf (drop 7 w)) refl (cell-step w c e o refl ∙ r)
   by-cell c e (Is k) o r = absurd (not-both (sym (cell-refused w c e o refl refl)) r)
 
   first : (x : Command) → commandOf w ≡ x → walkOf w ≡ Accepted p → Valid w p

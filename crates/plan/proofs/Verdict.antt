@@ -12,7 +12,7 @@ use Rattle.plan.specs.Lists.{oneOf}
 use Rattle.plan.specs.Commands.{byte, sizeOf, commands}
 use Rattle.plan.specs.Fields.{cellOk, frameOk, hiOk, userOk}
 use Rattle.plan.specs.Check.{State, begin, need, hiFault, userFault, due, fault, stateAfter, planOf, unless, run, checkOf}
-use Rattle.plan.specs.Rows.{past}
+use Rattle.plan.specs.CommandLists.{past}
 use Rattle.plan.specs.declared.Cell.{Cell}
 use Rattle.plan.specs.declared.Frame.{Frame}
 use Rattle.plan.specs.declared.Hi.{Hi}
@@ -26,7 +26,7 @@ use Rattle.plan.specs.declared.Fault.{Fault}
 use Rattle.plan.specs.declared.Fault.the-variants.{Nothing as faultless, Is as faulty}
 use Rattle.plan.specs.declared.Checked.{Checked}
 use Rattle.plan.specs.declared.Checked.the-variants.{Plan as accepted, Refused as refused}
-use Rattle.plan.proofs.RowLaws.{past-more, past-none}
+use Rattle.plan.proofs.CommandLists.{past-more, past-none}
 use Rattle.plan.specs.Finding.{causeRefusal, demand, cellCause, frameCause, hiCause, userCause, commandBytes, brokenCause}
 use Rattle.plan.specs.Finding.{inOrder, fieldCause, causeAt, causeOf, refusedAt, stopAt, walkFrom, walkOf}
 use Rattle.plan.specs.Finding.{explainedBy, findingOf, walkAnswer, answerOf, Named}

@@ -13,7 +13,7 @@ use Rattle.plan.specs.declared.Cell.{Cell}
 use Rattle.plan.specs.declared.Frame.{Frame}
 use Rattle.plan.specs.declared.Hi.{Hi}
 use Rattle.plan.specs.declared.User.{User}
-use Rattle.plan.specs.declared.Row.{Row}
+use Rattle.plan.specs.declared.CommandList.{CommandList}
 use Rattle.plan.specs.declared.Plan.{Plan}
 use Rattle.plan.specs.declared.Command.{Command}
 use Rattle.plan.specs.declared.Command.the-variants.{Cell as cell, Frame as frame, Hi as hi, User as user, End as end, Broken as broken}
@@ -94,8 +94,8 @@ stateAfter st broken = st
 -- the plan of a state: an HI is 3 bytes
 unfoldable pub planOf : State → Plan
 planOf st =
-    let his : Row = record { at = st .start; count = length (st .his) } in
-    let users : Row = record { at = his .at + 3 * his .count; count = length (st .users) } in
+    let his : CommandList = record { at = st .start; count = length (st .his) } in
+    let users : CommandList = record { at = his .at + 3 * his .count; count = length (st .users) } in
     record { cell = st .cell; frame = st .frame; his = his; users = users }
 
 -- the rest is looked at only where there is no fault

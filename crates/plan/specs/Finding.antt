@@ -12,7 +12,7 @@ use Rattle.plan.specs.Lists.{oneOf, noneOf}
 use Rattle.plan.specs.Commands.{byte, hiOf, userOf, Entry, entries, sizeOf, commands}
 use Rattle.plan.specs.Fields.{widths, portCounts, sixthCounts, orders, phichGroups, sequencesOf, samePair}
 use Rattle.plan.specs.Check.{State, begin, due, stateAfter, planOf}
-use Rattle.plan.specs.Rows.{past, nextOf}
+use Rattle.plan.specs.CommandLists.{past, nextOf}
 use Rattle.plan.specs.declared.Cell.{Cell}
 use Rattle.plan.specs.declared.Frame.{Frame}
 use Rattle.plan.specs.declared.Hi.{Hi}

@@ -3,7 +3,7 @@ pub mod Commands
 pub mod Fields
 pub mod Check
 pub mod Finding
-pub mod Rows
+pub mod CommandLists
 pub mod Valid
 pub mod Loops
 pub mod Answers

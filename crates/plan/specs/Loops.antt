@@ -11,7 +11,7 @@ use Rattle.plan.specs.Commands.{byte, entryFor, commandOf, commands}
 use Rattle.plan.specs.Fields.{samePair}
 use Rattle.plan.specs.Check.{State, begin}
 use Rattle.plan.specs.Finding.{sameRnti, sharesBlock, commandBytes, walkFrom}
-use Rattle.plan.specs.Rows.{past, hisFrom, usersFrom}
+use Rattle.plan.specs.CommandLists.{past, hisFrom, usersFrom}
 use Rattle.plan.specs.Valid.{HiIn, UserIn}
 use Rattle.plan.specs.declared.Cell.{Cell}
 use Rattle.plan.specs.declared.Frame.{Frame}

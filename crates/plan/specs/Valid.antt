@@ -5,7 +5,7 @@ use mathlib.Core.List.{List, [], _∷_}
 use lib.ListN.{length, drop}
 use Rattle.plan.specs.Lists.{Among, Every, Apart}
 use Rattle.plan.specs.Fields.{widths, portCounts, sixthCounts, orders, phichGroups, sequencesOf}
-use Rattle.plan.specs.Rows.{past, hisOf, usersOf}
+use Rattle.plan.specs.CommandLists.{past, hisOf, usersOf}
 use Rattle.plan.specs.declared.Cell.{Cell}
 use Rattle.plan.specs.declared.Frame.{Frame}
 use Rattle.plan.specs.declared.Hi.{Hi}

@@ -9,7 +9,7 @@ ghost use Rattle.plan.specs.Lists.{oneOf};
 ghost use Rattle.plan.specs.Commands.{byte, cellOf, frameOf, hiOf, userOf, entryFor, commandOf};
 ghost use Rattle.plan.specs.Fields.{mappingUnits, phichGroups, sequencesOf, samePair};
 ghost use Rattle.plan.specs.Check.{refusalNumber, checkOf, refusalOf};
-ghost use Rattle.plan.specs.Rows.{nextOf};
+ghost use Rattle.plan.specs.CommandLists.{nextOf};
 ghost use Rattle.plan.specs.Valid.{CellIn};
 ghost use Rattle.plan.specs.Finding.{causeRefusal, demand as demandOf, cellCause, frameCause, hiCause, userCause, foundAt, walkOf};
 ghost use Rattle.plan.specs.Finding.{sameRnti, sharesBlock, sharedBy, inCommon, earlierOf, findingAt, findingOf};
@@ -79,7 +79,7 @@ pub enum Fault {
 }
 
 // Commands of one kind in a row: the first one's position in the plan, and how many.
-pub struct Row {
+pub struct CommandList {
     pub at: usize,
     pub count: usize,
 }
@@ -87,8 +87,8 @@ pub struct Row {
 pub struct Plan {
     pub cell: Cell,
     pub frame: Frame,
-    pub his: Row,
-    pub users: Row,
+    pub his: CommandList,
+    pub users: CommandList,
 }
 
 pub enum Checked {
@@ -607,11 +607,11 @@ fn users_from(plan: &[u8], cell: Cell, frame: Frame, start: usize, his: usize) -
     let p = Plan {
         cell: cell,
         frame: frame,
-        his: Row {
+        his: CommandList {
             at: start,
             count: his,
         },
-        users: Row {
+        users: CommandList {
             at: mid,
             count: users,
         },

@@ -2,10 +2,10 @@
 // accepted plan, else the refusal's number. After 0 stand the plan's fields, command by command.
 use plan::Cell;
 use plan::Checked;
+use plan::CommandList;
 use plan::Frame;
 use plan::Hi;
 use plan::Plan;
-use plan::Row;
 use plan::User;
 
 fn field(n: u64) {
@@ -43,7 +43,7 @@ fn user(u: User) {
     field(u.count as u64);
 }
 
-fn his(plan: &[u8], row: Row) {
+fn his(plan: &[u8], row: CommandList) {
     let mut at = row.at;
     let mut left = row.count;
     while 0 < left {
@@ -53,7 +53,7 @@ fn his(plan: &[u8], row: Row) {
     }
 }
 
-fn users(plan: &[u8], row: Row) {
+fn users(plan: &[u8], row: CommandList) {
     let mut at = row.at;
     let mut left = row.count;
     while 0 < left {

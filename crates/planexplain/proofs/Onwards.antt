@@ -5,7 +5,7 @@ use native.Mathlib.Omega.{arith}
 use lib.Dec.{leb}
 use lib.ListN.{length, drop}
 use Rattle.plan.specs.Commands.{sizeOf}
-use Rattle.plan.specs.Rows.{nextOf}
+use Rattle.plan.specs.CommandLists.{nextOf}
 use Rattle.plan.proofs.Listed.{choose}
 use Rattle.plan.proofs.Entries.{size-some}
 

@@ -9,7 +9,7 @@ use lib.ListN.{length, getD, take, drop, List·getD-append}
 use lib.Seq.{length-take-le, getD-take, getD-drop, getD-append-add, ext-getD}
 use borrow.Rule.Slice.PartMut.{putMid, postOf, mid-len, same-len-mid, drop-put}
 use Rattle.base.proofs.Tests.{by-test}
-use Rattle.plan.specs.Rows.{usersOf, nthUser}
+use Rattle.plan.specs.CommandLists.{usersOf, nthUser}
 use Rattle.plan.specs.declared.Plan.{Plan}
 use Rattle.payload.specs.Sections.{sectionBytes, bytesOf, startOf}
 use Rattle.payload.specs.Payload.{pbchBitCount, userBitCount, heads, sections, payloadLength, usersStart}

@@ -11,7 +11,7 @@ use borrow.Rule.Slice.PartMut.{putMid, mid-len, put-same}
 use Rattle.base.proofs.Tests.{by-test, clash}
 use Rattle.gold.specs.declared.Registers.{Registers}
 use Rattle.plan.specs.Check.{checkOf}
-use Rattle.plan.specs.Rows.{hisFrom, hisOf, usersOf, nthUser}
+use Rattle.plan.specs.CommandLists.{hisFrom, hisOf, usersOf, nthUser}
 use Rattle.plan.specs.Valid.{CellIn, FrameIn}
 use Rattle.plan.specs.declared.User.{User}
 use Rattle.plan.specs.declared.Plan.{Plan}

@@ -13,7 +13,7 @@ use Rattle.base.specs.Pairs.{Small}
 use Rattle.gold.specs.Sequence.{c, binary}
 use Rattle.gold.proofs.Binary.{binary-lt, binary-digit}
 use Rattle.modulation.specs.Demapping.{Demapped, Word, demapOf}
-use Rattle.modulation.specs.Symbols.{Order, unitOf, symbolOf as wordSymbol}
+use Rattle.modulation.specs.Symbols.{Order, unitOf, modulationSymbol as wordSymbol}
 use Rattle.modulation.proofs.Symbols.{demap-back}
 use Rattle.codeword.specs.Codewords.{scrambled, dataSymbol}
 use Rattle.codeword.proofs.Laws.{scrambled-lt, order-symbol}
@@ -23,7 +23,7 @@ use Rattle.precoding.specs.Places.{ownPort, partnerIndex}
 use Rattle.precoding.proofs.Ports.{own-inside}
 use Rattle.precoding.proofs.Diversity.{by-place}
 use Rattle.plan.specs.Check.{checkOf}
-use Rattle.plan.specs.Rows.{usersOf, nthUser}
+use Rattle.plan.specs.CommandLists.{usersOf, nthUser}
 use Rattle.plan.specs.declared.Plan.{Plan}
 use Rattle.plan.specs.declared.Checked.the-variants.{Plan as accepted}
 use Rattle.layout.specs.declared.Owner.{Owner}

@@ -11,7 +11,7 @@ use Rattle.base.specs.Pairs.{nil}
 use Rattle.base.specs.Signs.{below}
 use Rattle.phich.specs.Recovery.{along, bitIn}
 use Rattle.plan.specs.Lists.{Every}
-use Rattle.plan.specs.Rows.{usersOf, nthUser}
+use Rattle.plan.specs.CommandLists.{usersOf, nthUser}
 use Rattle.plan.specs.declared.Hi.{Hi}
 use Rattle.plan.specs.declared.User.{User}
 use Rattle.plan.specs.declared.Plan.{Plan}

@@ -12,7 +12,7 @@ use Rattle.base.specs.Tables.{table}
 use Rattle.phich.specs.Spreading.{spreadLength}
 use Rattle.plan.specs.Lists.{Every}
 use Rattle.plan.specs.Check.{checkOf}
-use Rattle.plan.specs.Rows.{hisOf, usersOf}
+use Rattle.plan.specs.CommandLists.{hisOf, usersOf}
 use Rattle.plan.specs.declared.Plan.{Plan}
 use Rattle.plan.specs.declared.Checked.the-variants.{Plan as accepted-plan}
 use Rattle.plan.proofs.Valid.{valid}

@@ -40,24 +40,24 @@ module _ (g : List ℕ) (e : ℕ) (x : Element) (h : (b : ℕ) → b < 3 → get
   pub element-in : elementIn g e ≡ x
   element-in = element-same byte-in
 
--- ---- the own port goes by the turn's parity
-pub own-turn : (P turn : ℕ) → ownPort P (turn % 2) ≡ ownPort P turn
+-- ---- the own port goes by the parity of the pair of ports
+pub own-pair : (P portPair : ℕ) → ownPort P (portPair % 2) ≡ ownPort P portPair
 unfolding ownPort
-own-turn P turn = let e : turn % 2 % 2 ≡ turn % 2 = omega arith in ap (λ (t : ℕ). cond (eqb P 4) t 0) e
+own-pair P portPair = let e : portPair % 2 % 2 ≡ portPair % 2 = omega arith in ap (λ (t : ℕ). cond (eqb P 4) t 0) e
 
-pub own-read : (P turn u odd : ℕ) (d e : Pair) → Small 127 d → pairOf (onPort P (turn % 2) u odd d e (ownPort P turn)) ≡ d
-own-read P turn u odd d e s =
-    ap (λ (q : ℕ). pairOf (onPort P (turn % 2) u odd d e q)) (sym (own-turn P turn)) ∙ read P (turn % 2) u odd d e s
+pub own-read : (P portPair u odd : ℕ) (d e : Pair) → Small 127 d → pairOf (onPort P (portPair % 2) u odd d e (ownPort P portPair)) ≡ d
+own-read P portPair u odd d e s =
+    ap (λ (q : ℕ). pairOf (onPort P (portPair % 2) u odd d e q)) (sym (own-pair P portPair)) ∙ read P (portPair % 2) u odd d e s
 
 -- ---- THE LAW: at an owner's j-th place the grid has the owner's element
-module _ (w : List ℕ) (p : Plan) (ok : checkOf w ≡ accepted p) (o : Owner) (A : List ℕ) (turn j : ℕ) (l : j < countOf w p o) where
+module _ (w : List ℕ) (p : Plan) (ok : checkOf w ≡ accepted p) (o : Owner) (A : List ℕ) (portPair j : ℕ) (l : j < countOf w p o) where
   pub symbol-in :
-      ownPort (p .cell .ports) turn < p .cell .ports
-      → symbolIn w p (gridOf w p A) o turn j
-      ≡ pairOf (elementFor w p A o (ownPort (p .cell .ports) turn) (symbolAt (p .cell) (placeOf w p o j)) (carrierAt (p .cell) (placeOf w p o j)))
+      ownPort (p .cell .ports) portPair < p .cell .ports
+      → symbolIn w p (gridOf w p A) o portPair j
+      ≡ pairOf (elementFor w p A o (ownPort (p .cell .ports) portPair) (symbolAt (p .cell) (placeOf w p o j)) (carrierAt (p .cell) (placeOf w p o j)))
   unfolding symbolIn
   symbol-in in-port =
-      let q : ℕ = ownPort (p .cell .ports) turn in
+      let q : ℕ = ownPort (p .cell .ports) portPair in
       let t : ℕ = placeOf w p o j in
       let s : ℕ = symbolAt (p .cell) t in
       let k : ℕ = carrierAt (p .cell) t in

@@ -21,7 +21,7 @@ use Rattle.phich.specs.Recovery.{bitIn}
 use Rattle.phich.proofs.Units.{hi-unit, bit-le, recovered}
 use Rattle.phich.specs.Spreading.{spreadLength}
 use Rattle.plan.specs.Fields.{mappingUnits}
-use Rattle.plan.specs.Rows.{hisOf}
+use Rattle.plan.specs.CommandLists.{hisOf}
 use Rattle.plan.specs.Check.{checkOf}
 use Rattle.plan.specs.Valid.{HiIn}
 use Rattle.plan.specs.declared.Hi.{Hi}

@@ -15,7 +15,7 @@ use Rattle.phich.specs.His.{hiNumber}
 use Rattle.phich.specs.Units.{mappingUnit}
 use Rattle.phich.specs.Recovery.{bitIn}
 use Rattle.phich.specs.Spreading.{spreadLength}
-use Rattle.plan.specs.Rows.{hisOf, nthUser}
+use Rattle.plan.specs.CommandLists.{hisOf, nthUser}
 use Rattle.plan.specs.declared.User.{User}
 use Rattle.plan.specs.declared.Plan.{Plan}
 use Rattle.base.specs.Choice.{if_then_else_}
@@ -26,9 +26,9 @@ use Rattle.payload.specs.Sections.{sectionBytes}
 use Rattle.payload.specs.Payload.{sections}
 use Rattle.subframe.specs.Elements.{pbchFirst, controlInit, userInit}
 
--- the symbol of an owner's j-th place, from the port that sends it itself (precoding/specs/Places.antt: ownPort by the place's turn)
+-- the symbol of an owner's j-th place, from the port that sends it itself (precoding/specs/Places.antt: ownPort by the place's pair of ports)
 unfoldable pub symbolIn : List ℕ → Plan → List ℕ → Owner → ℕ → ℕ → Pair
-symbolIn w p g o turn j = pairOf (elementIn g (ownPort (p .cell .ports) turn * placesOf (p .cell) + placeOf w p o j))
+symbolIn w p g o portPair j = pairOf (elementIn g (ownPort (p .cell .ports) portPair * placesOf (p .cell) + placeOf w p o j))
 
 -- the bits of a symbol as a word, and 0 where no bits have its levels
 abbrev pub wordOf : Demapped → ℕ

@@ -18,7 +18,7 @@ use Rattle.precoding.specs.Phich.{phichPrecoded}
 use Rattle.precoding.specs.Places.{partnerIndex}
 use Rattle.precoding.proofs.Diversity.{by-place, phich-by-place}
 use Rattle.plan.specs.Check.{checkOf}
-use Rattle.plan.specs.Rows.{nthUser}
+use Rattle.plan.specs.CommandLists.{nthUser}
 use Rattle.plan.specs.declared.Plan.{Plan}
 use Rattle.plan.proofs.Valid.{valid}
 use Rattle.plan.specs.declared.Checked.the-variants.{Plan as accepted}

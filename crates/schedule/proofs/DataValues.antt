@@ -16,7 +16,7 @@ use Rattle.codeword.specs.Codewords.{dataSymbol}
 use Rattle.codeword.specs.Streams.{outputs, symbolsOf}
 use Rattle.codeword.proofs.Laws.{output-of, outputs-start}
 use Rattle.plan.specs.Check.{checkOf}
-use Rattle.plan.specs.Rows.{usersOf, nthUser}
+use Rattle.plan.specs.CommandLists.{usersOf, nthUser}
 use Rattle.plan.specs.declared.User.{User}
 use Rattle.plan.specs.declared.Plan.{Plan}
 use Rattle.plan.specs.declared.Checked.the-variants.{Plan as accepted}

@@ -8,12 +8,12 @@ use lib.Seq.{getD-take, getD-drop, drop-cons}
 use Rattle.base.specs.Bits.{bitAt}
 use Rattle.plan.specs.Check.{checkOf}
 use Rattle.plan.specs.Commands.{userOf}
-use Rattle.plan.specs.Rows.{nextOf, usersFrom, usersOf, nthUser}
+use Rattle.plan.specs.CommandLists.{nextOf, usersFrom, usersOf, nthUser}
 use Rattle.plan.specs.Valid.{UserIn}
 use Rattle.plan.specs.declared.User.{User}
 use Rattle.plan.specs.declared.Plan.{Plan}
 use Rattle.plan.specs.declared.Checked.the-variants.{Plan as accepted}
-use Rattle.plan.proofs.RowLaws.{row-next}
+use Rattle.plan.proofs.CommandLists.{row-next}
 use Rattle.plan.proofs.Listed.{every-at}
 use Rattle.plan.proofs.Valid.{valid}
 use Rattle.layout.specs.declared.Owner.the-variants.{Pbch, User as UserOf}

@@ -11,7 +11,7 @@ use Rattle.plan.specs.Check.{checkOf}
 use Rattle.plan.specs.Commands.{userOf}
 use Rattle.plan.specs.Fields.{mappingUnits}
 use Rattle.plan.specs.Lists.{oneOf}
-use Rattle.plan.specs.Rows.{nextOf, nthUser}
+use Rattle.plan.specs.CommandLists.{nextOf, nthUser}
 use Rattle.plan.specs.declared.Plan.{Plan}
 use Rattle.plan.specs.declared.User.{User}
 use Rattle.plan.specs.declared.Checked.the-variants.{Plan as accepted}

@@ -12,7 +12,7 @@ use Rattle.base.proofs.Tests.{on-if}
 use Rattle.plan.specs.Check.{checkOf}
 use Rattle.plan.specs.Commands.{userOf}
 use Rattle.plan.specs.Fields.{mappingUnits}
-use Rattle.plan.specs.Rows.{nextOf, usersOf, nthUser}
+use Rattle.plan.specs.CommandLists.{nextOf, usersOf, nthUser}
 use Rattle.plan.specs.Valid.{CellIn, FrameIn}
 use Rattle.plan.specs.declared.Plan.{Plan}
 use Rattle.plan.specs.declared.User.{User}

@@ -5,7 +5,7 @@ use mathlib.Core.Path.{_≡_}
 use mathlib.Core.List.{List}
 use lib.ListN.{length, drop}
 use Rattle.plan.specs.Check.{checkOf}
-use Rattle.plan.specs.Rows.{usersFrom, usersOf}
+use Rattle.plan.specs.CommandLists.{usersFrom, usersOf}
 use Rattle.plan.specs.declared.Plan.{Plan}
 use Rattle.plan.specs.declared.Checked.the-variants.{Plan as accepted}
 use Rattle.payload.specs.Sections.{startOf}

@@ -18,7 +18,7 @@ use Rattle.crs.specs.Crs.{crsInit}
 use Rattle.phich.specs.Spreading.{spreadLength}
 use Rattle.phich.specs.Loops.{QuadSums}
 use Rattle.plan.specs.Fields.{mappingUnits}
-use Rattle.plan.specs.Rows.{hisOf, nthUser}
+use Rattle.plan.specs.CommandLists.{hisOf, nthUser}
 use Rattle.plan.specs.Valid.{UserIn}
 use Rattle.plan.specs.declared.Cell.{Cell}
 use Rattle.plan.specs.declared.Plan.{Plan}

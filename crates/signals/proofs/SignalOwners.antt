@@ -10,7 +10,7 @@ use lib.Dec.{eqb, ltb}
 use lib.IntN.{pos}
 use borrow.Author.Tests.{eq-eqb, eqb-true, lt-ltb}
 use Rattle.base.proofs.Tests.{both}
-use Rattle.base.specs.Signs.{turn}
+use Rattle.base.specs.Signs.{flip}
 use Rattle.base.specs.Bytes.{elementOf}
 use Rattle.base.proofs.Pairs.{pair-of}
 use Rattle.gold.specs.Sequence.{c, pairAt}
@@ -46,8 +46,8 @@ value-from prefix C N n l m few =
     let a : k + 2 * m ≡ 2 * (m + 110 - N) = omega arith in
     let b : k + (2 * m + 1) ≡ 2 * (m + 110 - N) + 1 = omega arith in
     pair-of
-    (ap (λ (b : ℕ). turn b (pos 1)) (output-of init k (2 * m) ∙ ap (c init) a))
-    (ap (λ (b : ℕ). turn b (pos 1)) (output-of init k (2 * m + 1) ∙ ap (c init) b))
+    (ap (λ (b : ℕ). flip b (pos 1)) (output-of init k (2 * m) ∙ ap (c init) a))
+    (ap (λ (b : ℕ). flip b (pos 1)) (output-of init k (2 * m + 1) ∙ ap (c init) b))
 
 module _ (w : List ℕ) (p : Plan) where
   -- ---- reference signals

@@ -37,10 +37,10 @@ module _ {X : Type 0} {Done : Deed X} {Also : Step X} {none : X} (A : Accumulate
   pub word-first : (word n first : ℕ) → WordDone Done word n first 0 none
   word-first word n first = record { most = omega arith; done = empty A (wordSent word n first) (sixth-none first) }
 
-  pub word-turn :
+  pub word-step :
       {word n first i : ℕ} {x y : X} {d : Pair} {el : Element} → WordDone Done word n first i x → i < n → d ≡ wordValue (word / 2 ^ (2 * (n - 1 - i)) % 4) → el ≡ elementOf 2 d
       → Also (eqb (first + 6 * i)) (λ (e : ℕ). el) x y → WordDone Done word n first (i + 1) y
-  word-turn {word = word} {n = n} {first = first} {i = i} h l ed ee k =
+  word-step {word = word} {n = n} {first = first} {i = i} h l ed ee k =
       record { most = omega arith; done = A .more (sixth-past first i) (h .done) k (word-value word n first i ed ee) (sixth-one first i) }
 
   pub word-last : {word n first i : ℕ} {x : X} → WordDone Done word n first i x → n ≤ i → Done (everySixth first n) (wordSent word n first) x
@@ -50,10 +50,10 @@ module _ {X : Type 0} {Done : Deed X} {Also : Step X} {none : X} (A : Accumulate
   pub values-first : (r : Registers) (n first : ℕ) → ValuesDone Done r n first r 0 none
   values-first r n first = record { most = omega arith; stands = sym (after-none r); done = empty A (pairSent r first) (sixth-none first) }
 
-  pub values-turn :
+  pub values-step :
       {r pair next : Registers} {n first m : ℕ} {x y : X} (count word : ℕ) → ValuesDone Done r n first pair m x → m + count ≤ n → word ≡ wordOf pair (2 * count)
       → Also (everySixth (first + 6 * m) count) (wordSent word count (first + 6 * m)) x y → next ≡ after pair (2 * count) → ValuesDone Done r n first next (m + count) y
-  values-turn {r = r} {first = first} {m = m} count word h l ew k en =
+  values-step {r = r} {first = first} {m = m} count word h l ew k en =
       record {
         most = l;
         stands = pair-next r m count (h .stands) en;
@@ -68,10 +68,10 @@ module _ {X : Type 0} {Done : Deed X} {Also : Step X} {none : X} (A : Accumulate
   pub row-first : (W : ℕ → Element) (first : ℕ) → RowDone Done W first 0 none
   row-first W first = record { most = omega arith; done = empty A W (row-none first) }
 
-  pub row-turn :
+  pub row-step :
       {W : ℕ → Element} {first i : ℕ} {x y : X} {el : Element} → RowDone Done W first i x → i < 62 → el ≡ W (first + i) → Also (eqb (first + i)) (λ (e : ℕ). el) x y
       → RowDone Done W first (i + 1) y
-  row-turn {W = W} {first = first} {i = i} h l ee k =
+  row-step {W = W} {first = first} {i = i} h l ee k =
       record { most = omega arith; done = A .more (row-past first i) (h .done) k (λ e t. ee ∙ ap W (eqb-true (first + i) e t)) (row-one first i) }
 
   pub row-last : {W : ℕ → Element} {first i : ℕ} {x : X} → RowDone Done W first i x → 62 ≤ i → Done (inRow first 62) W x

@@ -11,7 +11,7 @@ use mir.Val.{toZ, ofZ}
 use borrow.Author.Tests.{eqb-true}
 use Rattle.base.specs.declared.Pair.{Pair}
 use Rattle.base.specs.declared.Element.{Element}
-use Rattle.base.specs.Signs.{turn}
+use Rattle.base.specs.Signs.{flip}
 use Rattle.base.specs.Bytes.{elementOf}
 use Rattle.base.specs.Digits.{dig}
 use Rattle.base.proofs.Pairs.{pair-of}
@@ -48,12 +48,12 @@ pair-bit r m n a b t e f =
     ∙ ap outputOf (after-after r (2 * m) (0 + a) ∙ ap (after r) f)
 
 -- the value of two bits from bit j on, counted from the right
-two-bits : (w j : ℕ) {a b : ℕ} → dig w (j + 1) ≡ a → dig w j ≡ b → wordValue (w / 2 ^ j % 4) ≡ record { re = turn a (pos 1); im = turn b (pos 1) }
+two-bits : (w j : ℕ) {a b : ℕ} → dig w (j + 1) ≡ a → dig w j ≡ b → wordValue (w / 2 ^ j % 4) ≡ record { re = flip a (pos 1); im = flip b (pos 1) }
 unfolding wordValue dig
 two-bits w j ea eb =
     pair-of
-    (ap (λ (b : ℕ). turn b (pos 1)) (halved (w / 2 ^ j) ∙ ap (λ (x : ℕ). x % 2) (shr-shr w j 1) ∙ ea))
-    (ap (λ (b : ℕ). turn b (pos 1)) (last (w / 2 ^ j) ∙ eb))
+    (ap (λ (b : ℕ). flip b (pos 1)) (halved (w / 2 ^ j) ∙ ap (λ (x : ℕ). x % 2) (shr-shr w j 1) ∙ ea))
+    (ap (λ (b : ℕ). flip b (pos 1)) (last (w / 2 ^ j) ∙ eb))
   where
     halved : (x : ℕ) → x % 4 / 2 ≡ x / 2 ^ 1 % 2
     halved x = omega arith

@@ -6,7 +6,7 @@ use lib.Dec.{eqb}
 use lib.IntN.{pos}
 use Rattle.base.specs.declared.Pair.{Pair}
 use Rattle.base.specs.declared.Element.{Element}
-use Rattle.base.specs.Signs.{turn}
+use Rattle.base.specs.Signs.{flip}
 use Rattle.base.specs.Bytes.{elementOf}
 use Rattle.gold.specs.declared.Registers.{Registers}
 use Rattle.codeword.specs.Streams.{outputs}
@@ -24,7 +24,7 @@ crsSends c s q e =
 
 -- value m of a symbol, two bits of what the pair gives
 unfoldable pub crsFrom : Registers → ℕ → Pair
-crsFrom r m = record { re = turn (outputs r (2 * m)) (pos 1); im = turn (outputs r (2 * m + 1)) (pos 1) }
+crsFrom r m = record { re = flip (outputs r (2 * m)) (pos 1); im = flip (outputs r (2 * m + 1)) (pos 1) }
 
 unfoldable pub crsSent : Cell → Registers → ℕ → Element
 crsSent c r e = elementOf 2 (crsFrom r (carrierAt c (e % placesOf c) / 6))

@@ -12,7 +12,7 @@ use lib.ListN.{length}
 use borrow.Author.Tests.{eqb-true, eq-eqb}
 use Rattle.base.proofs.Tests.{clash, or-left, or-right}
 use Rattle.base.specs.declared.Element.{Element}
-use Rattle.base.specs.Signs.{turn}
+use Rattle.base.specs.Signs.{flip}
 use Rattle.base.specs.Bytes.{elementOf}
 use Rattle.gold.specs.declared.Registers.{Registers}
 use Rattle.codeword.specs.Streams.{outputs}
@@ -81,7 +81,7 @@ number-is two =
     let b : two % 4 % 2 ≡ two % 2 = omega arith in
     rw (a, b) (bits (two / 2 % 2) (two % 2) (omega arith) (omega arith))
   where
-    bits : (a b : ℕ) → a < 2 → b < 2 → elementFrom (65794 + a * 65024 + b * 16646144) ≡ elementOf 2 (record { re = turn a (pos 1); im = turn b (pos 1) })
+    bits : (a b : ℕ) → a < 2 → b < 2 → elementFrom (65794 + a * 65024 + b * 16646144) ≡ elementOf 2 (record { re = flip a (pos 1); im = flip b (pos 1) })
     bits zero zero l k = refl
     bits zero (suc zero) l k = refl
     bits (suc zero) zero l k = refl
@@ -91,7 +91,7 @@ number-is two =
     bits (suc (suc a)) b l k = absurd (omega arith)
 
 -- ---- every value has three bytes that are not 0
-value-weight : (a b : ℕ) → weightOf (elementOf 2 (record { re = turn a (pos 1); im = turn b (pos 1) })) ≡ 3
+value-weight : (a b : ℕ) → weightOf (elementOf 2 (record { re = flip a (pos 1); im = flip b (pos 1) })) ≡ 3
 unfolding weightOf elementOf nonzero
 value-weight zero zero = refl
 value-weight zero (suc b) = refl

@@ -9,7 +9,7 @@ use Rattle.base.specs.Pairs.{Small}
 use Rattle.gold.specs.Sequence.{c}
 use Rattle.plan.specs.Lists.{Every, Apart}
 use Rattle.plan.specs.Fields.{sequencesOf}
-use Rattle.plan.specs.Rows.{hisOf}
+use Rattle.plan.specs.CommandLists.{hisOf}
 use Rattle.plan.specs.Check.{checkOf}
 use Rattle.plan.specs.Valid.{HiIn, OtherPair}
 use Rattle.plan.specs.declared.Cell.{Cell}

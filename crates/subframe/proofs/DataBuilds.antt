@@ -17,7 +17,7 @@ use Rattle.precoding.specs.Layers.{Occurs}
 use Rattle.precoding.specs.Matrices.{precoded}
 use Rattle.precoding.proofs.Diversity.{same-elements, same-symbols}
 use Rattle.plan.specs.Check.{checkOf}
-use Rattle.plan.specs.Rows.{usersOf, nthUser}
+use Rattle.plan.specs.CommandLists.{usersOf, nthUser}
 use Rattle.plan.specs.declared.Plan.{Plan}
 use Rattle.plan.specs.declared.Checked.the-variants.{Plan as accepted}
 use Rattle.layout.specs.declared.Owner.{Owner}

@@ -13,9 +13,9 @@ use borrow.Author.Tests.{eqb-true, eqb-false, ltb-true}
 use Rattle.base.specs.declared.Pair.{Pair}
 use Rattle.base.specs.declared.Element.{Element}
 use Rattle.base.specs.Bytes.{elementOf, silent}
-use Rattle.base.specs.Signs.{turn}
+use Rattle.base.specs.Signs.{flip}
 use Rattle.base.specs.Pairs.{nil, Small}
-use Rattle.base.proofs.Fits.{abs-neg, turn-abs}
+use Rattle.base.proofs.Fits.{abs-neg, flip-abs}
 use Rattle.base.proofs.Tests.{by-test, on-if}
 use Rattle.gold.specs.Sequence.{c}
 use Rattle.modulation.specs.Symbols.{Order, unitIn, unitOf}
@@ -30,7 +30,7 @@ use Rattle.sync.specs.Sss.{sssBit, sssLevel}
 use Rattle.plan.specs.Lists.{oneOf, Among}
 use Rattle.plan.proofs.OneOf.{among}
 use Rattle.plan.specs.Check.{checkOf}
-use Rattle.plan.specs.Rows.{nthUser}
+use Rattle.plan.specs.CommandLists.{nthUser}
 use Rattle.plan.specs.declared.Cell.{Cell}
 use Rattle.plan.specs.declared.Frame.{Frame}
 use Rattle.plan.specs.declared.Plan.{Plan}
@@ -63,8 +63,8 @@ pub data Valued : Element → Type 0 where
 negated : (z : ℤ) → natAbs z ≤ 8 → natAbs (negℤ z) ≤ 8
 negated z h = omega (arith, abs-neg z)
 
-sign : (b : ℕ) → natAbs (turn b (pos 1)) ≤ 8
-sign b = omega (arith, turn-abs b (pos 1))
+sign : (b : ℕ) → natAbs (flip b (pos 1)) ≤ 8
+sign b = omega (arith, flip-abs b (pos 1))
 
 -- ---- what precoding sends of symbols with levels of at most 8
 sent-valued : (u : ℕ) (r : MatrixRow) (x : ℕ → Pair) → Among u levelUnits → ((v : ℕ) → Small 8 (x v)) → Valued (sent u r x)

@@ -11,7 +11,7 @@ use Rattle.precoding.specs.Layers.{Occurs, one, two, four}
 use Rattle.plan.specs.Lists.{Among}
 use Rattle.plan.specs.Fields.{portCounts}
 use Rattle.plan.specs.Check.{checkOf}
-use Rattle.plan.specs.Rows.{usersOf}
+use Rattle.plan.specs.CommandLists.{usersOf}
 use Rattle.plan.specs.declared.Plan.{Plan}
 use Rattle.plan.specs.declared.Checked.the-variants.{Plan as accepted}
 use Rattle.plan.proofs.Valid.{valid}

@@ -11,7 +11,7 @@ use Rattle.base.specs.declared.Element.{Element}
 use Rattle.base.specs.Bytes.{byteIn}
 use Rattle.plan.specs.Fields.{mappingUnits}
 use Rattle.plan.specs.Check.{checkOf}
-use Rattle.plan.specs.Rows.{usersOf}
+use Rattle.plan.specs.CommandLists.{usersOf}
 use Rattle.plan.specs.declared.Plan.{Plan}
 use Rattle.plan.specs.declared.Checked.the-variants.{Plan as accepted}
 use Rattle.plan.proofs.Listed.{and-left}

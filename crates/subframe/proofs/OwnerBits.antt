@@ -16,7 +16,7 @@ use Rattle.codeword.proofs.Laws.{symbols-same, symbol-bits}
 use Rattle.plan.specs.Lists.{Among, Every}
 use Rattle.plan.specs.Fields.{orders}
 use Rattle.plan.specs.Check.{checkOf}
-use Rattle.plan.specs.Rows.{usersOf, nthUser}
+use Rattle.plan.specs.CommandLists.{usersOf, nthUser}
 use Rattle.plan.specs.Valid.{UserIn}
 use Rattle.plan.specs.declared.Plan.{Plan}
 use Rattle.plan.specs.declared.Checked.the-variants.{Plan as accepted}

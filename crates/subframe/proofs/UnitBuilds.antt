@@ -26,7 +26,7 @@ use Rattle.phich.proofs.Units.{bit-le, exactly}
 use Rattle.phich.specs.Spreading.{spreadLength}
 use Rattle.plan.specs.Lists.{Every}
 use Rattle.plan.specs.Fields.{mappingUnits}
-use Rattle.plan.specs.Rows.{hisOf}
+use Rattle.plan.specs.CommandLists.{hisOf}
 use Rattle.plan.specs.Check.{checkOf}
 use Rattle.plan.specs.declared.Hi.{Hi}
 use Rattle.plan.specs.declared.Plan.{Plan}

@@ -21,7 +21,7 @@ use Rattle.sync.specs.Pss.{pssPhase}
 use Rattle.sync.specs.Sss.{sssLevel}
 use Rattle.phich.specs.Spreading.{spreadLength}
 use Rattle.phich.specs.Units.{mappingUnitSums}
-use Rattle.plan.specs.Rows.{hisOf, nthUser}
+use Rattle.plan.specs.CommandLists.{hisOf, nthUser}
 use Rattle.plan.specs.declared.Cell.{Cell}
 use Rattle.plan.specs.declared.Frame.{Frame}
 use Rattle.plan.specs.declared.User.{User}

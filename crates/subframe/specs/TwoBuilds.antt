@@ -11,7 +11,7 @@ use lib.ListN.{length, getD}
 use Rattle.base.specs.Bits.{bitAt}
 use Rattle.plan.specs.Lists.{Every}
 use Rattle.plan.specs.Fields.{mappingUnits}
-use Rattle.plan.specs.Rows.{usersOf}
+use Rattle.plan.specs.CommandLists.{usersOf}
 use Rattle.plan.specs.declared.Plan.{Plan}
 use Rattle.layout.specs.Owners.{gridPlace, symbols, carriers, owns}
 use Rattle.layout.specs.declared.Mark.the-variants.{Primary, Secondary}

@@ -27,9 +27,9 @@ exponent n = pick (leb n 30)
     pick false = omega (arith, even (n + 1))
 
 -- THE LAW OF PHASES: u E = 2 I + 126 k with a whole k, so that −π u E/63 is −2πI/63 less k whole turns
-pub phase-turns : (C n : ℕ) → pssRoot (C % 3) * zadoffChu n ≡ 2 * pssPhase C n + 126 * (pssRoot (C % 3) * pssT n / 63)
+pub phase-whole : (C n : ℕ) → pssRoot (C % 3) * zadoffChu n ≡ 2 * pssPhase C n + 126 * (pssRoot (C % 3) * pssT n / 63)
 unfolding pssPhase
-phase-turns C n = rw (exponent n) (whole (pssRoot (C % 3)) (pssT n))
+phase-whole C n = rw (exponent n) (whole (pssRoot (C % 3)) (pssT n))
   where
     whole : (u t : ℕ) → u * (2 * t) ≡ 2 * (u * t % 63) + 126 * (u * t / 63)
     whole u t = omega arith

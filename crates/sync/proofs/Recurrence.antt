@@ -7,7 +7,7 @@ use Rattle.base.specs.Digits.{dig, dig-shr, dig-mod}
 use Rattle.sync.specs.Sss.{goingOn, sBit, cBit, zBit}
 use Rattle.sync.specs.Inner.{Holds, Sequences, pushedOf}
 
--- after i turns bit j is x(i + j - 26), where that is a place of the sequence
+-- after i steps bit j is x(i + j - 26), where that is a place of the sequence
 pub record Run (x : ℕ → ℕ) (i w : ℕ) : Type 0 where
   pub small : w < 2 ^ 31
   pub bit : (j n : ℕ) → j < 31 → n + 26 ≡ i + j → dig w j ≡ x n
@@ -30,7 +30,7 @@ begun x a b c d e = record { small = omega arith; bit = each }
         let g : j ≡ 26 + n = omega arith in
         ap (dig (2 ^ 30)) g ∙ first x a b c d e n (omega arith)
 
--- ---- a turn: the bit that comes in is the recurrence's
+-- ---- a step: the bit that comes in is the recurrence's
 low-dig : (w sum j : ℕ) → w < 2 ^ 31 → j < 30 → dig (pushedOf w sum) j ≡ dig w (1 + j)
 low-dig w sum j h less =
     let e : pushedOf w sum % 2 ^ 30 ≡ w / 2 = omega arith in
@@ -40,8 +40,8 @@ high-dig : (w sum : ℕ) → w < 2 ^ 31 → dig (pushedOf w sum) 30 ≡ sum % 2
 unfolding dig
 high-dig w sum h = omega arith
 
-turned : (x : ℕ → ℕ) (i w sum : ℕ) → Run x i w → sum % 2 ≡ x (i + 5) → Run x (i + 1) (pushedOf w sum)
-turned x i w sum t e = record { small = omega (arith, t .small); bit = each }
+flipped : (x : ℕ → ℕ) (i w sum : ℕ) → Run x i w → sum % 2 ≡ x (i + 5) → Run x (i + 1) (pushedOf w sum)
+flipped x i w sum t e = record { small = omega (arith, t .small); bit = each }
   where
     each : (j n : ℕ) → j < 31 → n + 26 ≡ i + 1 + j → dig (pushedOf w sum) j ≡ x n
     each j n h k = pick (ℕ-discrete j 30)
@@ -119,9 +119,9 @@ z-next i w t =
     (tap zBit i w 0 i t (omega arith) (omega arith))
     ∙ sym (z-recurrence i)
 
--- ---- the loop: all three words after i turns
+-- ---- the loop: all three words after i steps
 pub record Filled (i s c z : ℕ) : Type 0 where
-  pub turns : i ≤ 26
+  pub few : i ≤ 26
   pub s-run : Run sBit i s
   pub c-run : Run cBit i c
   pub z-run : Run zBit i z
@@ -130,7 +130,7 @@ pub filled-none : Filled 0 (2 ^ 30) (2 ^ 30) (2 ^ 30)
 unfolding goingOn sBit cBit zBit
 filled-none =
     record {
-      turns = omega arith;
+      few = omega arith;
       s-run = begun sBit refl refl refl refl refl;
       c-run = begun cBit refl refl refl refl refl;
       z-run = begun zBit refl refl refl refl refl;
@@ -143,10 +143,10 @@ pub filled-more : (i s c z s' c' z' : ℕ) → i < 26 → Filled i s c z
     → Filled (i + 1) s' c' z'
 filled-more i s c z s' c' z' h t e f g =
     record {
-      turns = omega arith;
-      s-run = rw e (turned sBit i s (s / 2 ^ 28 + s / 2 ^ 26) (t .s-run) (s-next i s (t .s-run)));
-      c-run = rw f (turned cBit i c (c / 2 ^ 29 + c / 2 ^ 26) (t .c-run) (c-next i c (t .c-run)));
-      z-run = rw g (turned zBit i z (z / 2 ^ 30 + z / 2 ^ 28 + z / 2 ^ 27 + z / 2 ^ 26) (t .z-run) (z-next i z (t .z-run)));
+      few = omega arith;
+      s-run = rw e (flipped sBit i s (s / 2 ^ 28 + s / 2 ^ 26) (t .s-run) (s-next i s (t .s-run)));
+      c-run = rw f (flipped cBit i c (c / 2 ^ 29 + c / 2 ^ 26) (t .c-run) (c-next i c (t .c-run)));
+      z-run = rw g (flipped zBit i z (z / 2 ^ 30 + z / 2 ^ 28 + z / 2 ^ 27 + z / 2 ^ 26) (t .z-run) (z-next i z (t .z-run)));
     }
 
 whole : (x : ℕ → ℕ) (i w : ℕ) → i ≡ 26 → Run x i w → Holds x w
@@ -154,7 +154,7 @@ whole x i w e t = record { small = t .small; bit = λ j less. t .bit j j less (o
 
 pub filled-all : (i s c z : ℕ) → 26 ≤ i → Filled i s c z → Sequences (record { s = s; c = c; z = z })
 filled-all i s c z h t =
-    let e : i ≡ 26 = omega (arith, t .turns) in
+    let e : i ≡ 26 = omega (arith, t .few) in
     record {
       s-bits = whole sBit i s e (t .s-run);
       c-bits = whole cBit i c e (t .c-run);

@@ -7,9 +7,9 @@ use borrow.Author.Tests.{eq-eqb, ne-eqb}
 use lib.Bits.{bitXor}
 use lib.Dec.{eqb}
 use lib.IntN.{pos, negsuc}
-use Rattle.base.specs.Signs.{turn}
+use Rattle.base.specs.Signs.{flip}
 use Rattle.base.specs.Digits.{dig}
-use Rattle.base.proofs.Signs.{turn-one}
+use Rattle.base.proofs.Signs.{flip-one}
 use Rattle.sync.specs.declared.Indices.{Indices}
 use Rattle.sync.specs.declared.Sss.{Sss}
 use Rattle.sync.specs.declared.Words.{Words}
@@ -18,7 +18,7 @@ use Rattle.sync.specs.Inner.{Sequences, indicesOf, lowFirst, sssOf, bitI
 use Rattle.sync.proofs.Bits.{low-first-bit, low-first-is, holds-same, holds-xor, holds-around}
 
 -- ---- a product of signs is the sum of their bits mod 2: (1 − 2a)(1 − 2b) is the sign of a + b mod 2
-pub signs-multiply : (a b : ℕ) → a < 2 → b < 2 → turn ((a + b) % 2) (pos 1) ≡ turn a (turn b (pos 1))
+pub signs-multiply : (a b : ℕ) → a < 2 → b < 2 → flip ((a + b) % 2) (pos 1) ≡ flip a (flip b (pos 1))
 signs-multiply zero zero h k = refl
 signs-multiply zero (suc zero) h k = refl
 signs-multiply (suc zero) zero h k = refl
@@ -72,7 +72,7 @@ odd-two true C n = omega arith
 -- THE LAW OF LEVELS: what the words hold is the signal
 pub level-is : (C f i : ℕ) → i < 62 → levelIn (sssOf C f) i ≡ sssLevel C f i
 unfolding levelIn bitIn sssOf sssLevel sssBit
-level-is C f i h = ap (λ (b : ℕ). turn b (pos 1)) (pick (eqb (i % 2) 0))
+level-is C f i h = ap (λ (b : ℕ). flip b (pos 1)) (pick (eqb (i % 2) 0))
   where
     pick : (t : Bool) → dig (cond t (lowFirst (sssEven (eqb f 5) C) 31) (lowFirst (sssOdd (eqb f 5) C) 31)) (i / 2)
         ≡ cond t (sssEven (eqb f 5) C (i / 2)) (sssOdd (eqb f 5) C (i / 2))
@@ -89,8 +89,8 @@ bit-odd s i e = rw (ne-eqb (i % 2) 0 e) refl
 
 pub level-plus : (s : Sss) (i b : ℕ) → b ≡ bitIn s i → b ≡ 0 → pos 1 ≡ levelIn s i
 unfolding levelIn
-level-plus s i b e h = ap (λ (k : ℕ). turn k (pos 1)) (sym h ∙ e)
+level-plus s i b e h = ap (λ (k : ℕ). flip k (pos 1)) (sym h ∙ e)
 
 pub level-minus : (s : Sss) (i b : ℕ) → b ≡ bitIn s i → (b ≡ 0 → ⊥) → negsuc 0 ≡ levelIn s i
 unfolding levelIn
-level-minus s i b e h = sym (turn-one b (pos 1) h) ∙ ap (λ (k : ℕ). turn k (pos 1)) e
+level-minus s i b e h = sym (flip-one b (pos 1) h) ∙ ap (λ (k : ℕ). flip k (pos 1)) e

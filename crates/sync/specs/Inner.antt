@@ -4,7 +4,7 @@ use mathlib.Core.Path.{_≡_}
 use mathlib.Core.Bool.{cond}
 use lib.Dec.{eqb}
 use lib.IntN.{ℤ, pos}
-use Rattle.base.specs.Signs.{turn}
+use Rattle.base.specs.Signs.{flip}
 use Rattle.base.specs.Digits.{dig}
 use Rattle.sync.specs.declared.Indices.{Indices}
 use Rattle.sync.specs.declared.Sss.{Sss}
@@ -47,7 +47,7 @@ unfoldable pub bitIn : Sss → ℕ → ℕ
 bitIn s i = dig (cond (eqb (i % 2) 0) (s .even) (s .odd)) (i / 2)
 
 unfoldable pub levelIn : Sss → ℕ → ℤ
-levelIn s i = turn (bitIn s i) (pos 1)
+levelIn s i = flip (bitIn s i) (pos 1)
 
 -- 36.211's two forms of the signal, for subframes 0 and 5, are one with the indices exchanged
 unfoldable pub signsOf : ℕ → ℕ → ℕ → Sss

@@ -4,7 +4,7 @@ use Prim.Native.Nat.{ℕ, zero, suc, _+_, _*_, _/_, _%_}
 use mathlib.Core.Bool.{Bool, true, false, cond}
 use lib.Dec.{eqb}
 use lib.IntN.{ℤ, pos}
-use Rattle.base.specs.Signs.{turn}
+use Rattle.base.specs.Signs.{flip}
 
 -- ---- TS 36.211 6.11.2.1 and document 01, Owners: the indices of the group D = N_ID^(1) = floor(C/3)
 -- q' = floor(D/30)
@@ -28,7 +28,7 @@ unfoldable pub m1Of : ℕ → ℕ
 m1Of D = (m0Of D + eOf D / 31 + 1) % 31
 
 -- ---- TS 36.211 6.11.2.1: the sequences s~(i) = 1 − 2x(i), and c~ and z~ likewise, i = 0, .., 30; here x(i) of each.
--- x(i), where x(0), .., x(4) are given and x(i+5) follows by a rule from x(i), .., x(i+4): each turn leaves the first out and adds the next.
+-- x(i), where x(0), .., x(4) are given and x(i+5) follows by a rule from x(i), .., x(i+4): each step leaves the first out and adds the next.
 -- 36.211's recurrences are proved of it: `s-recurrence`, `c-recurrence`, `z-recurrence` of proofs/Recurrence.antt.
 unfoldable pub goingOn : (ℕ → ℕ → ℕ → ℕ → ℕ → ℕ) → ℕ → ℕ → ℕ → ℕ → ℕ → ℕ → ℕ
 goingOn rule x0 x1 x2 x3 x4 zero = x0
@@ -74,4 +74,4 @@ sssBit C f i = cond (eqb (i % 2) 0) (sssEven (eqb f 5) C (i / 2)) (sssOdd (eqb f
 
 -- d(i) itself (document 01, Owners: unit 1, level I = d(i), J = 0)
 unfoldable pub sssLevel : ℕ → ℕ → ℕ → ℤ
-sssLevel C f i = turn (sssBit C f i) (pos 1)
+sssLevel C f i = flip (sssBit C f i) (pos 1)

@@ -83,7 +83,7 @@ fn pushed(w: u32, sum: u32) -> u32
     w / 2 + sum % 2 * 0x4000_0000
 }
 
-// The recurrences: after i turns bits 26 to 30 of each word are x(i), .., x(i+4). To start with, x(4) alone is 1.
+// The recurrences: after i steps bits 26 to 30 of each word are x(i), .., x(i+4). To start with, x(4) alone is 1.
 fn sequences() -> Words
     ensures { λ r. ⌜ Sequences r ⌝ }
 {

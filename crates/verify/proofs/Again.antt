@@ -18,7 +18,7 @@ use Rattle.gold.specs.Sequence.{binary}
 use Rattle.gold.proofs.Binary.{binary-lt, binary-digit}
 use Rattle.modulation.specs.Demapping.{Demapped, Word, demapOf}
 use Rattle.modulation.specs.Marks.{isSymbol}
-use Rattle.modulation.specs.Symbols.{Order, symbolOf}
+use Rattle.modulation.specs.Symbols.{Order, modulationSymbol}
 use Rattle.modulation.proofs.Constellation.{symbol-known, word-of}
 use Rattle.codeword.specs.Codewords.{scrambled, dataSymbol}
 use Rattle.codeword.proofs.Laws.{scrambled-lt, order-symbol}
@@ -111,7 +111,7 @@ module _
     unfolding dataSymbol
     symbol-again j l known =
         let v = word-of Q (S j) order known in
-        ap (symbolOf Q) (word-again Q (ownerBit w p (payloadIn w p g) o) x (Q * j) (v .0) (v .2) (λ i r. bit-again j (v .0) i l r (v .1))) ∙ v .3
+        ap (modulationSymbol Q) (word-again Q (ownerBit w p (payloadIn w p g) o) x (Q * j) (v .0) (v .2) (λ i r. bit-again j (v .0) i l r (v .1))) ∙ v .3
 
     -- ---- an element that is sent: its owner, its port
     parts : (e : ℕ) → ownerSends w p o e ≡ true → (ownsAt w p o (e % T) ≡ true) × (e / T < P)

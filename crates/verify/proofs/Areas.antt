@@ -14,7 +14,7 @@ use Rattle.modulation.specs.Symbols.{unitOf}
 use Rattle.codeword.specs.Codewords.{dataSymbol}
 use Rattle.precoding.specs.Places.{ownPort, placed}
 use Rattle.plan.specs.Check.{checkOf}
-use Rattle.plan.specs.Rows.{usersOf, nthUser}
+use Rattle.plan.specs.CommandLists.{usersOf, nthUser}
 use Rattle.plan.specs.declared.Plan.{Plan}
 use Rattle.plan.specs.declared.User.{User}
 use Rattle.plan.specs.declared.Checked.the-variants.{Plan as accepted}

@@ -17,7 +17,7 @@ use Rattle.phich.specs.Loops.{QuadSums}
 use Rattle.phich.proofs.Scrambled.{part-is}
 use Rattle.plan.specs.Check.{checkOf}
 use Rattle.plan.specs.Fields.{mappingUnits}
-use Rattle.plan.specs.Rows.{hisFrom, hisOf, usersOf, nthUser}
+use Rattle.plan.specs.CommandLists.{hisFrom, hisOf, usersOf, nthUser}
 use Rattle.plan.specs.Valid.{CellIn, FrameIn}
 use Rattle.plan.specs.declared.User.{User}
 use Rattle.plan.specs.declared.Plan.{Plan}

@@ -9,7 +9,7 @@ use borrow.Author.Tests.{eq-eqb}
 use lib.ListN.{length}
 use Rattle.modulation.specs.Marks.{isSymbol}
 use Rattle.precoding.specs.Layers.{Occurs, one, two, four}
-use Rattle.plan.specs.Rows.{usersOf, nthUser}
+use Rattle.plan.specs.CommandLists.{usersOf, nthUser}
 use Rattle.plan.specs.declared.Plan.{Plan}
 use Rattle.plan.proofs.Valid.{valid}
 use Rattle.layout.specs.declared.Owner.the-variants.{Pbch, User as UserOf}

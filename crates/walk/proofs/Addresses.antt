@@ -19,15 +19,15 @@ use Rattle.walk.proofs.Forms.{six-pairs, left-pairs, right-pairs, apart
 use Rattle.walk.proofs.Runs.{pair-inside, pair-count, pairs-of}
 use Rattle.walk.specs.Addresses.{OffsetsAt, PairsIn, PairsFit, RunPairs, RoundAt, RunIn, RunOpen}
 
-pub own-turn : (P x y : ℕ) → x % 2 ≡ y % 2 → ownPort P x ≡ ownPort P y
+pub own-pair : (P x y : ℕ) → x % 2 ≡ y % 2 → ownPort P x ≡ ownPort P y
 unfolding ownPort
-own-turn P x y e = ap (λ (z : ℕ). cond (eqb P 4) z 0) e
+own-pair P x y e = ap (λ (z : ℕ). cond (eqb P 4) z 0) e
 
-pub own-few : (P turn : ℕ) → ownPort P turn ≤ 1
+pub own-few : (P portPair : ℕ) → ownPort P portPair ≤ 1
 unfolding ownPort
-own-few P turn = pick (eqb P 4)
+own-few P portPair = pick (eqb P 4)
   where
-    pick : (b : Bool) → cond b (turn % 2) 0 ≤ 1
+    pick : (b : Bool) → cond b (portPair % 2) 0 ≤ 1
     pick true = omega arith
     pick false = omega arith
 
@@ -39,16 +39,16 @@ offsets-made P T j a b c x y z =
     let t : (j / 2 % 2 + 1) % 2 ≡ (j + 2) / 2 % 2 % 2 = omega arith in
     record {
       own = ap (λ (q : ℕ). q * T) x;
-      next = ap (λ (q : ℕ). q * T) (y ∙ own-turn P (j / 2 % 2 + 1) ((j + 2) / 2 % 2) t);
-      across = λ turn. ap (λ (q : ℕ). ownPort P turn * T + q * T) z ∙ sym (add-mul (ownPort P turn) (P / 2) T);
+      next = ap (λ (q : ℕ). q * T) (y ∙ own-pair P (j / 2 % 2 + 1) ((j + 2) / 2 % 2) t);
+      across = λ portPair. ap (λ (q : ℕ). ownPort P portPair * T + q * T) z ∙ sym (add-mul (ownPort P portPair) (P / 2) T);
     }
 
 -- the pair at index j + 2i
 pub same-own : (P j i : ℕ) → ownPort P ((j + 2 * (2 * i)) / 2 % 2) ≡ ownPort P (j / 2 % 2)
-same-own P j i = own-turn P ((j + 2 * (2 * i)) / 2 % 2) (j / 2 % 2) (omega arith)
+same-own P j i = own-pair P ((j + 2 * (2 * i)) / 2 % 2) (j / 2 % 2) (omega arith)
 
 pub next-own : (P j i : ℕ) → ownPort P ((j + 2 * (2 * i + 1)) / 2 % 2) ≡ ownPort P ((j + 2) / 2 % 2)
-next-own P j i = own-turn P ((j + 2 * (2 * i + 1)) / 2 % 2) ((j + 2) / 2 % 2) (omega arith)
+next-own P j i = own-pair P ((j + 2 * (2 * i + 1)) / 2 % 2) ((j + 2) / 2 % 2) (omega arith)
 
 pub steps-on : (step x : ℕ) → step * (2 * (x + 1)) ≡ step * (2 * x) + 2 * step
 steps-on step x = let e : 2 * (x + 1) ≡ 2 * x + 2 = omega arith in ap (λ (y : ℕ). step * y) e ∙ mul-add step (2 * x) 2 ∙ (omega arith)
@@ -58,14 +58,14 @@ step-next step x = mul-add step (2 * x) 1 ∙ (omega arith)
 
 -- its elements are in the grid
 module _ {P T gap j start step m : ℕ} {grid : List ℕ} (h : PairsIn P T gap j start step m grid) where
-  pub own-inside : (turn i : ℕ) → i < m → 3 * (ownPort P turn * T + (start + step * i)) + 3 * gap + 2 < length grid
-  own-inside turn i l = omega (arith, element-fits (h .room) (ownPort P turn) (start + step * i + gap) (own-lt (h .room) turn) (h .inside i l) .2)
+  pub own-inside : (portPair i : ℕ) → i < m → 3 * (ownPort P portPair * T + (start + step * i)) + 3 * gap + 2 < length grid
+  own-inside portPair i l = omega (arith, element-fits (h .room) (ownPort P portPair) (start + step * i + gap) (own-lt (h .room) portPair) (h .inside i l) .2)
 
-  pub other-inside : (turn i : ℕ) → i < m → 3 * (otherPort P turn * T + (start + step * i)) + 3 * gap + 2 < length grid
-  other-inside turn i l = omega (arith, element-fits (h .room) (otherPort P turn) (start + step * i + gap) (other-lt (h .room) turn) (h .inside i l) .2)
+  pub other-inside : (portPair i : ℕ) → i < m → 3 * (otherPort P portPair * T + (start + step * i)) + 3 * gap + 2 < length grid
+  other-inside portPair i l = omega (arith, element-fits (h .room) (otherPort P portPair) (start + step * i + gap) (other-lt (h .room) portPair) (h .inside i l) .2)
 
-  pub own-most : (turn : ℕ) → ownPort P turn * T ≤ 16800
-  own-most turn = omega (arith, mul-le-mul {n₁ = ownPort P turn} {m₁ = T} {n₂ = 1} {m₂ = 16800} (own-few P turn) (h .room .fits))
+  pub own-most : (portPair : ℕ) → ownPort P portPair * T ≤ 16800
+  own-most portPair = omega (arith, mul-le-mul {n₁ = ownPort P portPair} {m₁ = T} {n₂ = 1} {m₂ = 16800} (own-few P portPair) (h .room .fits))
 
   pub across-most : {r : PortOffsets} → OffsetsAt P T j r → r .across ≤ 67200
   across-most {r} p =

@@ -14,7 +14,7 @@ use Rattle.walk.specs.Forms.{Paired, PairForm, SingleForm, holedPlace}
 pub record OffsetsAt (P T j : ℕ) (r : PortOffsets) : Type 0 where
   pub own : r .own ≡ ownPort P (j / 2 % 2) * T
   pub next : r .next ≡ ownPort P ((j + 2) / 2 % 2) * T
-  pub across : (turn : ℕ) → ownPort P turn * T + r .across ≡ otherPort P turn * T
+  pub across : (portPair : ℕ) → ownPort P portPair * T + r .across ≡ otherPort P portPair * T
 
 -- m pairs from place `start` on and from index j on, inside a grid of two ports or four
 pub record PairsIn (P T gap j start step m : ℕ) (grid : List ℕ) : Type 0 where

@@ -1,6 +1,6 @@
 -- The bits of a level, the sign first. The invariant: the last k bits are still to come.
 use native.Mathlib.Omega.{arith}
-use Rattle.constellation.proofs.Axes.{AxisPart, part-start, part-turn, part-few, part-end}
+use Rattle.constellation.proofs.Axes.{AxisPart, part-start, part-step, part-few, part-end}
 use Rattle.constellation.proofs.axis_bits.Statement.{statement}
 use Rattle.constellation.proofs.axis_bits.Tie as tie
 
@@ -45,7 +45,7 @@ loop-again c =
     let c2 = c .before .before in
     let c3 = c .before .before .before in
     let c4 = c .before .before .before .before in
-    part-turn (c4 .loop .inv) (c3 .loop-test .taken) (c2 .power .ensures .0) (c .before .size .ensures .0) (c .less .ensures .0)
+    part-step (c4 .loop .inv) (c3 .loop-test .taken) (c2 .power .ensures .0) (c .before .size .ensures .0) (c .less .ensures .0)
 
 cast-result : tie.Need-cast-result Inv-loop μ-loop
 cast-result c =

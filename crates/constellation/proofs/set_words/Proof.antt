@@ -1,4 +1,4 @@
--- The words of q bits, two bits a turn. The invariant: the words of k bits have their entries.
+-- The words of q bits, two bits a step. The invariant: the words of k bits have their entries.
 use Rattle.constellation.proofs.Quarters.{entries-start}
 use Prim.Native.Nat.{ℕ, _-_, _%_, _^_, _≤_}
 use mathlib.Core.Path.{_≡_, subst}

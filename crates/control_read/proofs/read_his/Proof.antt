@@ -1,14 +1,14 @@
--- `control_read::read_his` meets its contract: after n turns the section's first n bits are written. Assumes nothing.
+-- `control_read::read_his` meets its contract: after n HIs the section's first n bits are written. Assumes nothing.
 use Prim.Native.Nat.{_-_}
 use mathlib.Core.Path.{refl, sym, _∙_}
 use native.Mathlib.Omega.{arith}
 use Rattle.control.proofs.Sums.{length-most, after-three}
-use Rattle.control_read.proofs.Reading.{ReadTurn, quads-in, read-start, hi-read, push-in, read-next, read-finish}
+use Rattle.control_read.proofs.Reading.{ReadStep, quads-in, read-start, hi-read, push-in, read-next, read-finish}
 use Rattle.control_read.proofs.read_his.Statement.{statement}
 use Rattle.control_read.proofs.read_his.Tie as tie
 
 abbrev Inv-loop : tie.InvT-loop
-Inv-loop r cell his plan grid part₀ w l first at₀ n₀ part at n = ReadTurn cell r his plan grid part at n
+Inv-loop r cell his plan grid part₀ w l first at₀ n₀ part at n = ReadStep cell r his plan grid part at n
 
 abbrev μ-loop : tie.MeasureT-loop
 μ-loop r cell his plan grid part₀ w l first at₀ n₀ part at n = his .count - n

@@ -3,10 +3,10 @@ use native.Mathlib.Omega.{arith}
 use Prim.Native.Nat.{_+_}
 use mathlib.Core.Path.{_≡_, refl, sym, _∙_}
 use lib.ListN.{drop}
-use Rattle.plan.specs.Rows.{usersFrom}
+use Rattle.plan.specs.CommandLists.{usersFrom}
 use Rattle.counts.specs.Users.{allElements, usersElements}
 use Rattle.counts.proofs.UserSizes.{users-few}
-use Rattle.counts.proofs.AllUsers.{users-kind, user-turn, user-within, no-user-left, all-users}
+use Rattle.counts.proofs.AllUsers.{users-kind, user-step, user-within, no-user-left, all-users}
 use Rattle.counts.proofs.Shapes.{count-is, shape-in}
 use Rattle.counts.proofs.users_count.Statement.{statement}
 use Rattle.counts.proofs.users_count.Tie as tie
@@ -64,7 +64,7 @@ loop-again c =
     let to = c .next-at in
     let total = usersElements (a .plan .now) (a .p) in
     let e = n .ensures ∙ count-is (a .p .cell) (a .p .frame) (u .result) _ (x .ensures) in
-    user-turn (a .p .cell) (a .p .frame) (a .plan .now) (l .at) total (l .n) (l .left) _ _ (u .result) (omega arith) (u .ensures) e (to .ensures) (l .inv)
+    user-step (a .p .cell) (a .p .frame) (a .plan .now) (l .at) total (l .n) (l .left) _ _ (u .result) (omega arith) (u .ensures) e (to .ensures) (l .inv)
 
 returns : tie.Need-returns Inv-loop μ-loop
 returns c =

@@ -2,16 +2,16 @@
 use mathlib.Core.Path.{_≡_, refl, sym, ap}
 use Prim.Native.Nat.{ℕ}
 use lib.IntN.{pos}
-use Rattle.base.specs.Signs.{turn}
-use Rattle.base.proofs.Signs.{turn-one}
+use Rattle.base.specs.Signs.{flip}
+use Rattle.base.proofs.Signs.{flip-one}
 use Rattle.crs.proofs.level.Statement.{statement}
 use Rattle.crs.proofs.level.Tie as tie
 
 returns : tie.Need-returns
-returns c = ap (λ (b : ℕ). turn b (pos 1)) (sym (c .if1 .taken))
+returns c = ap (λ (b : ℕ). flip b (pos 1)) (sym (c .if1 .taken))
 
 returns-2 : tie.Need-returns-2
-returns-2 c = sym (turn-one (c .before .args .bit) (pos 1) (c .if1 .left))
+returns-2 c = sym (flip-one (c .before .args .bit) (pos 1) (c .if1 .left))
 
 pub level-spec : {M : Type 1} → statement M
 level-spec = tie.close (tie.spec returns returns-2)

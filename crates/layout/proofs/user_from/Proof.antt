@@ -3,7 +3,7 @@ use Prim.Native.Nat.{ℕ, _-_, _≤_}
 use mathlib.Core.Path.{_≡_, _∙_}
 use native.Mathlib.Omega.{arith}
 use lib.ListN.{drop}
-use Rattle.plan.specs.Rows.{usersFrom}
+use Rattle.plan.specs.CommandLists.{usersFrom}
 use Rattle.layout.specs.Chain.{userFrom}
 use Rattle.layout.proofs.Ways.{user-found, user-passed, user-end, all-users}
 use Rattle.layout.proofs.user_from.Statement.{statement}

@@ -2,8 +2,8 @@
 use Prim.Native.Nat.{_-_}
 use mathlib.Core.Path.{_∙_}
 use native.Mathlib.Omega.{arith}
-use Rattle.phich.proofs.Parts.{chip-turns, row-entry, row-chip}
-use Rattle.phich.proofs.Own.{Added, place-fits, turned-chip, add-start, add-next, add-finish}
+use Rattle.phich.proofs.Parts.{chip-flips, row-entry, row-chip}
+use Rattle.phich.proofs.Own.{Added, place-fits, flipped-chip, add-start, add-next, add-finish}
 use Rattle.phich.proofs.add_hi.Statement.{statement}
 use Rattle.phich.proofs.add_hi.Tie as tie
 
@@ -46,10 +46,10 @@ add-add-at c =
     let c4 = c .before .before .before .before in let c8 = c4 .before .before .before .before in
     omega (arith, place-fits (c8 .pre .1) (c .wide2 .ensures) (c4 .loop-test .taken) .1)
 
-turned-requires : tie.Need-turned-requires Inv-loop μ-loop
-turned-requires c κs =
+flipped-requires : tie.Need-flipped-requires Inv-loop μ-loop
+flipped-requires c κs =
     let c2 = c .before .before in let c4 = c2 .before .before in let c6 = c4 .before .before in
-    chip-turns _ _ _ (row-chip (c6 .sequence .ensures) (c4 .loop-test .taken) (c2 .plain-chip .ensures))
+    chip-flips _ _ _ (row-chip (c6 .sequence .ensures) (c4 .loop-test .taken) (c2 .plain-chip .ensures))
 
 add-at-requires : tie.Need-add-at-requires Inv-loop μ-loop
 add-at-requires c κs =
@@ -57,7 +57,7 @@ add-at-requires c κs =
     let c9 = c7 .before .before in (
       c6 .loop .inv .added .size ∙ c6 .loop .inv .size,
       place-fits (c9 .pre .1) (c .before .wide2 .ensures) (c5 .loop-test .taken) .2,
-      turned-chip _ _ _ (c9 .args .b) (row-chip (c7 .sequence .ensures) (c5 .loop-test .taken) (c3 .plain-chip .ensures)) (c .turned .ensures),
+      flipped-chip _ _ _ (c9 .args .b) (row-chip (c7 .sequence .ensures) (c5 .loop-test .taken) (c3 .plain-chip .ensures)) (c .flipped .ensures),
     )
 
 add-n : tie.Need-add-n Inv-loop μ-loop
@@ -72,7 +72,7 @@ loop-again : tie.Need-loop-again Inv-loop μ-loop
 loop-again c =
     let c2 = c .before .before in let c4 = c2 .before .before in let c6 = c4 .before .before in let c7 = c6 .before in let c8 = c7 .before in let c9 = c8 .before in let c10 = c9 .before in
     add-next (c10 .args .l) (c10 .pre .1 .spread) (c10 .args .h) (c10 .args .b) (c7 .loop .inv) (c6 .loop-test .taken) (c9 .wide .ensures)
-    (row-chip (c8 .sequence .ensures) (c6 .loop-test .taken) (c4 .plain-chip .ensures)) (c .before .turned .ensures) (c2 .wide2 .ensures)
+    (row-chip (c8 .sequence .ensures) (c6 .loop-test .taken) (c4 .plain-chip .ensures)) (c .before .flipped .ensures) (c2 .wide2 .ensures)
     (c .add-at .ensures)
 
 returns : tie.Need-returns Inv-loop μ-loop
@@ -95,7 +95,7 @@ add-hi-spec =
     wide-requires-2
     mul-add-at
     add-add-at
-    turned-requires
+    flipped-requires
     add-at-requires
     add-n
     loop-less

@@ -62,13 +62,13 @@ scrambling-requires c κs =
 dot-requires : tie.Need-dot-requires Inv-loop μ-loop
 dot-requires c κs = tt
 
-turned-by-requires : tie.Need-turned-by-requires Inv-loop μ-loop
-turned-by-requires c κs = product-held (c .dot .result) (c .dot .ensures .1) .1
+flipped-by-requires : tie.Need-flipped-by-requires Inv-loop μ-loop
+flipped-by-requires c κs = product-held (c .dot .result) (c .dot .ensures .1) .1
 
 add-t : tie.Need-add-t Inv-loop μ-loop
 add-t c =
     let c8 = c .before .before .before .before .before .before .before .before in let c9 = c8 .before in let c12 = c9 .before .before .before in
-    next-fits (c9 .loop .inv) (c .turned-by .result) (c8 .loop-test .taken) (c12 .pre .spread .1) (c .turned-by .ensures .1)
+    next-fits (c9 .loop .inv) (c .flipped-by .result) (c8 .loop-test .taken) (c12 .pre .spread .1) (c .flipped-by .ensures .1)
 
 add-n : tie.Need-add-n Inv-loop μ-loop
 add-n c =
@@ -82,10 +82,10 @@ loop-again : tie.Need-loop-again Inv-loop μ-loop
 loop-again c =
     let c2 = c .before .before in let c3 = c2 .before in let c4 = c3 .before in let c6 = c4 .before .before in let c8 = c6 .before .before in let c9 = c8 .before in let c10 = c9 .before in
     let c11 = c10 .before in let c12 = c11 .before in
-    next (c9 .loop .inv) (c .turned-by .result) (c8 .loop-test .taken) (c12 .pre .spread .1) (c .turned-by .ensures .1) (c11 .wide .ensures)
+    next (c9 .loop .inv) (c .flipped-by .result) (c8 .loop-test .taken) (c12 .pre .spread .1) (c .flipped-by .ensures .1) (c11 .wide .ensures)
     (row-chip (c10 .sequence .ensures) (c8 .loop-test .taken) (c6 .plain-chip .ensures)) (c4 .wide2 .ensures) (c3 .levels-at .ensures)
     (product-held (c .before .dot .result) (c .before .dot .ensures .1) .0 ∙ c .before .dot .ensures .0) (c2 .scrambling .ensures)
-    (c .turned-by .ensures .0)
+    (c .flipped-by .ensures .0)
 
 returns : tie.Need-returns Inv-loop μ-loop
 returns c =
@@ -115,7 +115,7 @@ bit-of-spec =
     levels-at-requires
     scrambling-requires
     dot-requires
-    turned-by-requires
+    flipped-by-requires
     add-t
     add-n
     loop-less

@@ -1,4 +1,4 @@
--- `phich::by` meets its contract: z widened, and its sign turned where s is below 0. Assumes nothing.
+-- `phich::by` meets its contract: z widened, and its sign flipped where s is below 0. Assumes nothing.
 use mathlib.Core.Path.{sym, ap, _∙_}
 use native.Mathlib.Omega.{arith}
 use lib.IntN.{ℤ}

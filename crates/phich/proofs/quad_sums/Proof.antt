@@ -2,12 +2,12 @@
 use Prim.Native.Nat.{_-_}
 use native.Mathlib.Omega.{arith}
 use Rattle.base.specs.Bits.{bitAt}
-use Rattle.phich.proofs.HisLeft.{Turn, start, here-in, next, finish}
+use Rattle.phich.proofs.HisLeft.{Summed, start, here-in, next, finish}
 use Rattle.phich.proofs.quad_sums.Statement.{statement}
 use Rattle.phich.proofs.quad_sums.Tie as tie
 
 abbrev Inv-loop : tie.InvT-loop
-Inv-loop l plan at count bits sums₀ from₀ k₀ sums from k = Turn l plan at count (bitAt bits) sums from k
+Inv-loop l plan at count bits sums₀ from₀ k₀ sums from k = Summed l plan at count (bitAt bits) sums from k
 
 abbrev μ-loop : tie.MeasureT-loop
 μ-loop l plan at count bits sums₀ from₀ k₀ sums from k = count - k

@@ -2,16 +2,16 @@
 use Prim.Native.Nat.{_-_}
 use native.Mathlib.Omega.{arith}
 use lib.ListN.{drop}
-use Rattle.plan.specs.Rows.{hisFrom}
+use Rattle.plan.specs.CommandLists.{hisFrom}
 use Rattle.phich.specs.Spreading.{wordBit}
 use Rattle.phich.specs.Loops.{bitsFrom}
-use Rattle.phich.proofs.HisLeft.{Turn, start, here-in, next, bit-here, finish}
+use Rattle.phich.proofs.HisLeft.{Summed, start, here-in, next, bit-here, finish}
 use Rattle.phich.proofs.sums_again.Statement.{statement}
 use Rattle.phich.proofs.sums_again.Tie as tie
 
 abbrev Inv-loop : tie.InvT-loop
 Inv-loop l w plan at count first sums₀ from₀ k₀ sums from k =
-    Turn l plan at count (bitsFrom l (wordBit w) (hisFrom (drop at plan) count) first) sums from k
+    Summed l plan at count (bitsFrom l (wordBit w) (hisFrom (drop at plan) count) first) sums from k
 
 abbrev μ-loop : tie.MeasureT-loop
 μ-loop l w plan at count first sums₀ from₀ k₀ sums from k = count - k

@@ -3,7 +3,7 @@ use Prim.Native.Nat.{_-_}
 use mathlib.Core.Path.{refl}
 use native.Mathlib.Omega.{arith}
 use Rattle.phich.specs.Spreading.{wordBit}
-use Rattle.phich.proofs.Places.{Filled, start, turns, next, finish}
+use Rattle.phich.proofs.Places.{Filled, start, flips, next, finish}
 use Rattle.phich.proofs.unit_sums.Statement.{statement}
 use Rattle.phich.proofs.unit_sums.Tie as tie
 
@@ -25,9 +25,9 @@ scrambling-requires c κs = c .chip-of .ensures .1
 levels-at-requires : tie.Need-levels-at-requires Inv-loop μ-loop
 levels-at-requires c κs = omega (arith, c .before .before .before .before .before .pre .1 .size)
 
-turned-requires : tie.Need-turned-requires Inv-loop μ-loop
-turned-requires c κs =
-    turns (c .before .before .before .before .loop .i) (c .before .before .before .before .before .before .pre .1) (c .levels-at .ensures)
+flipped-requires : tie.Need-flipped-requires Inv-loop μ-loop
+flipped-requires c κs =
+    flips (c .before .before .before .before .loop .i) (c .before .before .before .before .before .before .pre .1) (c .levels-at .ensures)
 
 mul-sums : tie.Need-mul-sums Inv-loop μ-loop
 mul-sums c = omega (arith, c .before .before .before .before .loop-test .taken)
@@ -44,7 +44,7 @@ loop-less c = omega (arith, c .before .before .before .before .loop-test .taken)
 loop-again : tie.Need-loop-again Inv-loop μ-loop
 loop-again c =
     next (c .before .before .before .before .before .loop .inv) (c .before .before .before .before .loop-test .taken) (c .before .before .before
-    .chip-of .ensures .0) (c .before .before .scrambling .ensures) (c .before .levels-at .ensures) (c .turned .ensures)
+    .chip-of .ensures .0) (c .before .before .scrambling .ensures) (c .before .levels-at .ensures) (c .flipped .ensures)
 
 returns : tie.Need-returns Inv-loop μ-loop
 returns c = finish (c .before .loop .inv) (c .loop-test .left)
@@ -59,7 +59,7 @@ unit-sums-spec =
     chip-of-requires
     scrambling-requires
     levels-at-requires
-    turned-requires
+    flipped-requires
     mul-sums
     array-set-from-sums
     add-i

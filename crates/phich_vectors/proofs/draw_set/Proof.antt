@@ -1,4 +1,4 @@
--- `phich_vectors::draw_set` meets its contract: at most one HI for each turn. Assumes nothing.
+-- `phich_vectors::draw_set` meets its contract: at most one HI for each draw. Assumes nothing.
 use Prim.Native.Nat.{_-_, _≤_}
 use mathlib.Core.Logic.{⊎-elim}
 use native.Mathlib.Omega.{arith}

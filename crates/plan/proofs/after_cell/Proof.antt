@@ -1,7 +1,7 @@
 -- `plan::after_cell` meets its contract: FRAME is due at position `at`. Assumes nothing.
 use mathlib.Core.Path.{sym, _∙_}
 use native.Mathlib.Omega.{arith}
-use Rattle.plan.proofs.Opening.{late-second, frame-room, frame-refused, frame-turn}
+use Rattle.plan.proofs.Opening.{late-second, frame-room, frame-refused, frame-step}
 use borrow.Author.Needs.{needs}
 use Rattle.plan.proofs.after_cell.Statement.{statement}
 use Rattle.plan.proofs.after_cell.Tie as tie
@@ -52,7 +52,7 @@ returns c =
     let at-command-at = at-f .before .before in
     let a = at-command-at .before .before .args in
     let e = sym (at-command-at .command-at .ensures) ∙ at-f .f .given .1 in
-    c .body .ensures ∙ frame-turn (a .plan .now) (a .c) (a .at) _ e (at-frame-cause .frame-cause .ensures) (at-enum-told .enum-told .given .1)
+    c .body .ensures ∙ frame-step (a .plan .now) (a .c) (a .at) _ e (at-frame-cause .frame-cause .ensures) (at-enum-told .enum-told .given .1)
 
 returns-2 : tie.Need-returns-2
 returns-2 c =

@@ -3,7 +3,7 @@ use Prim.Native.Nat.{_-_}
 use mathlib.Core.Path.{refl}
 use native.Mathlib.Omega.{arith}
 use lib.ListN.{length}
-use Rattle.plan.proofs.OneOf.{Looked, looked-turn, looked-last}
+use Rattle.plan.proofs.OneOf.{Looked, looked-step, looked-last}
 use Rattle.plan.proofs.has_rnti.Statement.{statement}
 use Rattle.plan.proofs.has_rnti.Tie as tie
 
@@ -33,7 +33,7 @@ loop-again c =
     let at-loop-test = c .before in
     let at-loop = at-loop-test .before in
     let at-args = at-loop .before in
-    looked-turn (at-args .args .rnti) (at-args .args .table .now) (at-loop .loop .i) (at-loop .loop .found) (at-loop-test .loop-test .taken) (at-loop .loop .inv)
+    looked-step (at-args .args .rnti) (at-args .args .table .now) (at-loop .loop .i) (at-loop .loop .found) (at-loop-test .loop-test .taken) (at-loop .loop .inv)
 
 returns : tie.Need-returns Inv-loop μ-loop
 returns c =

@@ -4,7 +4,7 @@ use mathlib.Core.Path.{sym}
 use native.Mathlib.Omega.{arith}
 use lib.ListN.{length, drop}
 use borrow.Author.Needs.{needs}
-use Rattle.plan.specs.Rows.{hisFrom}
+use Rattle.plan.specs.CommandLists.{hisFrom}
 use Rattle.plan.proofs.Phases.{HisGoing, his-first, his-done, AtHi, his-less, his-refused, his-word, his-again}
 use Rattle.plan.proofs.Reading.{stands-hi}
 use Rattle.plan.proofs.his_from.Tie as tie
@@ -29,12 +29,12 @@ hi-cause-requires : tie.Need-hi-cause-requires Inv-loop μ-loop
 hi-cause-requires c κs = c .before .before .before .before .before .before .pre .1
 
 -- the HI at the loop's position, and its cause
-turn : (c : tie.After-hi-cause Inv-loop μ-loop) →
+step : (c : tie.After-hi-cause Inv-loop μ-loop) →
     let h = c .before .before .hi-at .result in
     let i = c .before .before .before .before .before .loop in
     let a = c .before .before .before .before .before .before .before .args in
     AtHi (a .plan .now) (a .cell) (a .start) (i .count) (i .at) (i .pairs) h (c .hi-cause .result)
-turn c =
+step c =
     let at-hi-at = c .before .before in
     let at-stands = at-hi-at .before .before in
     let at-loop = at-stands .before in
@@ -57,7 +57,7 @@ pair-of-requires : tie.Need-pair-of-requires Inv-loop μ-loop
 pair-of-requires c κs = tt
 
 add-requires : tie.Need-add-requires Inv-loop μ-loop
-add-requires c κs = his-word (turn (c .before .before .before .before)) (c .before .before .enum-told .given .1) (c .pair-of .ensures)
+add-requires c κs = his-word (step (c .before .before .before .before)) (c .before .before .enum-told .given .1) (c .pair-of .ensures)
 
 add-count : tie.Need-add-count Inv-loop μ-loop
 add-count c = omega arith
@@ -66,7 +66,7 @@ next-at-requires : tie.Need-next-at-requires Inv-loop μ-loop
 next-at-requires c κs = tt
 
 loop-less : tie.Need-loop-less Inv-loop μ-loop
-loop-less c = his-less (turn (c .before .before .before .before .before .before .before)) (c .next-at .ensures)
+loop-less c = his-less (step (c .before .before .before .before .before .before .before)) (c .next-at .ensures)
 
 loop-again : tie.Need-loop-again Inv-loop μ-loop
 loop-again c =
@@ -74,7 +74,7 @@ loop-again c =
     let at-pair-of = at-add .before in
     let at-enum-told = at-pair-of .before .before in
     let at-before = at-enum-told .before in
-    his-again (turn (at-before .before)) (at-enum-told .enum-told .given .1) (at-pair-of .pair-of .ensures) (at-add .add .ensures) (c .next-at .ensures)
+    his-again (step (at-before .before)) (at-enum-told .enum-told .given .1) (at-pair-of .pair-of .ensures) (at-add .add .ensures) (c .next-at .ensures)
 
 enum-known-cause : tie.Need-enum-known-cause Inv-loop μ-loop
 enum-known-cause c = search needs
@@ -86,7 +86,7 @@ found-requires : tie.Need-found-requires Inv-loop μ-loop
 found-requires c κs = tt
 
 returns : tie.Need-returns Inv-loop μ-loop
-returns c = his-refused (turn (c .before .before .before .before)) (c .before .before .cause .given .1) (c .found .ensures)
+returns c = his-refused (step (c .before .before .before .before)) (c .before .before .cause .given .1) (c .found .ensures)
 
 returns-2 : tie.Need-returns-2 Inv-loop μ-loop
 returns-2 c = his-done (c .before .before .loop .inv) (c .before .stands .ensures) (c .if1 .left)

@@ -4,7 +4,7 @@ use mathlib.Core.Path.{refl, _∙_}
 use native.Mathlib.Omega.{arith}
 use lib.ListN.{length, drop}
 use borrow.Author.Needs.{needs}
-use Rattle.plan.specs.Rows.{usersFrom}
+use Rattle.plan.specs.CommandLists.{usersFrom}
 use Rattle.plan.proofs.Phases.{UsersGoing, users-first, users-done, AtUser, users-less, users-refused, users-again}
 use Rattle.plan.proofs.Reading.{stands-user}
 use Rattle.plan.proofs.users_from.Tie as tie
@@ -37,12 +37,12 @@ user-cause-requires : tie.Need-user-cause-requires Inv-loop μ-loop
 user-cause-requires c κs = tt
 
 -- the USER at the loop's position, and its cause
-turn : (c : tie.After-user-cause Inv-loop μ-loop) →
+step : (c : tie.After-user-cause Inv-loop μ-loop) →
     let u = c .before .before .before .user-at .result in
     let i = c .before .before .before .before .before .before .loop in
     let a = c .before .before .before .before .before .before .before .before .args in
     AtUser (a .plan .now) (a .cell) (a .frame) (a .start) (a .his) (a .start + 3 * a .his) (i .users) (i .at) (i .rntis) (i .blocks) u (c .user-cause .result)
-turn c =
+step c =
     let at-user-at = c .before .before .before in
     let at-stands = at-user-at .before .before in
     let at-loop = at-stands .before in
@@ -78,7 +78,7 @@ next-at-requires : tie.Need-next-at-requires Inv-loop μ-loop
 next-at-requires c κs = tt
 
 loop-less : tie.Need-loop-less Inv-loop μ-loop
-loop-less c = users-less (turn (c .before .before .before .before .before .before .before)) (c .next-at .ensures)
+loop-less c = users-less (step (c .before .before .before .before .before .before .before)) (c .next-at .ensures)
 
 loop-again : tie.Need-loop-again Inv-loop μ-loop
 loop-again c =
@@ -86,7 +86,7 @@ loop-again c =
     let at-blocks-of = at-join .before .before .before in
     let at-enum-told = at-blocks-of .before in
     let at-before = at-enum-told .before in
-    users-again (turn (at-before .before)) (at-enum-told .enum-told .given .1) (at-blocks-of .blocks-of .ensures) (at-join .join .ensures) (c .next-at .ensures)
+    users-again (step (at-before .before)) (at-enum-told .enum-told .given .1) (at-blocks-of .blocks-of .ensures) (at-join .join .ensures) (c .next-at .ensures)
 
 enum-known-cause : tie.Need-enum-known-cause Inv-loop μ-loop
 enum-known-cause c = search needs
@@ -107,7 +107,7 @@ found-requires : tie.Need-found-requires Inv-loop μ-loop
 found-requires c κs = tt
 
 returns : tie.Need-returns Inv-loop μ-loop
-returns c = users-refused (turn (c .before .before .before .before)) (c .before .before .cause .given .1) (c .found .ensures)
+returns c = users-refused (step (c .before .before .before .before)) (c .before .before .cause .given .1) (c .found .ensures)
 
 finish-requires : tie.Need-finish-requires Inv-loop μ-loop
 finish-requires c κs =

@@ -1,7 +1,7 @@
 -- `plan::walk` meets its contract: CELL is due. Assumes nothing.
 use mathlib.Core.Path.{sym, _∙_}
 use Rattle.plan.proofs.CauseLaws.{cell-in}
-use Rattle.plan.proofs.Opening.{late-first, cell-refused, cell-turn}
+use Rattle.plan.proofs.Opening.{late-first, cell-refused, cell-step}
 use borrow.Author.Needs.{needs}
 use Rattle.plan.proofs.walk.Statement.{statement}
 use Rattle.plan.proofs.walk.Tie as tie
@@ -41,7 +41,7 @@ returns c =
     let at-command-at = at-c .before .before in
     let w = at-command-at .before .before .args .plan .now in
     let e = sym (at-command-at .command-at .ensures) ∙ at-c .c .given .1 in
-    c .after-cell .ensures ∙ cell-turn w _ e (at-cell-cause .cell-cause .ensures) (at-enum-told .enum-told .given .1)
+    c .after-cell .ensures ∙ cell-step w _ e (at-cell-cause .cell-cause .ensures) (at-enum-told .enum-told .given .1)
 
 returns-2 : tie.Need-returns-2
 returns-2 c =

@@ -36,8 +36,8 @@ beside-requires c κs = search needs
 symbol-requires-2 : tie.Need-symbol-requires-2 Inv-loop μ-loop
 symbol-requires-2 c κs = search needs
 
-turn-requires : tie.Need-turn-requires Inv-loop μ-loop
-turn-requires c κs = search needs
+pair-requires : tie.Need-pair-requires Inv-loop μ-loop
+pair-requires c κs = search needs
 
 put-place-requires : tie.Need-put-place-requires Inv-loop μ-loop
 put-place-requires c κs =
@@ -72,7 +72,7 @@ fill-spec =
     symbol-requires
     beside-requires
     symbol-requires-2
-    turn-requires
+    pair-requires
     put-place-requires
     add-j
     loop-less

@@ -2,7 +2,7 @@
 -- Assumes nothing.
 use Prim.Native.Nat.{_-_}
 use native.Mathlib.Omega.{arith}
-use Rattle.signals.proofs.ValueByValue.{ValuesDone, values-first, values-turn, values-last}
+use Rattle.signals.proofs.ValueByValue.{ValuesDone, values-first, values-step, values-last}
 use Rattle.signals_compare.proofs.Differing.{DifferingIn, differing, also-differing, values-same, values-differ}
 use Rattle.signals_compare.proofs.compare_values.Statement.{statement}
 use Rattle.signals_compare.proofs.compare_values.Tie as tie
@@ -59,7 +59,7 @@ loop-again : tie.Need-loop-again Inv-loop μ-loop
 loop-again c =
     let at-word = c .before .before in let at-at-once = at-word .before in let at-loop = at-at-once .before .before in
     let entry = at-loop .before .before in
-    values-turn (differing (entry .args .grid .now)) (at-at-once .at-once .result) (at-word .word .result) (at-loop .loop .inv)
+    values-step (differing (entry .args .grid .now)) (at-at-once .at-once .result) (at-word .word .result) (at-loop .loop .inv)
     (omega (arith, at-at-once .at-once .ensures)) (at-word .word .ensures) (also-differing (c .before .compare-word .ensures)) (c .advance .ensures)
 
 mul-weight : tie.Need-mul-weight Inv-loop μ-loop

@@ -2,7 +2,7 @@
 use Prim.Native.Nat.{_-_}
 use native.Mathlib.Omega.{arith}
 use Rattle.grid.proofs.Accumulating.{WrittenIn, writing}
-use Rattle.signals.proofs.ValueByValue.{ValuesDone, values-first, values-turn, values-last}
+use Rattle.signals.proofs.ValueByValue.{ValuesDone, values-first, values-step, values-last}
 use Rattle.signals_write.proofs.fill_values.Statement.{statement}
 use Rattle.signals_write.proofs.fill_values.Tie as tie
 
@@ -64,7 +64,7 @@ loop-again : tie.Need-loop-again Inv-loop μ-loop
 loop-again c =
     let at-fill-word = c .before .before .before in let at-word = at-fill-word .before .before in let at-at-once = at-word .before in
     let at-loop = at-at-once .before .before in let entry = at-loop .before .before in
-    values-turn (writing (entry .args .grid .now)) (at-at-once .at-once .result) (at-word .word .result) (at-loop .loop .inv)
+    values-step (writing (entry .args .grid .now)) (at-at-once .at-once .result) (at-word .word .result) (at-loop .loop .inv)
     (omega (arith, at-at-once .at-once .ensures)) (at-word .word .ensures) (at-fill-word .fill-word .ensures) (c .advance .ensures)
 
 same-length : tie.Need-same-length Inv-loop μ-loop

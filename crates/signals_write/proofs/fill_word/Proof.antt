@@ -2,7 +2,7 @@
 use Prim.Native.Nat.{_-_}
 use native.Mathlib.Omega.{arith}
 use Rattle.grid.proofs.Accumulating.{WrittenIn, writing}
-use Rattle.signals.proofs.ValueByValue.{WordDone, word-first, word-turn, word-last}
+use Rattle.signals.proofs.ValueByValue.{WordDone, word-first, word-step, word-last}
 use Rattle.signals_write.proofs.fill_word.Statement.{statement}
 use Rattle.signals_write.proofs.fill_word.Tie as tie
 
@@ -61,7 +61,7 @@ loop-again : tie.Need-loop-again Inv-loop μ-loop
 loop-again c =
     let at-put = c .before .before in let at-element-of = at-put .before in let at-value = at-element-of .before .before in
     let at-loop-test = at-value .before in let at-loop = at-loop-test .before in let entry = at-loop .before .before in
-    word-turn (writing (entry .args .grid .now)) (at-loop .loop .inv) (at-loop-test .loop-test .taken) (at-value .value .ensures) (at-element-of .element-of .ensures) (at-put .put .ensures)
+    word-step (writing (entry .args .grid .now)) (at-loop .loop .inv) (at-loop-test .loop-test .taken) (at-value .value .ensures) (at-element-of .element-of .ensures) (at-put .put .ensures)
 
 same-length : tie.Need-same-length Inv-loop μ-loop
 same-length c = c .before .loop .inv .done .size

@@ -1,4 +1,4 @@
--- `sync::sequences` meets its contract: after i turns the words hold the sequences' first i + 5 values. Assumes nothing.
+-- `sync::sequences` meets its contract: after i steps the words hold the sequences' first i + 5 values. Assumes nothing.
 use Prim.Native.Nat.{_-_}
 use native.Mathlib.Omega.{arith}
 use Rattle.sync.proofs.Recurrence.{Filled, filled-none, filled-more, filled-all}

@@ -7,8 +7,8 @@ use borrow.Author.Needs.{needs}
 use Rattle.walk.proofs.port_offsets.Statement.{statement}
 use Rattle.walk.proofs.port_offsets.Tie as tie
 
-cast-turn : tie.Need-cast-turn
-cast-turn c = search needs
+cast-pair : tie.Need-cast-pair
+cast-pair c = search needs
 
 own-port-requires : tie.Need-own-port-requires
 own-port-requires c κs = search needs
@@ -58,7 +58,7 @@ pub port-offsets-spec : {M : Type 1} → statement M
 port-offsets-spec =
     tie.close
     (tie.spec
-    cast-turn
+    cast-pair
     own-port-requires
     wide-requires
     mul-t6

@@ -10,9 +10,9 @@ use Rattle.plan.specs.declared.User.{User}
 use Rattle.plan.specs.declared.Plan.{Plan}
 
 -- n commands in a row, read from the bytes l, and the bytes after them; each command is as long as its own bytes say
-unfoldable pub row : {A : Type 0} → (List ℕ → A) → List ℕ → ℕ → List A
-row read l zero = []
-row read l (suc n) = read l ∷ row read (drop (sizeOf l) l) n
+unfoldable pub commandsFrom : {A : Type 0} → (List ℕ → A) → List ℕ → ℕ → List A
+commandsFrom read l zero = []
+commandsFrom read l (suc n) = read l ∷ commandsFrom read (drop (sizeOf l) l) n
 
 unfoldable pub past : List ℕ → ℕ → List ℕ
 past l zero = l
@@ -23,10 +23,10 @@ unfoldable pub nextOf : List ℕ → ℕ → ℕ
 nextOf w at = let next = at + sizeOf (drop at w) in cond (leb next (length w)) next (length w)
 
 abbrev pub hisFrom : List ℕ → ℕ → List Hi
-hisFrom l n = row hiOf l n
+hisFrom l n = commandsFrom hiOf l n
 
 abbrev pub usersFrom : List ℕ → ℕ → List User
-usersFrom l n = row userOf l n
+usersFrom l n = commandsFrom userOf l n
 
 -- THE HIs AND THE USERS of the accepted plan p with the bytes w, in their order
 unfoldable pub hisOf : List ℕ → Plan → List Hi

@@ -1,15 +1,15 @@
--- `phich_vectors::turns` meets its contract: the bytes below i are not -128. Assumes nothing.
+-- `phich_vectors::flips` meets its contract: the bytes below i are not -128. Assumes nothing.
 use mathlib.Core.Path.{subst}
 use mathlib.Core.Bool.{Bool, true, false, cond}
 use native.Mathlib.Omega.{arith}
 use lib.Dec.{T}
 use Prim.Native.Nat.{_-_}
-use Rattle.phich_vectors.proofs.Seen.{Turned, turned-none, turned-more, turned-all}
-use Rattle.phich_vectors.proofs.turns.Statement.{statement}
-use Rattle.phich_vectors.proofs.turns.Tie as tie
+use Rattle.phich_vectors.proofs.Seen.{Flips, flips-none, flips-more, flips-all}
+use Rattle.phich_vectors.proofs.flips.Statement.{statement}
+use Rattle.phich_vectors.proofs.flips.Tie as tie
 
 abbrev Inv-loop : tie.InvT-loop
-Inv-loop part i₀ i = Turned part i
+Inv-loop part i₀ i = Flips part i
 
 abbrev μ-loop : tie.MeasureT-loop
 μ-loop part i₀ i = 8 - i
@@ -18,7 +18,7 @@ returns : tie.Need-returns Inv-loop μ-loop
 returns c = λ e. absurd (subst (λ (b : Bool). T (cond b false true)) e tt)
 
 loop-holds : tie.Need-loop-holds Inv-loop μ-loop
-loop-holds c = turned-none (omega (arith, c .if1 .left))
+loop-holds c = flips-none (omega (arith, c .if1 .left))
 
 shared-slice-read-if2 : tie.Need-shared-slice-read-if2 Inv-loop μ-loop
 shared-slice-read-if2 c = omega (arith, c .before .loop-test .taken, c .before .before .loop .inv .size)
@@ -34,17 +34,17 @@ loop-less c = omega (arith, c .before .before .loop-test .taken)
 
 loop-again : tie.Need-loop-again Inv-loop μ-loop
 loop-again c =
-    turned-more (c .before .before .before .loop .inv) (c .before .before .loop-test .taken) (omega (
+    flips-more (c .before .before .before .loop .inv) (c .before .before .loop-test .taken) (omega (
       arith,
       c .before .shared-slice-known .given
           (c .before .before .before .loop .i),
     )) (c .if2 .left)
 
 returns-3 : tie.Need-returns-3 Inv-loop μ-loop
-returns-3 c = λ e. turned-all (c .before .loop .inv) (c .loop-test .left)
+returns-3 c = λ e. flips-all (c .before .loop .inv) (c .loop-test .left)
 
-pub turns-spec : {M : Type 1} → statement M
-turns-spec =
+pub flips-spec : {M : Type 1} → statement M
+flips-spec =
     tie.close
     (tie.spec
     Inv-loop
