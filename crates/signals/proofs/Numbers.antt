@@ -30,7 +30,7 @@ use Rattle.counts.proofs.Ranges.{big}
 use Rattle.places.specs.Places.{symbolAt, carrierAt, placesOf}
 use Rattle.grid.proofs.Accumulating.{Deed, Step, Accumulates}
 use Rattle.subframe.specs.Elements.{markNumber, pssElement, sssElement}
-use Rattle.signals.specs.Signals.{crsSends, crsFrom, crsSent, markSends, pssSent, sssSent}
+use Rattle.signals.specs.Signals.{portSends, crsFrom, crsSent, markSends, pssSent, sssSent}
 use Rattle.signals.specs.Rows.{MarkIn, SignalIn, crsPlace, everySixth, pairSent, inRow, phaseElement, phaseSent, levelElement, levelSent}
 use Rattle.signals.proofs.Stretches.{sixth-is, sixth-of, row-is as in-row, row-of}
 
@@ -102,8 +102,8 @@ module _ (c : Cell) (s q a first : ℕ) (ok : CellIn c) (in-s : s < symbols c)
         d .1,
       )
 
-  sends : (e : ℕ) → everySixth first (2 * c .blocks) e ≡ true → crsSends c s q e ≡ true
-  unfolding crsSends standsAt
+  sends : (e : ℕ) → everySixth first (2 * c .blocks) e ≡ true → portSends c s q e ≡ true
+  unfolding portSends standsAt
   sends e h =
       let d = there e h in
       let k = carrierAt c (e % placesOf c) in
@@ -114,8 +114,8 @@ module _ (c : Cell) (s q a first : ℕ) (ok : CellIn c) (in-s : s < symbols c)
       residue : (a x : ℕ) → a < 6 → x % 6 ≡ 0 → (a + x) % 6 ≡ a
       residue a x l h = omega arith
 
-  sent : (e : ℕ) → crsSends c s q e ≡ true → everySixth first (2 * c .blocks) e ≡ true
-  unfolding crsSends standsAt
+  sent : (e : ℕ) → portSends c s q e ≡ true → everySixth first (2 * c .blocks) e ≡ true
+  unfolding portSends standsAt
   sent e h =
       let T = placesOf c in
       let t = e % T in
@@ -133,8 +133,8 @@ module _ (c : Cell) (s q a first : ℕ) (ok : CellIn c) (in-s : s < symbols c)
       back : (N k a first e : ℕ) → k % 6 ≡ a → e ≡ first + (k - a) → k < 12 * N → everySixth first (2 * N) e ≡ true
       back N k a first e m y l = sixth-is first (2 * N) e (omega arith) (omega arith) (omega arith)
 
-  crs-elements : (e : ℕ) → everySixth first (2 * c .blocks) e ≡ crsSends c s q e
-  crs-elements e = same-test (everySixth first (2 * c .blocks) e) (crsSends c s q e) (sends e) (sent e)
+  crs-elements : (e : ℕ) → everySixth first (2 * c .blocks) e ≡ portSends c s q e
+  crs-elements e = same-test (everySixth first (2 * c .blocks) e) (portSends c s q e) (sends e) (sent e)
 
   crs-values : (r : Registers) (e : ℕ) → everySixth first (2 * c .blocks) e ≡ true → pairSent r first e ≡ crsSent c r e
   unfolding pairSent crsSent
@@ -166,7 +166,7 @@ module _ {c : Cell} {s q : ℕ} {g : List ℕ} (ready : SignalIn c s q g) {first
 
   pub crs-done :
       {X : Type 0} {Done : Deed X} {Also : Step X} {none x : X} → Accumulates Done Also none → (r : Registers)
-      → Done (everySixth first (2 * N)) (pairSent r first) x → Done (crsSends c s q) (crsSent c r) x
+      → Done (everySixth first (2 * N)) (pairSent r first) x → Done (portSends c s q) (crsSent c r) x
   unfolding crsPlace
   crs-done A r d =
       let a = (crsShift c q s + c .identity) % 6 in

@@ -1,6 +1,7 @@
 -- For the inner contracts and loops only: what the functions over a signal need, and its elements by their numbers, from the first one on.
 use Prim.Native.Nat.{ℕ, _+_, _-_, _*_, _/_, _%_, _^_, _<_}
-use mathlib.Core.Bool.{Bool, _&&_}
+use mathlib.Core.Path.{_≡_}
+use mathlib.Core.Bool.{Bool, true, _&&_}
 use mathlib.Core.List.{List}
 use lib.Dec.{leb, ltb, eqb}
 use lib.IntN.{pos}
@@ -17,7 +18,7 @@ use Rattle.layout.specs.Rules.{crsShift}
 use Rattle.layout.specs.Owners.{symbols, carriers}
 use Rattle.places.specs.Places.{placesOf}
 use Rattle.grid.specs.Writing.{Room}
-use Rattle.signals.specs.Signals.{crsFrom}
+use Rattle.signals.specs.Signals.{crsFrom, signalled}
 
 -- an accepted cell and its whole grid
 pub record MarkIn (c : Cell) (grid : List ℕ) : Type 0 where
@@ -29,6 +30,13 @@ pub record SignalIn (c : Cell) (s q : ℕ) (grid : List ℕ) : Type 0 where
   pub cell : CellIn c
   pub symbol : s < symbols c
   pub port : q < c .ports
+  pub room : Room (c .ports) (placesOf c) grid
+
+-- and a symbol of it in which a reference signal stands
+pub record SymbolIn (c : Cell) (s : ℕ) (grid : List ℕ) : Type 0 where
+  pub cell : CellIn c
+  pub symbol : s < symbols c
+  pub signal : signalled c s ≡ true
   pub room : Room (c .ports) (placesOf c) grid
 
 -- the first element of a port's reference signal in symbol s

@@ -11,7 +11,7 @@ ghost use Rattle.base.specs.Bytes.{elementOf};
 ghost use Rattle.crs.specs.Crs.{wordValue};
 ghost use Rattle.element_pairs.specs.Numbers.{elementFrom};
 ghost use Rattle.compare.specs.Comparing.{Compared};
-ghost use Rattle.signals.specs.Signals.{crsSends, crsSent, markSends, pssSent, sssSent};
+ghost use Rattle.signals.specs.Signals.{portSends, crsSent, markSends, pssSent, sssSent};
 ghost use Rattle.signals.specs.Rows.{MarkIn, SignalIn, everySixth, wordSent, pairSent, inRow, phaseSent, levelSent};
 ghost use Rattle.signals_compare.specs.Differing.{Differing};
 
@@ -65,7 +65,7 @@ fn compare_values(r: Registers, n: usize, first: usize, grid: &[u8]) -> Seen
 // accepted plan, and have compared the grid's length.
 pub fn compare_crs(r: Registers, cell: Cell, s: usize, port: u8, grid: &[u8]) -> Seen
     requires { ⌜ SignalIn cell s port (now grid) ⌝ }
-    ensures { λ seen. ⌜ Compared (crsSends cell s port) (crsSent cell r) (now (grid .entry)) seen ⌝ }
+    ensures { λ seen. ⌜ Compared (portSends cell s port) (crsSent cell r) (now (grid .entry)) seen ⌝ }
 {
     let first = signals::crs_at(cell, s, port);
     compare_values(r, 2 * base::wide(cell.blocks), first, grid)

@@ -8,7 +8,7 @@ ghost use Prim.Native.Nat.{_+_, _*_, _≤_, _<_};
 ghost use lib.ListN.{length};
 ghost use Rattle.gold.specs.Steps.{after};
 ghost use Rattle.grid.specs.Writing.{Written};
-ghost use Rattle.signals.specs.Signals.{crsSends, crsSent, markSends, pssSent, sssSent};
+ghost use Rattle.signals.specs.Signals.{portSends, crsSent, markSends, pssSent, sssSent};
 ghost use Rattle.signals.specs.Rows.{MarkIn, SignalIn, everySixth, wordSent, pairSent, inRow, phaseSent, levelSent};
 
 // The n values of a word of 2n bits, at every sixth element. Callers take n from `signals::at_once`, and the last element lies in the grid.
@@ -46,7 +46,7 @@ fn fill_values(r: Registers, n: usize, first: usize, grid: &mut [u8]) -> Registe
 // accepted plan, and have compared the grid's length.
 pub fn fill_crs(r: Registers, cell: Cell, s: usize, port: u8, grid: &mut [u8]) -> Registers
     requires { ⌜ SignalIn cell s port (now grid) ⌝ }
-    ensures { λ result. ⌜ Written (crsSends cell s port) (crsSent cell r) (now (grid .entry)) (now (grid .exit)) × (result ≡ after r (4 * cell .blocks)) ⌝ }
+    ensures { λ result. ⌜ Written (portSends cell s port) (crsSent cell r) (now (grid .entry)) (now (grid .exit)) × (result ≡ after r (4 * cell .blocks)) ⌝ }
 {
     let first = signals::crs_at(cell, s, port);
     fill_values(r, 2 * base::wide(cell.blocks), first, grid)
