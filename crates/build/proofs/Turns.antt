@@ -71,7 +71,7 @@ module _ {p : Plan} {ch : Channel} {have : ℕ} {t masks sums bits grid : List �
   -- the order of one that reads a table
   orders : (c : Channel) → TurnOf w p (ok .number) c → OrderOr have (orderFor have c)
   unfolding orderFor Among
-  orders (Crs s q) y = record { new = λ n. absurd (n refl) }
+  orders (Crs s) y = record { new = λ n. absurd (n refl) }
   orders (Sync m) y = record { new = λ n. absurd (n refl) }
   orders Pbch y = record { new = λ n. (refl, omega arith, omega arith) }
   orders Pcfich y = record { new = λ n. absurd (n refl) }
@@ -80,7 +80,7 @@ module _ {p : Plan} {ch : Channel} {have : ℕ} {t masks sums bits grid : List �
 
   tables : {s : List ℕ} (c : Channel) → TurnOf w p (ok .number) c → Having (p .cell .ports) (orderFor have c) s → TableFor p c s
   unfolding orderFor TableFor Among unitOf unitIn
-  tables (Crs s q) y x = tt
+  tables (Crs s) y x = tt
   tables (Sync m) y x = tt
   tables Pbch y x = x .table (λ z. omega (arith, z))
   tables Pcfich y x = tt
@@ -144,7 +144,7 @@ module _ {w : List ℕ} {p : Plan} {payload g₀ : List ℕ} (start : Ready w p 
         module _ {masks sums : List ℕ} (shared : Shared w p payload masks sums) where
           levels : (bits : List ℕ) (c : Channel) → TurnOf w p (t .number) c → LevelsIn c (lentTo c sums bits)
           unfolding TurnOf LevelsIn lentTo
-          levels bits (Crs s q) y = tt
+          levels bits (Crs s) y = tt
           levels bits (Sync m) y = tt
           levels bits Pbch y = tt
           levels bits Pcfich y = tt

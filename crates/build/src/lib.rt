@@ -28,7 +28,7 @@ fn order_for(ch: Channel, have: u8) -> u8
     ensures { λ r. ⌜ r ≡ orderFor have ch ⌝ }
 {
     match ch {
-        Channel::Crs(_, _) => have,
+        Channel::Crs(_) => have,
         Channel::Sync(_) => have,
         Channel::Pbch => 2,
         Channel::Pcfich => have,

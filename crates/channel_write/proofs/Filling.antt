@@ -170,7 +170,7 @@ module _ {p : Plan} {ch : Channel} {t masks bits grid : List ℕ} (ok : ChannelI
         (s q y : ℕ) → ch ≡ Crs s q → y ≡ s → Written (crsSends (p .cell) y q) (crsSent (p .cell) r) grid h × (x ≡ after r (4 * p .cell .blocks)) → Fills r x h ch
     unfolding elementsOf sentOf bitsUsed
     crs-filled s q y e ey k =
-        sent (Crs s q) e (subst (λ (z : ℕ). Written (crsSends (p .cell) z q) (crsSent (p .cell) r) grid h) ey (k .0)) (k .1)
+        sent (Crs s) e (subst (λ (z : ℕ). Written (crsSends (p .cell) z q) (crsSent (p .cell) r) grid h) ey (k .0)) (k .1)
 
     pub pbch-filled : (a : Area) → ch ≡ Pbch → a ≡ pbchArea (p .cell) (p .frame) → AreaFilled a 2 t bits r grid x h → Fills r x h ch
     unfolding elementsOf sentOf bitsUsed TableFor
@@ -250,7 +250,7 @@ module _ (sums bits : List ℕ) {p : Plan} {ch : Channel} {t masks grid : List �
   module _ (k : OneOf (0 ∷ 2 ∷ 3 ∷ 5 ∷ []) (tagOf the-type ch)) where
     other : (c : Channel) → OneOf (0 ∷ 2 ∷ 3 ∷ 5 ∷ []) (tagOf the-type c) → HasSequence c × (lentTo c sums bits ≡ bits)
     unfolding oneOf lentTo
-    other (Crs s q) h = (tt, refl)
+    other (Crs s) h = (tt, refl)
     other (Sync m) h = absurd (not-in (0 ∷ 2 ∷ 3 ∷ 5 ∷ []) 1 h refl)
     other Pbch h = (tt, refl)
     other Pcfich h = (tt, refl)

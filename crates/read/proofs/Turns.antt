@@ -164,7 +164,7 @@ module _ {w : List ℕ} {p : Plan} {g before : List ℕ} (start : Readable w p g
 
     turn-needs : (ch : Channel) → TurnOf w p (t .number) ch → presentIn p ch ≡ true → PartOf p ch g (partOf (sectionOf p (t .start) ch) payload)
     unfolding PartOf presentIn sectionOf
-    turn-needs (Crs s q) y h = tt
+    turn-needs (Crs s) y h = tt
     turn-needs (Sync m) y h = tt
     turn-needs Pbch y h = pbch-needs (t .number) y (eqb-true (p .frame .subframe) 0 h) (Part Pbch) (part-size Pbch y ∙ omega arith)
     turn-needs Pcfich y h = tt
@@ -183,7 +183,7 @@ module _ {w : List ℕ} {p : Plan} {g before : List ℕ} (start : Readable w p g
       pass : t .number < usersFirst p → (R + 2 < t .number + 1 → R + 2 < t .number) → ReadBefore w p g r payload
       pass l k = record { size = right; pbch = λ m. had .pbch (k (omega arith)); others = others-kept l }
 
-      crs-pass : (s q : ℕ) → TurnOf w p (t .number) (Crs s q) → ReadBefore w p g r payload
+      crs-pass : (s q : ℕ) → TurnOf w p (t .number) (Crs s) → ReadBefore w p g r payload
       unfolding TurnOf
       crs-pass s q y =
           let l : t .number < R = omega (arith, y .2, mul-le-mul {n₁ = suc s} {m₁ = p .cell .ports} {n₂ = symbols (p .cell)} {m₂ = p .cell .ports} (y .0) (omega arith), y .1) in
@@ -197,7 +197,7 @@ module _ {w : List ℕ} {p : Plan} {g before : List ℕ} (start : Readable w p g
       -- the subframe does not have the channel
       absent-read : (ch : Channel) → TurnOf w p (t .number) ch → presentIn p ch ≡ false → ReadBefore w p g r payload
       unfolding TurnOf presentIn
-      absent-read (Crs s q) y h = crs-pass s q y
+      absent-read (Crs s) y h = crs-pass s q y
       absent-read (Sync m) y h = sync-pass m y
       absent-read Pbch y h =
           record {
@@ -251,7 +251,7 @@ module _ {w : List ℕ} {p : Plan} {g before : List ℕ} (start : Readable w p g
 
         present-read : (ch : Channel) → TurnOf w p (t .number) ch → presentIn p ch ≡ true → ys ≡ ownPart p ch g (Part ch) → ReadBefore w p g r (After ch)
         unfolding TurnOf ownPart
-        present-read (Crs s q) y h e = same-read (Crs s q) e (crs-pass s q y)
+        present-read (Crs s) y h e = same-read (Crs s) e (crs-pass s q y)
         present-read (Sync m) y h e = same-read (Sync m) e (sync-pass m y)
         present-read Pbch y h e = pbch-read y h e
         present-read Pcfich y h e = same-read Pcfich e (pass (omega arith) (λ k. omega arith))

@@ -101,8 +101,8 @@ module _ {w : List ℕ} {p : Plan} {g : List ℕ} where
     turn-as : {c : Channel} → ch ≡ c → TurnOf w p (k .number) c
     turn-as e = subst (TurnOf w p (k .number)) e (k .turn)
 
-    pub crs-starts : {s q : ℕ} → ch ≡ Crs s q → CellIn (p .cell) × FrameIn (p .frame) × Among p (Crs s q)
-    crs-starts {s} {q} e = begins w p ok (k .number) (Crs s q) tt (turn-as e)
+    pub crs-starts : {s q : ℕ} → ch ≡ Crs s q → CellIn (p .cell) × FrameIn (p .frame) × Among p (Crs s)
+    crs-starts {s} {q} e = begins w p ok (k .number) (Crs s) tt (turn-as e)
 
     pub crs-ready : {s q y : ℕ} → ch ≡ Crs s q → y ≡ s → SignalIn (p .cell) y q g
     unfolding TurnOf
@@ -185,7 +185,7 @@ module _ {w : List ℕ} {p : Plan} {g : List ℕ} where
 -- ---- WHAT IT ANSWERS, by channel
 module _ (p : Plan) {ch : Channel} (sums g : List ℕ) (x : Seen) where
   pub crs-answer :
-      {s q y : ℕ} {r : Registers} → ch ≡ Crs s q → y ≡ s → r ≡ startPair p (Crs s q) → Compared (crsSends (p .cell) y q) (crsSent (p .cell) r) g x → ChannelSeen p ch sums g x
+      {s q y : ℕ} {r : Registers} → ch ≡ Crs s q → y ≡ s → r ≡ startPair p (Crs s) → Compared (crsSends (p .cell) y q) (crsSent (p .cell) r) g x → ChannelSeen p ch sums g x
   unfolding ChannelSeen elementsOf sentOf
   crs-answer e ey er c = rw e (rw (ey, er) at c)
 
@@ -262,7 +262,7 @@ module _ (w : List ℕ) (p : Plan) {g : List ℕ} (given : Given w p g) where
 
     pub channel-due : (ch : Channel) → TurnOf w p n ch → presentIn p ch ≡ true → ChannelSeen p ch sums g x → Compared (sendsOf p ch) (elementDue w p g) g x
     unfolding ChannelSeen BitsOf lentTo presentIn
-    channel-due (Crs s q) t h c = sent-due (Crs s q) t h tt c
+    channel-due (Crs s) t h c = sent-due (Crs s) t h tt c
     channel-due (Sync m) t h c = sent-due (Sync m) t h tt c
     channel-due Pbch t h c =
         same (λ e. sym (pbch-sends w p (given .answer) h e)) (λ e k. refl) (pbch-seen w p (given .answer) g (given .room) (eqb-true (p .frame .subframe) 0 h) x c)

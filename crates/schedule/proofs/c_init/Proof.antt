@@ -11,7 +11,7 @@ enum-known-ch c = search needs
 
 crs-init-requires : tie.Need-crs-init-requires
 unfolding Among
-crs-init-requires c κs = let a = c .before .before .before .before .before in (a .pre .0, a .pre .1, subst (Among (a .args .p)) (c .before .ch .given .1) (a .pre .2) .0)
+crs-init-requires c κs = let a = c .before .before .before .before .before in (a .pre .0, a .pre .1, subst (Among (a .args .p)) (c .before .ch .given .1) (a .pre .2))
 
 enum-told : tie.Need-enum-told
 enum-told c = search needs
