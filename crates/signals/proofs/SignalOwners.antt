@@ -35,6 +35,7 @@ use Rattle.counts.proofs.Ranges.{big}
 use Rattle.places.specs.Places.{symbolAt, carrierAt, placesOf}
 use Rattle.subframe.specs.Elements.{crsElement, pssElement, sssElement}
 use Rattle.signals.specs.Signals.{portSends, signalled, crsSends, crsFrom, crsSent, markSends, pssSent, sssSent}
+use Rattle.signals.proofs.Ports.{port-parts, symbol-parts}
 
 -- the bits that the pair at c(k) gives
 output-of : (ci k i : ℕ) → outputs (pairAt ci k) i ≡ c ci (k + i)
@@ -74,23 +75,11 @@ signal-in c q s ok l h = by-test (ltb q 2) low high
 module _ (w : List ℕ) (p : Plan) where
   -- ---- a port's reference signal
   module _ (q s e : ℕ) where
-    port-parts : portSends (p .cell) s q e ≡ true
-        → (e / placesOf (p .cell) ≡ q) × (symbolAt (p .cell) (e % placesOf (p .cell)) ≡ s)
-        × (standsAt (p .cell) (crsShift (p .cell) q s) (carrierAt (p .cell) (e % placesOf (p .cell))) ≡ true)
-    unfolding portSends
-    port-parts h =
-        let t = e % placesOf (p .cell) in
-        let a = eqb (e / placesOf (p .cell)) q in
-        let b = eqb (symbolAt (p .cell) t) s in
-        let d = standsAt (p .cell) (crsShift (p .cell) q s) (carrierAt (p .cell) t) in
-        let ab : a && b ≡ true = and-left (a && b) d h in
-        (eqb-true _ _ (and-left a b ab), eqb-true _ _ (and-right a b ab), and-right (a && b) d h)
-
     pub port-sends : q < p .cell .ports → crsSymbol (p .cell) q s ≡ true → portSends (p .cell) s q e ≡ true
         → (owns w p (Crs q) s (carrierAt (p .cell) (e % placesOf (p .cell))) ≡ true) × (e / placesOf (p .cell) ≡ q) × (symbolAt (p .cell) (e % placesOf (p .cell)) ≡ s)
     unfolding owns fixedRule crs crsOf
     port-sends l y h =
-        let d = port-parts h in
+        let d = port-parts (p .cell) s e q h in
         (both (lt-ltb _ _ l) (both y (d .2)), d .0, d .1)
 
     -- what is sent there, from the pair at the symbol's first value
@@ -100,7 +89,7 @@ module _ (w : List ℕ) (p : Plan) where
         ≡ crsElement (p .cell) (p .frame) q (e / placesOf (p .cell)) s (carrierAt (p .cell) (e % placesOf (p .cell)))
     unfolding crsSent crsElement
     crs-value ok h =
-        rw (eq-eqb (e / placesOf (p .cell)) q (port-parts h .0))
+        rw (eq-eqb (e / placesOf (p .cell)) q (port-parts (p .cell) s e q h .0))
         (ap (elementOf 2)
         (value-from (p .cell .prefix) (p .cell .identity) (p .cell .blocks) (2 * p .frame .subframe + slotOf (p .cell) s) (inSlot (p .cell) s)
         (carrierAt (p .cell) (e % placesOf (p .cell)) / 6) (omega (arith, big (p .cell .blocks) (valid w p ok .cell .blocks)))))
@@ -120,14 +109,7 @@ module _ (w : List ℕ) (p : Plan) where
   -- the element's port sends there
   pub crs-parts : (s e : ℕ) → crsSends (p .cell) s e ≡ true
       → (e / placesOf (p .cell) < p .cell .ports) × (crsSymbol (p .cell) (e / placesOf (p .cell)) s ≡ true) × (portSends (p .cell) s (e / placesOf (p .cell)) e ≡ true)
-  unfolding crsSends
-  crs-parts s e h =
-      let q = e / placesOf (p .cell) in
-      let a = ltb q (p .cell .ports) in
-      let y = crsSymbol (p .cell) q s in
-      let d = portSends (p .cell) s q e in
-      let ay = and-left (a && y) d h in
-      (ltb-true q (p .cell .ports) (and-left a y ay), and-right a y ay, and-right (a && y) d h)
+  crs-parts s e h = symbol-parts (p .cell) s e h
 
   -- every place of a port's signal is sent on the port, in a symbol that has signals
   pub crs-covers : CellIn (p .cell) → (q e : ℕ) → owns w p (Crs q) (symbolAt (p .cell) (e % placesOf (p .cell))) (carrierAt (p .cell) (e % placesOf (p .cell))) ≡ true

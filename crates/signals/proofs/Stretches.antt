@@ -1,26 +1,15 @@
 -- Elements by their numbers: every sixth from a first one on, and all from a first one on. Assumes nothing.
 use Prim.Native.Nat.{ℕ, _+_, _-_, _*_, _/_, _%_, _≤_, _<_}
-use mathlib.Core.Path.{_≡_, refl}
+use mathlib.Core.Path.{_≡_}
 use mathlib.Core.Logic.{_⊎_, inl, inr}
 use mathlib.Core.Bool.{Bool, true, false, _&&_, _||_}
 use native.Mathlib.Decide.{decLe}
 use native.Mathlib.Omega.{arith}
 use lib.Dec.{leb, ltb, eqb}
 use borrow.Author.Tests.{leb-true, le-leb, ltb-true, lt-ltb, eqb-true, eq-eqb}
-use Rattle.base.proofs.Tests.{both, is-false, same-test}
+use Rattle.base.proofs.Tests.{both, or-cases, or-left, or-right, is-false, same-test}
 use Rattle.plan.proofs.Listed.{and-left, and-right}
 use Rattle.signals.specs.Rows.{everySixth, inRow}
-
-or-cases : (a b : Bool) → a || b ≡ true → (a ≡ true) ⊎ (b ≡ true)
-or-cases true b e = inl refl
-or-cases false b e = inr e
-
-or-left : (a b : Bool) → a ≡ true → a || b ≡ true
-or-left a b e = rw e refl
-
-or-right : (a b : Bool) → b ≡ true → a || b ≡ true
-or-right true b e = refl
-or-right false b e = e
 
 -- ---- every sixth
 pub sixth-is : (first n e : ℕ) → first ≤ e → (e - first) % 6 ≡ 0 → (e - first) / 6 < n → everySixth first n e ≡ true

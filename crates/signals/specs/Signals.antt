@@ -1,7 +1,7 @@
 -- For the inner contracts and loops only: the elements that the reference and synchronisation signals write. T is the number of places
 -- on a port, an element's number is port × T + place.
 use Prim.Native.Nat.{ℕ, _+_, _*_, _/_, _%_}
-use mathlib.Core.Bool.{Bool, _&&_, _||_}
+use mathlib.Core.Bool.{Bool, cond, _&&_, _||_}
 use lib.Dec.{eqb, ltb}
 use lib.IntN.{pos}
 use Rattle.base.specs.declared.Pair.{Pair}
@@ -25,6 +25,10 @@ portSends c s q e =
 -- a reference signal stands in symbol s: that of ports 0 and 1 or, with four ports, that of ports 2 and 3
 unfoldable pub signalled : Cell → ℕ → Bool
 signalled c s = crsSymbol c 0 s || (eqb (c .ports) 4 && crsSymbol c 2 s)
+
+-- the first port of the two, or the only one
+unfoldable pub crsPort : Cell → ℕ → ℕ
+crsPort c s = cond (crsSymbol c 0 s) 0 2
 
 -- the element stands in symbol s, on a port of the cell, where that port's reference signal does
 unfoldable pub crsSends : Cell → ℕ → ℕ → Bool

@@ -11,8 +11,8 @@ ghost use Rattle.base.specs.Bytes.{elementOf};
 ghost use Rattle.crs.specs.Crs.{wordValue};
 ghost use Rattle.element_pairs.specs.Numbers.{elementFrom};
 ghost use Rattle.compare.specs.Comparing.{Compared};
-ghost use Rattle.signals.specs.Signals.{portSends, crsSent, markSends, pssSent, sssSent};
-ghost use Rattle.signals.specs.Rows.{MarkIn, SignalIn, everySixth, wordSent, pairSent, inRow, phaseSent, levelSent};
+ghost use Rattle.signals.specs.Signals.{portSends, crsSends, crsSent, markSends, pssSent, sssSent};
+ghost use Rattle.signals.specs.Rows.{MarkIn, SignalIn, SymbolIn, everySixth, wordSent, pairSent, inRow, phaseSent, levelSent};
 ghost use Rattle.signals_compare.specs.Differing.{Differing};
 
 // The element of two bits of the sequence as a number: unit 2, and levels 1 or, 254 more, minus 1.
@@ -61,14 +61,27 @@ fn compare_values(r: Registers, n: usize, first: usize, grid: &[u8]) -> Seen
     Seen::Differs
 }
 
-// A port's reference signal in symbol s, from the pair that stands at the symbol's first value. Callers have the cell from an
-// accepted plan, and have compared the grid's length.
-pub fn compare_crs(r: Registers, cell: Cell, s: usize, port: u8, grid: &[u8]) -> Seen
+// A port's reference signal in symbol s.
+fn compare_port(r: Registers, cell: Cell, s: usize, port: u8, grid: &[u8]) -> Seen
     requires { ⌜ SignalIn cell s port (now grid) ⌝ }
     ensures { λ seen. ⌜ Compared (portSends cell s port) (crsSent cell r) (now (grid .entry)) seen ⌝ }
 {
     let first = signals::crs_at(cell, s, port);
     compare_values(r, 2 * base::wide(cell.blocks), first, grid)
+}
+
+// The reference signals of symbol s on all ports that send there, from the pair that stands at the symbol's first value. Callers have
+// the cell from an accepted plan, and have compared the grid's length.
+pub fn compare_crs(r: Registers, cell: Cell, s: usize, grid: &[u8]) -> Seen
+    requires { ⌜ SymbolIn cell s (now grid) ⌝ }
+    ensures { λ seen. ⌜ Compared (crsSends cell s) (crsSent cell r) (now (grid .entry)) seen ⌝ }
+{
+    let port = signals::crs_port(cell, s);
+    let seen = compare_port(r, cell, s, port, grid);
+    if cell.ports == 1 {
+        return seen;
+    }
+    compare::together(seen, compare_port(r, cell, s, port + 1, grid))
 }
 
 // The primary signal's 62 elements.

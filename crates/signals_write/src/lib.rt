@@ -8,8 +8,8 @@ ghost use Prim.Native.Nat.{_+_, _*_, _≤_, _<_};
 ghost use lib.ListN.{length};
 ghost use Rattle.gold.specs.Steps.{after};
 ghost use Rattle.grid.specs.Writing.{Written};
-ghost use Rattle.signals.specs.Signals.{portSends, crsSent, markSends, pssSent, sssSent};
-ghost use Rattle.signals.specs.Rows.{MarkIn, SignalIn, everySixth, wordSent, pairSent, inRow, phaseSent, levelSent};
+ghost use Rattle.signals.specs.Signals.{portSends, crsSends, crsSent, markSends, pssSent, sssSent};
+ghost use Rattle.signals.specs.Rows.{MarkIn, SignalIn, SymbolIn, everySixth, wordSent, pairSent, inRow, phaseSent, levelSent};
 
 // The n values of a word of 2n bits, at every sixth element. Callers take n from `signals::at_once`, and the last element lies in the grid.
 fn fill_word(word: u32, n: usize, first: usize, grid: &mut [u8])
@@ -42,14 +42,27 @@ fn fill_values(r: Registers, n: usize, first: usize, grid: &mut [u8]) -> Registe
     pair
 }
 
-// A port's reference signal in symbol s, from the pair that stands at the symbol's first value. Callers have the cell from an
-// accepted plan, and have compared the grid's length.
-pub fn fill_crs(r: Registers, cell: Cell, s: usize, port: u8, grid: &mut [u8]) -> Registers
+// A port's reference signal in symbol s.
+fn fill_port(r: Registers, cell: Cell, s: usize, port: u8, grid: &mut [u8]) -> Registers
     requires { ⌜ SignalIn cell s port (now grid) ⌝ }
     ensures { λ result. ⌜ Written (portSends cell s port) (crsSent cell r) (now (grid .entry)) (now (grid .exit)) × (result ≡ after r (4 * cell .blocks)) ⌝ }
 {
     let first = signals::crs_at(cell, s, port);
     fill_values(r, 2 * base::wide(cell.blocks), first, grid)
+}
+
+// The reference signals of symbol s on all ports that send there, from the pair that stands at the symbol's first value; the pair
+// after them. Callers have the cell from an accepted plan, and have compared the grid's length.
+pub fn fill_crs(r: Registers, cell: Cell, s: usize, grid: &mut [u8]) -> Registers
+    requires { ⌜ SymbolIn cell s (now grid) ⌝ }
+    ensures { λ result. ⌜ Written (crsSends cell s) (crsSent cell r) (now (grid .entry)) (now (grid .exit)) × (result ≡ after r (4 * cell .blocks)) ⌝ }
+{
+    let port = signals::crs_port(cell, s);
+    let next = fill_port(r, cell, s, port, grid);
+    if cell.ports == 1 {
+        return next;
+    }
+    fill_port(r, cell, s, port + 1, grid)
 }
 
 // The primary signal's 62 elements.

@@ -1,30 +1,41 @@
--- `signals_compare::compare_crs` meets its contract: every sixth element from the first one on is the port's reference signal. Assumes nothing.
-use Rattle.compare.proofs.Accumulating.{comparing}
-use Rattle.signals.proofs.Numbers.{crs-inside, crs-done}
+-- `signals_compare::compare_crs` meets its contract: port by port. Assumes nothing.
+use native.Mathlib.Omega.{arith}
+use Rattle.compare.proofs.Comparing.{few}
+use Rattle.compare.proofs.Accumulating.{also, comparing}
+use Rattle.signals.proofs.Ports.{first-ready, second-ready, one-done, two-done}
 use borrow.Author.Needs.{needs}
 use Rattle.signals_compare.proofs.compare_crs.Statement.{statement}
 use Rattle.signals_compare.proofs.compare_crs.Tie as tie
 
-crs-at-requires : tie.Need-crs-at-requires
-crs-at-requires c κs = search needs
+crs-port-requires : tie.Need-crs-port-requires
+crs-port-requires c κs = search needs
 
-wide-requires : tie.Need-wide-requires
-wide-requires c κs = search needs
-
-mul-compare-values : tie.Need-mul-compare-values
-mul-compare-values c = search needs
-
-compare-values-requires : tie.Need-compare-values-requires
-compare-values-requires c κs =
-    let entry = c .before .before .before in
-    crs-inside (entry .pre) (c .before .crs-at .ensures) (c .wide .ensures)
+compare-port-requires : tie.Need-compare-port-requires
+compare-port-requires c κs = first-ready (c .before .before .pre) (c .crs-port .ensures)
 
 returns : tie.Need-returns
-returns c =
-    let at-crs-at = c .before .before in let entry = at-crs-at .before .before in
-    crs-done (entry .pre) (at-crs-at .crs-at .ensures) (c .before .wide .ensures) (comparing (entry .args .grid .now)) (entry .args .r) (c .compare-values .ensures)
+returns c = one-done (c .before .before .before .before .before .pre) (c .before .before .before .crs-port .ensures) (comparing (c .before .before .before .before .before .args .grid .now)) (c .if1 .taken) (c .before .before .compare-port .ensures)
+
+add-compare-port : tie.Need-add-compare-port
+add-compare-port c = omega (arith, second-ready (c .before .before .before .before .before .pre) (c .before .before .before .crs-port .ensures) (c .if1 .left) .port, c .before .before .before .before .before .fits)
+
+compare-port-requires-2 : tie.Need-compare-port-requires-2
+compare-port-requires-2 c κs = second-ready (c .before .before .before .before .before .pre) (c .before .before .before .crs-port .ensures) (c .if1 .left)
+
+together-requires : tie.Need-together-requires
+together-requires c κs = (few (c .before .before .before .before .before .before .pre .room) (c .before .before .before .compare-port .ensures), few (c .before .before .before .before .before .before .pre .room) (c .compare-port2 .ensures))
+
+returns-2 : tie.Need-returns-2
+returns-2 c = two-done (c .before .before .before .before .before .before .before .pre) (c .before .before .before .before .before .crs-port .ensures) (comparing (c .before .before .before .before .before .before .before .args .grid .now)) (c .before .before .if1 .left) (c .before .before .before .before .compare-port .ensures) (also (c .before .compare-port2 .ensures) (c .together .ensures))
 
 pub compare-crs-spec : {M : Type 1} → statement M
 compare-crs-spec =
     tie.close
-    (tie.spec crs-at-requires wide-requires mul-compare-values compare-values-requires returns)
+    (tie.spec
+    crs-port-requires
+    compare-port-requires
+    returns
+    add-compare-port
+    compare-port-requires-2
+    together-requires
+    returns-2)

@@ -1,0 +1,127 @@
+-- The ports whose reference signals stand in a symbol: two neighbours, or the cell's only one. Assumes nothing.
+use Prim.Native.Nat.{ℕ, zero, suc, _+_, _*_, _/_, _%_, _<_}
+use mathlib.Core.Path.{_≡_, refl, sym, _∙_}
+use mathlib.Core.Logic.{_⊎_, inl, inr}
+use mathlib.Core.Bool.{true, false, _&&_, _||_, and-true}
+use mathlib.Core.List.{List}
+use native.Mathlib.Decide.{ℕ-discrete}
+use native.Mathlib.Omega.{arith}
+use lib.Dec.{eqb, ltb}
+use borrow.Author.Tests.{eq-eqb, eqb-true, lt-ltb, ltb-true}
+use Rattle.base.proofs.Tests.{by-test, both, or-cases, or-left, or-right, same-test}
+use Rattle.base.specs.declared.Element.{Element}
+use Rattle.plan.specs.declared.Cell.{Cell}
+use Rattle.plan.proofs.Listed.{and-left, and-right}
+use Rattle.layout.specs.Rules.{crsSymbol, crsShift, standsAt}
+use Rattle.layout.proofs.Pilot.{not-both}
+use Rattle.places.specs.Places.{symbolAt, carrierAt, placesOf}
+use Rattle.grid.proofs.Accumulating.{Deed, Step, Accumulates}
+use Rattle.signals.specs.Signals.{portSends, signalled, crsPort, crsSends}
+use Rattle.signals.specs.Rows.{SignalIn, SymbolIn}
+
+-- what it says of an element that a port's signal, or a symbol's, stands there
+module _ (c : Cell) (s e : ℕ) where
+  pub port-parts : (q : ℕ) → portSends c s q e ≡ true
+      → (e / placesOf c ≡ q) × (symbolAt c (e % placesOf c) ≡ s) × (standsAt c (crsShift c q s) (carrierAt c (e % placesOf c)) ≡ true)
+  unfolding portSends
+  port-parts q h =
+      let t = e % placesOf c in
+      let a = eqb (e / placesOf c) q in
+      let b = eqb (symbolAt c t) s in
+      let d = standsAt c (crsShift c q s) (carrierAt c t) in
+      let ab : a && b ≡ true = and-left (a && b) d h in
+      (eqb-true _ _ (and-left a b ab), eqb-true _ _ (and-right a b ab), and-right (a && b) d h)
+
+  pub symbol-parts : crsSends c s e ≡ true
+      → (e / placesOf c < c .ports) × (crsSymbol c (e / placesOf c) s ≡ true) × (portSends c s (e / placesOf c) e ≡ true)
+  unfolding crsSends
+  symbol-parts h =
+      let q = e / placesOf c in
+      let a = ltb q (c .ports) in
+      let y = crsSymbol c q s in
+      let d = portSends c s q e in
+      let ay = and-left (a && y) d h in
+      (ltb-true q (c .ports) (and-left a y ay), and-right a y ay, and-right (a && y) d h)
+
+module _ {c : Cell} {s : ℕ} {g : List ℕ} (ready : SymbolIn c s g) where
+  later : crsSymbol c 0 s ≡ false → (c .ports ≡ 4) × (crsSymbol c 2 s ≡ true)
+  unfolding signalled
+  later f =
+      let four = eqb (c .ports) 4 in
+      let h : four && crsSymbol c 2 s ≡ true = rw f at (ready .signal) in
+      (eqb-true (c .ports) 4 (and-left four (crsSymbol c 2 s) h), and-right four (crsSymbol c 2 s) h)
+
+  -- a port sends in the symbol just when it is the first one's neighbour or that itself
+  uses : (q : ℕ) → q < 4 → crsSymbol c q s ≡ eqb (q / 2 * 2) (crsPort c s)
+  unfolding crsPort crsSymbol
+  uses zero l = by-test (crsSymbol c 0 s) (λ t. rw t refl) (λ f. rw f refl)
+  uses (suc zero) l = uses zero (omega arith)
+  uses (suc (suc zero)) l = by-test (crsSymbol c 0 s) (λ t. rw t (rw t at (not-both c s))) (λ f. rw f (later f .1))
+  uses (suc (suc (suc zero))) l = uses (suc (suc zero)) (omega arith)
+  uses (suc (suc (suc (suc q)))) l = absurd (let z : ⊥ = omega arith in z)
+
+module _ {c : Cell} {s : ℕ} {g : List ℕ} (ready : SymbolIn c s g) {q : ℕ} (at : q ≡ crsPort c s) where
+  -- which are ports of the cell
+  which : (q ≡ 0) ⊎ ((q ≡ 2) × (c .ports ≡ 4))
+  unfolding crsPort
+  which = by-test (crsSymbol c 0 s) (λ t. inl (at ∙ rw t refl)) (λ f. inr (at ∙ rw f refl, later ready f .0))
+
+  fits : (q % 2 ≡ 0) × (q < c .ports) × ((c .ports ≡ 1 → ⊥) → q + 1 < c .ports)
+  fits = by which
+    where
+      by : (q ≡ 0) ⊎ ((q ≡ 2) × (c .ports ≡ 4)) → (q % 2 ≡ 0) × (q < c .ports) × ((c .ports ≡ 1 → ⊥) → q + 1 < c .ports)
+      by (inl a) = (omega arith, omega (arith, ready .room .some), λ n. omega (arith, ready .room .some, n))
+      by (inr a) = (omega (arith, a), omega (arith, a), λ n. omega (arith, a))
+
+  pub first-ready : SignalIn c s (q) g
+  first-ready = record { cell = ready .cell; symbol = ready .symbol; port = fits .1; room = ready .room }
+
+  pub second-ready : (c .ports ≡ 1 → ⊥) → SignalIn c s (q + 1) g
+  second-ready n = record { cell = ready .cell; symbol = ready .symbol; port = fits .2 n; room = ready .room }
+
+  -- the symbol's elements are theirs
+  from : (p e : ℕ) → p < c .ports → p / 2 * 2 ≡ q → portSends c s p e ≡ true → crsSends c s e ≡ true
+  unfolding crsSends
+  from p e l h k =
+      let on = port-parts c s e p k .0 in
+      rw on (both (both (lt-ltb p (c .ports) l) (uses ready p (omega (arith, ready .room .most)) ∙ eq-eqb _ _ (h ∙ at))) k)
+
+  to : (e : ℕ) → crsSends c s e ≡ true → (e / placesOf c < c .ports) × (e / placesOf c / 2 * 2 ≡ q) × (portSends c s (e / placesOf c) e ≡ true)
+  to e h =
+      let d = symbol-parts c s e h in
+      let p = e / placesOf c in
+      (d .0, eqb-true (p / 2 * 2) (crsPort c s) (sym (uses ready p (omega (arith, ready .room .most, d .0))) ∙ d .1) ∙ sym at, d .2)
+
+  pub on-one : c .ports ≡ 1 → (e : ℕ) → portSends c s (q) e ≡ crsSends c s e
+  on-one n e =
+      same-test (portSends c s q e) (crsSends c s e) (from q e (fits .1) (omega (arith, fits .0)))
+      (λ h. let d = to e h in let j : e / placesOf c ≡ q = omega (arith, d .0, d .1) in rw j at (d .2))
+
+  pub on-two : (c .ports ≡ 1 → ⊥) → (e : ℕ) → portSends c s (q + 1) e || portSends c s (q) e ≡ crsSends c s e
+  on-two n e =
+      let later = portSends c s (q + 1) e in
+      let sooner = portSends c s q e in
+      same-test (later || sooner) (crsSends c s e)
+      (λ h. up (or-cases later sooner h)) (λ h. let d = to e h in down (ℕ-discrete (e / placesOf c) q) d)
+    where
+      up : (portSends c s (q + 1) e ≡ true) ⊎ (portSends c s (q) e ≡ true) → crsSends c s e ≡ true
+      up (inl h) = from (q + 1) e (fits .2 n) (omega (arith, fits .0)) h
+      up (inr h) = from (q) e (fits .1) (omega (arith, fits .0)) h
+
+      down : Dec (e / placesOf c ≡ q) → (e / placesOf c < c .ports) × (e / placesOf c / 2 * 2 ≡ q) × (portSends c s (e / placesOf c) e ≡ true)
+          → portSends c s (q + 1) e || portSends c s (q) e ≡ true
+      down (yes j) d = or-right (portSends c s (q + 1) e) (portSends c s (q) e) (rw j at (d .2))
+      down (no j) d =
+          let k : e / placesOf c ≡ q + 1 = omega (arith, d .1, j) in
+          or-left (portSends c s (q + 1) e) (portSends c s (q) e) (rw k at (d .2))
+
+  on-both : (e : ℕ) → portSends c s (q) e ≡ true → portSends c s (q + 1) e ≡ true → ⊥
+  on-both e h k = let a = port-parts c s e (q) h in let b = port-parts c s e (q + 1) k in omega (arith, a .0, b .0)
+
+  -- so what is done port by port is done in the symbol
+  module _ {X : Type 0} {Done : Deed X} {Also : Step X} {none : X} (A : Accumulates Done Also none) {W : ℕ → Element} where
+    pub one-done : {x : X} → c .ports ≡ 1 → Done (portSends c s (q)) W x → Done (crsSends c s) W x
+    one-done n d = A .same (on-one n) (λ e t. refl) d
+
+    pub two-done : {x y : X} → (c .ports ≡ 1 → ⊥) → Done (portSends c s (q)) W x → Also (portSends c s (q + 1)) W x y → Done (crsSends c s) W y
+    two-done n d k = A .more on-both d k (λ e t. refl) (λ e. sym (on-two n e))
