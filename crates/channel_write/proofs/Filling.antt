@@ -261,9 +261,9 @@ module _ (sums bits : List ℕ) {p : Plan} {ch : Channel} {t masks grid : List �
 
     pub pcfich-written : {control : Registers} {h : List ℕ} → control ≡ startPair p Pcfich → Written (sendsOf p ch) (sentOf p bits control ch) grid h → Wrote h
     unfolding lentTo
-    pcfich-written {h = h} er k =
+    pcfich-written {control = r} {h = h} er k =
         subst (λ (c : Channel). Written (sendsOf p c) (sentOf p (lentTo c sums bits) (startPair p c) c) grid h) (sym e)
-        (rw er at subst (λ (c : Channel). Written (sendsOf p c) (sentOf p bits _ c) grid h) e k)
+        (subst (λ (x : Registers). Written (sendsOf p Pcfich) (sentOf p bits x Pcfich) grid h) er (subst (λ (c : Channel). Written (sendsOf p c) (sentOf p bits r c) grid h) e k))
 
   module _ (k : OneOf (0 ∷ 2 ∷ 5 ∷ []) (tagOf the-type ch)) where
     other : (c : Channel) → OneOf (0 ∷ 2 ∷ 5 ∷ []) (tagOf the-type c) → HasSequence c × (lentTo c sums bits ≡ bits)
@@ -277,6 +277,9 @@ module _ (sums bits : List ℕ) {p : Plan} {ch : Channel} {t masks grid : List �
 
     pub other-ok : SequenceIn p ch t masks bits grid
     other-ok = (rw (← other ch k .1) ok, other ch k .0)
+
+    pub other-starts : CellIn (p .cell) × FrameIn (p .frame) × Among p ch
+    other-starts = begins other-ok
 
     pub other-written : {r : Registers} {h : List ℕ} → r ≡ startPair p ch → Written (sendsOf p ch) (sentOf p bits r ch) grid h → Wrote h
     other-written er c = rw (other ch k .1, ← er) c

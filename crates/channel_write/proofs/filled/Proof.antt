@@ -15,7 +15,7 @@ wide-requires c κs = search needs
 fill-crs-requires : tie.Need-fill-crs-requires
 fill-crs-requires c κs =
     let a = c .before .before .before .before .before .before .before .before .before in
-    crs-in (a .pre .0) _ _ _ (c .before .before .before .ch .given .1) (c .before .wide .ensures)
+    crs-in (a .pre .0) _ _ (c .before .before .before .ch .given .1) (c .before .wide .ensures)
 
 enum-told : tie.Need-enum-told
 enum-told c = search needs
@@ -72,7 +72,7 @@ returns : tie.Need-returns
 returns c =
     let a = c .before .before .before .before .before .before in
     let b = a .before .before .before .before .before .before in
-    crs-filled (b .pre .0) _ _ _ _ (a .ch .given .1) (c .before .before .before .before .wide .ensures) (c .before .before .fill-crs .ensures)
+    crs-filled (b .pre .0) _ _ _ (a .ch .given .1) (c .before .before .before .before .wide .ensures) (c .before .before .fill-crs .ensures)
 
 returns-2 : tie.Need-returns-2
 returns-2 c = let a = c .before .before .before .before .before .before in no-mark (a .pre) (c .enum-told .given .1)

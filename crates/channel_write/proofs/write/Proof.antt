@@ -1,6 +1,6 @@
--- `channel_write::write` meets its contract: a mark, a unit, or another channel. Assumes nothing.
+-- `channel_write::write` meets its contract: a mark, PCFICH, a unit, or another channel. Assumes nothing.
 use native.Mathlib.Omega.{arith}
-use Rattle.channel_write.proofs.Filling.{mark-in, mark-written, unit-few, unit-ok, unit-written, other-ok, other-written}
+use Rattle.channel_write.proofs.Filling.{mark-in, mark-written, unit-few, unit-ok, unit-written, pcfich-ok, pcfich-written, other-ok, other-starts, other-written}
 use borrow.Author.Needs.{needs}
 use Rattle.channel_write.proofs.write.Statement.{statement}
 use Rattle.channel_write.proofs.write.Tie as tie
@@ -9,7 +9,13 @@ enum-known-ch : tie.Need-enum-known-ch
 enum-known-ch c = search needs
 
 write-mark-requires : tie.Need-write-mark-requires
-write-mark-requires c κs = let a = c .before .before .before .before .before .before .before in mark-in (a .pre .0)
+write-mark-requires c κs = mark-in (c .before .before .before .before .before .before .before .pre .0)
+
+enum-told : tie.Need-enum-told
+enum-told c = search needs
+
+map-requires : tie.Need-map-requires
+map-requires c κs = pcfich-ok (c .before .before .before .before .before .before .args .sums .now) (c .before .before .before .before .before .before .args .bits .now) (c .before .before .before .before .before .before .pre .0) (c .before .enum-told .given .1)
 
 enum-known-ch-2 : tie.Need-enum-known-ch-2
 enum-known-ch-2 c = search needs
@@ -30,42 +36,40 @@ part-map-start : tie.Need-part-map-start
 part-map-start c = search needs
 
 part-map-end : tie.Need-part-map-end
-part-map-end c =
-    let a = c .before .before .before .before .before .before .before in
-    omega (arith, unit-few (a .args .sums .now) (a .args .bits .now) (a .pre .0) (c .before .before .ch2 .given .1) (c .wide .ensures), a .pre .1)
-
-map-requires : tie.Need-map-requires
-map-requires c κs =
-    let a = c .before .before .before .before .before .before .before .before .before in
-    unit-ok (a .args .sums .now) (a .args .bits .now) (a .pre .0) (c .before .before .before .before .ch2 .given .1) (c .before .before .wide .ensures)
+part-map-end c = omega (arith, unit-few (c .before .before .before .before .before .before .before .args .sums .now) (c .before .before .before .before .before .before .before .args .bits .now) (c .before .before .before .before .before .before .before .pre .0) (c .before .before .ch2 .given .1) (c .wide .ensures), c .before .before .before .before .before .before .before .pre .1)
 
 map-requires-2 : tie.Need-map-requires-2
-map-requires-2 c κs = let a = c .before .before .before .before .before in other-ok (a .args .sums .now) (a .args .bits .now) (a .pre .0) (c .before .match .keys3)
+map-requires-2 c κs = unit-ok (c .before .before .before .before .before .before .before .before .before .args .sums .now) (c .before .before .before .before .before .before .before .before .before .args .bits .now) (c .before .before .before .before .before .before .before .before .before .pre .0) (c .before .before .before .before .ch2 .given .1) (c .before .before .wide .ensures)
+
+started-requires : tie.Need-started-requires
+started-requires c κs = other-starts (c .before .before .before .before .args .sums .now) (c .before .before .before .before .args .bits .now) (c .before .before .before .before .pre .0) (c .match .keys4)
+
+map-requires-3 : tie.Need-map-requires-3
+map-requires-3 c κs = other-ok (c .before .before .before .before .before .before .args .sums .now) (c .before .before .before .before .before .before .args .bits .now) (c .before .before .before .before .before .before .pre .0) (c .before .before .match .keys4)
 
 same-length : tie.Need-same-length
 same-length c = search needs
 
 returns : tie.Need-returns
-returns c =
-    let a = c .before .before .before .before .before .before .before .before .before .before in
-    mark-written (a .args .sums .now) (a .args .bits .now) (a .pre .0) (c .before .before .before .before .before .ch .given .1) (c .before .before .write-mark .ensures)
+returns c = mark-written (c .before .before .before .before .before .before .before .before .before .before .args .sums .now) (c .before .before .before .before .before .before .before .before .before .before .args .bits .now) (c .before .before .before .before .before .before .before .before .before .before .pre .0) (c .before .before .before .before .before .ch .given .1) (c .before .before .write-mark .ensures)
 
 same-length-2 : tie.Need-same-length-2
 same-length-2 c = search needs
 
 returns-2 : tie.Need-returns-2
-returns-2 c =
-    let a = c .before .before .before .before .before .before .before in
-    let b = a .before .before .before .before .before in
-    unit-written (b .args .sums .now) (b .args .bits .now) (b .pre .0) (a .ch2 .given .1) (c .before .before .before .before .before .wide .ensures) (c .before .before .map .ensures)
+returns-2 c = pcfich-written (c .before .before .before .before .before .before .before .before .before .args .sums .now) (c .before .before .before .before .before .before .before .before .before .args .bits .now) (c .before .before .before .before .before .before .before .before .before .pre .0) (c .before .before .before .before .enum-told .given .1) (c .before .before .before .before .before .before .before .before .before .pre .2) (c .before .before .map .ensures)
 
 same-length-3 : tie.Need-same-length-3
 same-length-3 c = search needs
 
 returns-3 : tie.Need-returns-3
-returns-3 c =
-    let a = c .before .before .before .before .before .before .before .before in
-    other-written (a .args .sums .now) (a .args .bits .now) (a .pre .0) (c .before .before .before .before .match .keys3) (c .before .before .map2 .ensures)
+returns-3 c = unit-written (c .before .before .before .before .before .before .before .before .before .before .before .before .args .sums .now) (c .before .before .before .before .before .before .before .before .before .before .before .before .args .bits .now) (c .before .before .before .before .before .before .before .before .before .before .before .before .pre .0) (c .before .before .before .before .before .before .before .ch2 .given .1) (c .before .before .before .before .before .wide .ensures) (c .before .before .before .before .before .before .before .before .before .before .before .before .pre .2) (c .before .before .map2 .ensures)
+
+same-length-4 : tie.Need-same-length-4
+same-length-4 c = search needs
+
+returns-4 : tie.Need-returns-4
+returns-4 c = other-written (c .before .before .before .before .before .before .before .before .before .args .sums .now) (c .before .before .before .before .before .before .before .before .before .args .bits .now) (c .before .before .before .before .before .before .before .before .before .pre .0) (c .before .before .before .before .before .match .keys4) (c .before .before .before .before .started .ensures) (c .before .before .map3 .ensures)
 
 pub write-spec : {M : Type 1} → statement M
 write-spec =
@@ -73,6 +77,8 @@ write-spec =
     (tie.spec
     enum-known-ch
     write-mark-requires
+    enum-told
+    map-requires
     enum-known-ch-2
     wide-requires
     mul-from
@@ -80,11 +86,14 @@ write-spec =
     sub-map
     part-map-start
     part-map-end
-    map-requires
     map-requires-2
+    started-requires
+    map-requires-3
     same-length
     returns
     same-length-2
     returns-2
     same-length-3
-    returns-3)
+    returns-3
+    same-length-4
+    returns-4)
