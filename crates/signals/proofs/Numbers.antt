@@ -164,13 +164,13 @@ module _ {c : Cell} {s q : ℕ} {g : List ℕ} (ready : SignalIn c s q g) {first
       let in-port : q * placesOf c + placesOf c ≤ c .ports * placesOf c = row-inside q (c .ports) (placesOf c) (placesOf c) (ready .port) (omega arith) in
       omega (arith, ready .room .size)
 
-  pub crs-done :
-      {X : Type 0} {Done : Deed X} {Also : Step X} {none x : X} → Accumulates Done Also none → (r : Registers)
-      → Done (everySixth first (2 * N)) (pairSent r first) x → Done (portSends c s q) (crsSent c r) x
+  pub port-elements : (e : ℕ) → everySixth first (2 * N) e ≡ portSends c s q e
   unfolding crsPlace
-  crs-done A r d =
-      let a = (crsShift c q s + c .identity) % 6 in
-      A .same (crs-elements c s q a first (ready .cell) (ready .symbol) refl ef) (crs-values c s q a first (ready .cell) (ready .symbol) refl ef r) (rw eN at d)
+  port-elements = rw eN (crs-elements c s q ((crsShift c q s + c .identity) % 6) first (ready .cell) (ready .symbol) refl ef)
+
+  pub port-values : (r : Registers) (e : ℕ) → everySixth first (2 * N) e ≡ true → pairSent r first e ≡ crsSent c r e
+  unfolding crsPlace
+  port-values = rw eN (crs-values c s q ((crsShift c q s + c .identity) % 6) first (ready .cell) (ready .symbol) refl ef)
 
 -- ---- synchronisation signals
 module _ (c : Cell) (ok : CellIn c) (y first : ℕ) (in-y : (1 ≤ y) × (y ≤ 2)) (ef : first ≡ (slotLength c - y) * carriers c + (6 * c .blocks - 31)) where

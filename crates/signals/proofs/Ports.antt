@@ -1,23 +1,28 @@
 -- The ports whose reference signals stand in a symbol: two neighbours, or the cell's only one. Assumes nothing.
-use Prim.Native.Nat.{ℕ, zero, suc, _+_, _*_, _/_, _%_, _<_}
+use Prim.Native.Nat.{ℕ, zero, suc, _+_, _-_, _*_, _/_, _%_, _≤_, _<_}
 use mathlib.Core.Path.{_≡_, refl, sym, _∙_}
 use mathlib.Core.Logic.{_⊎_, inl, inr}
-use mathlib.Core.Bool.{true, false, _&&_, _||_, and-true}
+use mathlib.Core.Bool.{Bool, true, false, _&&_, _||_, and-true}
 use mathlib.Core.List.{List}
 use native.Mathlib.Decide.{ℕ-discrete}
 use native.Mathlib.Omega.{arith}
 use lib.Dec.{eqb, ltb}
 use borrow.Author.Tests.{eq-eqb, eqb-true, lt-ltb, ltb-true}
 use Rattle.base.proofs.Tests.{by-test, both, or-cases, or-left, or-right, same-test}
-use Rattle.base.specs.declared.Element.{Element}
+use Rattle.base.proofs.Rows.{row-inside}
+use Rattle.gold.specs.declared.Registers.{Registers}
 use Rattle.plan.specs.declared.Cell.{Cell}
 use Rattle.plan.proofs.Listed.{and-left, and-right}
 use Rattle.layout.specs.Rules.{crsSymbol, crsShift, standsAt}
-use Rattle.layout.proofs.Pilot.{not-both}
+use Rattle.layout.specs.Owners.{symbols, carriers}
+use Rattle.layout.proofs.Pilot.{not-both, slot-length}
 use Rattle.places.specs.Places.{symbolAt, carrierAt, placesOf}
+use Rattle.counts.proofs.Ranges.{big}
 use Rattle.grid.proofs.Accumulating.{Deed, Step, Accumulates}
-use Rattle.signals.specs.Signals.{portSends, signalled, crsPort, crsSends}
-use Rattle.signals.specs.Rows.{SignalIn, SymbolIn}
+use Rattle.signals.specs.Signals.{portSends, signalled, crsPort, crsSends, crsSent}
+use Rattle.signals.specs.Rows.{SignalIn, SymbolIn, crsPlace, everySixth, pairSent, onFirst, onBoth}
+use Rattle.signals.proofs.Stretches.{sixth-of, on-first, on-second, sixth-both}
+use Rattle.signals.proofs.Numbers.{port-elements, port-values}
 
 -- what it says of an element that a port's signal, or a symbol's, stands there
 module _ (c : Cell) (s e : ℕ) where
@@ -115,13 +120,43 @@ module _ {c : Cell} {s : ℕ} {g : List ℕ} (ready : SymbolIn c s g) {q : ℕ} 
           let k : e / placesOf c ≡ q + 1 = omega (arith, d .1, j) in
           or-left (portSends c s (q + 1) e) (portSends c s (q) e) (rw k at (d .2))
 
-  on-both : (e : ℕ) → portSends c s (q) e ≡ true → portSends c s (q + 1) e ≡ true → ⊥
-  on-both e h k = let a = port-parts c s e (q) h in let b = port-parts c s e (q + 1) k in omega (arith, a .0, b .0)
+  -- ---- what is done from the first elements on is done in the symbol
+  module _ {first N : ℕ} (ef : first ≡ crsPlace c s q) (eN : N ≡ c .blocks) where
+    pub crs-one :
+        {X : Type 0} {Done : Deed X} {Also : Step X} {none x : X} → Accumulates Done Also none → (r : Registers) → c .ports ≡ 1
+        → Done (everySixth first (2 * N)) (pairSent r first) x → Done (crsSends c s) (crsSent c r) x
+    crs-one A r n d = A .same (λ e. port-elements first-ready ef eN e ∙ on-one n e) (port-values first-ready ef eN r) d
 
-  -- so what is done port by port is done in the symbol
-  module _ {X : Type 0} {Done : Deed X} {Also : Step X} {none : X} (A : Accumulates Done Also none) {W : ℕ → Element} where
-    pub one-done : {x : X} → c .ports ≡ 1 → Done (portSends c s (q)) W x → Done (crsSends c s) W x
-    one-done n d = A .same (on-one n) (λ e t. refl) d
+    module _ (n : c .ports ≡ 1 → ⊥) {second : ℕ} (es : second ≡ crsPlace c s (q + 1)) where
+      -- the second port's elements come after all of the first one's
+      pub both-apart : first + 6 * (2 * N) ≤ second
+      unfolding crsPlace
+      both-apart =
+          let two-rows : 1 * carriers c + carriers c ≤ placesOf c = row-inside 1 (symbols c) (carriers c) (carriers c) (omega (arith, slot-length c)) (omega arith) in
+          let next : (q + 1) * placesOf c ≡ q * placesOf c + placesOf c = omega arith in
+          omega (arith, big (c .blocks) (ready .cell .blocks))
 
-    pub two-done : {x y : X} → (c .ports ≡ 1 → ⊥) → Done (portSends c s (q)) W x → Also (portSends c s (q + 1)) W x y → Done (crsSends c s) W y
-    two-done n d k = A .more on-both d k (λ e t. refl) (λ e. sym (on-two n e))
+      pub crs-both :
+          {X : Type 0} {Done : Deed X} {Also : Step X} {none x : X} → Accumulates Done Also none → (r : Registers)
+          → Done (onBoth first second (everySixth first (2 * N))) (onBoth first second (pairSent r first)) x → Done (crsSends c s) (crsSent c r) x
+      unfolding pairSent
+      crs-both A r d =
+          A .same
+          (λ e. either e ∙ or-same (port-elements (second-ready n) es eN e) (port-elements first-ready ef eN e) ∙ on-two n e)
+          (λ e t. value e (or-cases (everySixth second (2 * N) e) (everySixth first (2 * N) e) (sym (either e) ∙ t)))
+          d
+        where
+          either : (e : ℕ) → everySixth first (2 * N) (onFirst first second e) ≡ everySixth second (2 * N) e || everySixth first (2 * N) e
+          either e = sixth-both first second first second (2 * N) e (omega arith) (omega arith) both-apart
+
+          or-same : {a b d k : Bool} → a ≡ d → b ≡ k → a || b ≡ d || k
+          or-same p q = rw (p, q) refl
+
+          value : (e : ℕ) → (everySixth second (2 * N) e ≡ true) ⊎ (everySixth first (2 * N) e ≡ true) → pairSent r first (onFirst first second e) ≡ crsSent c r e
+          value e (inl t) =
+              let l = sixth-of second (2 * N) e t in
+              let j : first + (e - second) - first ≡ e - second = omega arith in
+              rw (on-second first second e (l .0), j) (port-values (second-ready n) es eN r e t)
+          value e (inr t) =
+              let l = sixth-of first (2 * N) e t in
+              rw (on-first first second e (omega (arith, both-apart))) (port-values first-ready ef eN r e t)

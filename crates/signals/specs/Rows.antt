@@ -1,7 +1,7 @@
 -- For the inner contracts and loops only: what the functions over a signal need, and its elements by their numbers, from the first one on.
 use Prim.Native.Nat.{ℕ, _+_, _-_, _*_, _/_, _%_, _^_, _<_}
 use mathlib.Core.Path.{_≡_}
-use mathlib.Core.Bool.{Bool, true, _&&_}
+use mathlib.Core.Bool.{Bool, true, cond, _&&_}
 use mathlib.Core.List.{List}
 use lib.Dec.{leb, ltb, eqb}
 use lib.IntN.{pos}
@@ -57,6 +57,14 @@ wordSent word n first e = valueIn word n ((e - first) / 6)
 -- value m of what the pair gives
 unfoldable pub pairSent : Registers → ℕ → ℕ → Element
 pairSent r first e = elementOf 2 (crsFrom r ((e - first) / 6))
+
+-- ---- the same values on two ports, from `first` and, on the next port, from `second` on: e's like on the first port
+unfoldable pub onFirst : ℕ → ℕ → ℕ → ℕ
+onFirst first second e = cond (leb second e) (first + (e - second)) e
+
+-- and what holds of the elements on the first port, of those on both
+abbrev pub onBoth : {A : Type 0} → ℕ → ℕ → (ℕ → A) → ℕ → A
+onBoth first second f e = f (onFirst first second e)
 
 -- ---- synchronisation: 62 elements from `first` on
 unfoldable pub inRow : ℕ → ℕ → ℕ → Bool

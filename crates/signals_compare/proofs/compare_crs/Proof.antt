@@ -1,41 +1,72 @@
--- `signals_compare::compare_crs` meets its contract: port by port. Assumes nothing.
+-- `signals_compare::compare_crs` meets its contract: every sixth element from the first one on, on each port, is a reference signal. Assumes nothing.
 use native.Mathlib.Omega.{arith}
-use Rattle.compare.proofs.Comparing.{few}
-use Rattle.compare.proofs.Accumulating.{also, comparing}
-use Rattle.signals.proofs.Ports.{first-ready, second-ready, one-done, two-done}
+use Rattle.compare.proofs.Accumulating.{comparing}
+use Rattle.signals.proofs.Numbers.{crs-inside}
+use Rattle.signals.proofs.Ports.{first-ready, second-ready, crs-one, both-apart, crs-both}
 use borrow.Author.Needs.{needs}
 use Rattle.signals_compare.proofs.compare_crs.Statement.{statement}
 use Rattle.signals_compare.proofs.compare_crs.Tie as tie
 
+wide-requires : tie.Need-wide-requires
+wide-requires c κs = search needs
+
+mul-n : tie.Need-mul-n
+mul-n c = search needs
+
 crs-port-requires : tie.Need-crs-port-requires
 crs-port-requires c κs = search needs
 
-compare-port-requires : tie.Need-compare-port-requires
-compare-port-requires c κs = first-ready (c .before .before .pre) (c .crs-port .ensures)
+crs-at-requires : tie.Need-crs-at-requires
+crs-at-requires c κs =
+    let entry = c .before .before .before in
+    let r = first-ready (entry .pre) (c .crs-port .ensures) in (r .cell, r .symbol, r .port)
+
+compare-values-requires : tie.Need-compare-values-requires
+compare-values-requires c κs =
+    let at-crs-at = c .before .before in let at-crs-port = at-crs-at .before in let at-wide = at-crs-port .before in let entry = at-wide .before .before in
+    crs-inside (first-ready (entry .pre) (at-crs-port .crs-port .ensures)) (at-crs-at .crs-at .ensures) (at-wide .wide .ensures)
 
 returns : tie.Need-returns
-returns c = one-done (c .before .before .before .before .before .pre) (c .before .before .before .crs-port .ensures) (comparing (c .before .before .before .before .before .args .grid .now)) (c .if1 .taken) (c .before .before .compare-port .ensures)
+returns c =
+    let at-crs-at = c .before .before .before in let at-crs-port = at-crs-at .before in let at-wide = at-crs-port .before in
+    let entry = at-wide .before .before in
+    crs-one (entry .pre) (at-crs-port .crs-port .ensures) (at-crs-at .crs-at .ensures) (at-wide .wide .ensures) (comparing (entry .args .grid .now)) (entry .args .r) (c .before .if1 .taken)
+    (c .compare-values .ensures)
 
-add-compare-port : tie.Need-add-compare-port
-add-compare-port c = omega (arith, second-ready (c .before .before .before .before .before .pre) (c .before .before .before .crs-port .ensures) (c .if1 .left) .port, c .before .before .before .before .before .fits)
+add-crs-at : tie.Need-add-crs-at
+add-crs-at c =
+    let at-crs-port = c .before .before .before in let entry = at-crs-port .before .before .before in
+    omega (arith, second-ready (entry .pre) (at-crs-port .crs-port .ensures) (c .if1 .left) .port, entry .fits)
 
-compare-port-requires-2 : tie.Need-compare-port-requires-2
-compare-port-requires-2 c κs = second-ready (c .before .before .before .before .before .pre) (c .before .before .before .crs-port .ensures) (c .if1 .left)
+crs-at-requires-2 : tie.Need-crs-at-requires-2
+crs-at-requires-2 c κs =
+    let at-crs-port = c .before .before .before in let entry = at-crs-port .before .before .before in
+    let r = second-ready (entry .pre) (at-crs-port .crs-port .ensures) (c .if1 .left) in (r .cell, r .symbol, r .port)
 
-together-requires : tie.Need-together-requires
-together-requires c κs = (few (c .before .before .before .before .before .before .pre .room) (c .before .before .before .compare-port .ensures), few (c .before .before .before .before .before .before .pre .room) (c .compare-port2 .ensures))
+compare-values-on-both-requires : tie.Need-compare-values-on-both-requires
+compare-values-on-both-requires c κs =
+    let at-crs-at = c .before .before .before in let at-crs-port = at-crs-at .before in let at-wide = at-crs-port .before in
+    let entry = at-wide .before .before in
+    (both-apart (entry .pre) (at-crs-port .crs-port .ensures) (at-crs-at .crs-at .ensures) (at-wide .wide .ensures) (c .before .if1 .left) (c .crs-at2 .ensures), crs-inside (second-ready (entry .pre) (at-crs-port .crs-port .ensures) (c .before .if1 .left)) (c .crs-at2 .ensures) (at-wide .wide .ensures))
 
 returns-2 : tie.Need-returns-2
-returns-2 c = two-done (c .before .before .before .before .before .before .before .pre) (c .before .before .before .before .before .crs-port .ensures) (comparing (c .before .before .before .before .before .before .before .args .grid .now)) (c .before .before .if1 .left) (c .before .before .before .before .compare-port .ensures) (also (c .before .compare-port2 .ensures) (c .together .ensures))
+returns-2 c =
+    let at-if1 = c .before .before in let at-crs-at = at-if1 .before .before in let at-crs-port = at-crs-at .before in let at-wide = at-crs-port .before in
+    let entry = at-wide .before .before in
+    crs-both (entry .pre) (at-crs-port .crs-port .ensures) (at-crs-at .crs-at .ensures) (at-wide .wide .ensures) (at-if1 .if1 .left) (c .before .crs-at2 .ensures) (comparing (entry .args .grid .now)) (entry .args .r)
+    (c .compare-values-on-both .ensures)
 
 pub compare-crs-spec : {M : Type 1} → statement M
 compare-crs-spec =
     tie.close
     (tie.spec
+    wide-requires
+    mul-n
     crs-port-requires
-    compare-port-requires
+    crs-at-requires
+    compare-values-requires
     returns
-    add-compare-port
-    compare-port-requires-2
-    together-requires
+    add-crs-at
+    crs-at-requires-2
+    compare-values-on-both-requires
     returns-2)
