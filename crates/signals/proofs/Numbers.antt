@@ -28,10 +28,11 @@ use Rattle.layout.specs.Owners.{symbols, carriers}
 use Rattle.layout.proofs.Pilot.{slot-length}
 use Rattle.counts.proofs.Ranges.{big}
 use Rattle.places.specs.Places.{symbolAt, carrierAt, placesOf}
+use Rattle.grid.specs.Writing.{Room}
 use Rattle.grid.proofs.Accumulating.{Deed, Step, Accumulates}
 use Rattle.subframe.specs.Elements.{markNumber, pssElement, sssElement}
 use Rattle.signals.specs.Signals.{portSends, crsFrom, crsSent, markSends, pssSent, sssSent}
-use Rattle.signals.specs.Rows.{MarkIn, SignalIn, crsPlace, everySixth, pairSent, inRow, phaseElement, phaseSent, levelElement, levelSent}
+use Rattle.signals.specs.Rows.{MarkIn, crsPlace, everySixth, pairSent, inRow, phaseElement, phaseSent, levelElement, levelSent}
 use Rattle.signals.proofs.Stretches.{sixth-is, sixth-of, row-is as in-row, row-of}
 
 -- ---- the first element of a symbol
@@ -155,22 +156,22 @@ crs-first c s q er ea = rw (er, ea) refl
 pub crs-given : {N B : ℕ} → N ≡ B → (r : Registers) {result : Registers} → result ≡ after r (2 * (2 * N)) → result ≡ after r (4 * B)
 crs-given {N = N} {B = B} e r h = let bits : 2 * (2 * N) ≡ 4 * B = omega arith in h ∙ ap (after r) bits
 
-module _ {c : Cell} {s q : ℕ} {g : List ℕ} (ready : SignalIn c s q g) {first N : ℕ} (ef : first ≡ crsPlace c s q) (eN : N ≡ c .blocks) where
+module _ {c : Cell} {s q : ℕ} (on : CellIn c × (s < symbols c) × (q < c .ports)) {first N : ℕ} (ef : first ≡ crsPlace c s q) (eN : N ≡ c .blocks) where
   -- the last one lies in the grid
-  pub crs-inside : 3 * (first + 6 * (2 * N)) + 2 < length g + 18
+  pub crs-inside : {g : List ℕ} → Room (c .ports) (placesOf c) g → 3 * (first + 6 * (2 * N)) + 2 < length g + 18
   unfolding crsPlace
-  crs-inside =
-      let in-row : s * carriers c + carriers c ≤ placesOf c = row-inside s (symbols c) (carriers c) (carriers c) (ready .symbol) (omega arith) in
-      let in-port : q * placesOf c + placesOf c ≤ c .ports * placesOf c = row-inside q (c .ports) (placesOf c) (placesOf c) (ready .port) (omega arith) in
-      omega (arith, ready .room .size)
+  crs-inside room =
+      let in-row : s * carriers c + carriers c ≤ placesOf c = row-inside s (symbols c) (carriers c) (carriers c) (on .1) (omega arith) in
+      let in-port : q * placesOf c + placesOf c ≤ c .ports * placesOf c = row-inside q (c .ports) (placesOf c) (placesOf c) (on .2) (omega arith) in
+      omega (arith, room .size)
 
   pub port-elements : (e : ℕ) → everySixth first (2 * N) e ≡ portSends c s q e
   unfolding crsPlace
-  port-elements = rw eN (crs-elements c s q ((crsShift c q s + c .identity) % 6) first (ready .cell) (ready .symbol) refl ef)
+  port-elements = rw eN (crs-elements c s q ((crsShift c q s + c .identity) % 6) first (on .0) (on .1) refl ef)
 
   pub port-values : (r : Registers) (e : ℕ) → everySixth first (2 * N) e ≡ true → pairSent r first e ≡ crsSent c r e
   unfolding crsPlace
-  port-values = rw eN (crs-values c s q ((crsShift c q s + c .identity) % 6) first (ready .cell) (ready .symbol) refl ef)
+  port-values = rw eN (crs-values c s q ((crsShift c q s + c .identity) % 6) first (on .0) (on .1) refl ef)
 
 -- ---- synchronisation signals
 module _ (c : Cell) (ok : CellIn c) (y first : ℕ) (in-y : (1 ≤ y) × (y ≤ 2)) (ef : first ≡ (slotLength c - y) * carriers c + (6 * c .blocks - 31)) where

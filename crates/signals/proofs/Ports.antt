@@ -2,15 +2,17 @@
 use Prim.Native.Nat.{ℕ, zero, suc, _+_, _-_, _*_, _/_, _%_, _≤_, _<_}
 use mathlib.Core.Path.{_≡_, refl, sym, _∙_}
 use mathlib.Core.Logic.{_⊎_, inl, inr}
-use mathlib.Core.Bool.{Bool, true, false, _&&_, _||_, and-true}
+use mathlib.Core.Bool.{Bool, true, false, _&&_, _||_}
 use mathlib.Core.List.{List}
 use native.Mathlib.Decide.{ℕ-discrete}
 use native.Mathlib.Omega.{arith}
 use lib.Dec.{eqb, ltb}
+use lib.ListN.{length}
 use borrow.Author.Tests.{eq-eqb, eqb-true, lt-ltb, ltb-true}
 use Rattle.base.proofs.Tests.{by-test, both, or-cases, or-left, or-right, same-test}
 use Rattle.base.proofs.Rows.{row-inside}
 use Rattle.gold.specs.declared.Registers.{Registers}
+use Rattle.plan.specs.Valid.{CellIn}
 use Rattle.plan.specs.declared.Cell.{Cell}
 use Rattle.plan.proofs.Listed.{and-left, and-right}
 use Rattle.layout.specs.Rules.{crsSymbol, crsShift, standsAt}
@@ -20,9 +22,9 @@ use Rattle.places.specs.Places.{symbolAt, carrierAt, placesOf}
 use Rattle.counts.proofs.Ranges.{big}
 use Rattle.grid.proofs.Accumulating.{Deed, Step, Accumulates}
 use Rattle.signals.specs.Signals.{portSends, signalled, crsPort, crsSends, crsSent}
-use Rattle.signals.specs.Rows.{SignalIn, SymbolIn, crsPlace, everySixth, pairSent, onFirst, onBoth}
+use Rattle.signals.specs.Rows.{SymbolIn, crsPlace, everySixth, pairSent, onFirst, onBoth}
 use Rattle.signals.proofs.Stretches.{sixth-of, on-first, on-second, sixth-both}
-use Rattle.signals.proofs.Numbers.{port-elements, port-values}
+use Rattle.signals.proofs.Numbers.{crs-inside, port-elements, port-values}
 
 -- what it says of an element that a port's signal, or a symbol's, stands there
 module _ (c : Cell) (s e : ℕ) where
@@ -56,7 +58,7 @@ module _ {c : Cell} {s : ℕ} {g : List ℕ} (ready : SymbolIn c s g) where
       let h : four && crsSymbol c 2 s ≡ true = rw f at (ready .signal) in
       (eqb-true (c .ports) 4 (and-left four (crsSymbol c 2 s) h), and-right four (crsSymbol c 2 s) h)
 
-  -- a port sends in the symbol just when it is the first one's neighbour or that itself
+  -- a port sends just when it is the first one or the next
   uses : (q : ℕ) → q < 4 → crsSymbol c q s ≡ eqb (q / 2 * 2) (crsPort c s)
   unfolding crsPort crsSymbol
   uses zero l = by-test (crsSymbol c 0 s) (λ t. rw t refl) (λ f. rw f refl)
@@ -66,97 +68,92 @@ module _ {c : Cell} {s : ℕ} {g : List ℕ} (ready : SymbolIn c s g) where
   uses (suc (suc (suc (suc q)))) l = absurd (let z : ⊥ = omega arith in z)
 
 module _ {c : Cell} {s : ℕ} {g : List ℕ} (ready : SymbolIn c s g) {q : ℕ} (at : q ≡ crsPort c s) where
-  -- which are ports of the cell
-  which : (q ≡ 0) ⊎ ((q ≡ 2) × (c .ports ≡ 4))
-  unfolding crsPort
-  which = by-test (crsSymbol c 0 s) (λ t. inl (at ∙ rw t refl)) (λ f. inr (at ∙ rw f refl, later ready f .0))
-
   fits : (q % 2 ≡ 0) × (q < c .ports) × ((c .ports ≡ 1 → ⊥) → q + 1 < c .ports)
-  fits = by which
-    where
-      by : (q ≡ 0) ⊎ ((q ≡ 2) × (c .ports ≡ 4)) → (q % 2 ≡ 0) × (q < c .ports) × ((c .ports ≡ 1 → ⊥) → q + 1 < c .ports)
-      by (inl a) = (omega arith, omega (arith, ready .room .some), λ n. omega (arith, ready .room .some, n))
-      by (inr a) = (omega (arith, a), omega (arith, a), λ n. omega (arith, a))
+  unfolding crsPort
+  fits =
+      by-test (crsSymbol c 0 s)
+      (λ t. let z : q ≡ 0 = at ∙ rw t refl in (omega arith, omega (arith, ready .room .some), λ n. omega (arith, ready .room .some)))
+      (λ f. let z : q ≡ 2 = at ∙ rw f refl in let four = later ready f .0 in (omega arith, omega arith, λ n. omega arith))
 
-  pub first-ready : SignalIn c s (q) g
-  first-ready = record { cell = ready .cell; symbol = ready .symbol; port = fits .1; room = ready .room }
+  -- both are ports of the cell, where it has more than one
+  pub first-port : CellIn c × (s < symbols c) × (q < c .ports)
+  first-port = (ready .cell, ready .symbol, fits .1)
 
-  pub second-ready : (c .ports ≡ 1 → ⊥) → SignalIn c s (q + 1) g
-  second-ready n = record { cell = ready .cell; symbol = ready .symbol; port = fits .2 n; room = ready .room }
+  pub second-port : (c .ports ≡ 1 → ⊥) → CellIn c × (s < symbols c) × (q + 1 < c .ports)
+  second-port n = (ready .cell, ready .symbol, fits .2 n)
 
-  -- the symbol's elements are theirs
-  from : (p e : ℕ) → p < c .ports → p / 2 * 2 ≡ q → portSends c s p e ≡ true → crsSends c s e ≡ true
+  -- an element of one of them, and no other, is the symbol's
+  of-port : (p e : ℕ) → p < c .ports → p / 2 * 2 ≡ q → portSends c s p e ≡ true → crsSends c s e ≡ true
   unfolding crsSends
-  from p e l h k =
+  of-port p e l h k =
       let on = port-parts c s e p k .0 in
       rw on (both (both (lt-ltb p (c .ports) l) (uses ready p (omega (arith, ready .room .most)) ∙ eq-eqb _ _ (h ∙ at))) k)
 
-  to : (e : ℕ) → crsSends c s e ≡ true → (e / placesOf c < c .ports) × (e / placesOf c / 2 * 2 ≡ q) × (portSends c s (e / placesOf c) e ≡ true)
-  to e h =
+  port-of : (e : ℕ) → crsSends c s e ≡ true → (e / placesOf c < c .ports) × (e / placesOf c / 2 * 2 ≡ q) × (portSends c s (e / placesOf c) e ≡ true)
+  port-of e h =
       let d = symbol-parts c s e h in
       let p = e / placesOf c in
       (d .0, eqb-true (p / 2 * 2) (crsPort c s) (sym (uses ready p (omega (arith, ready .room .most, d .0))) ∙ d .1) ∙ sym at, d .2)
 
-  pub on-one : c .ports ≡ 1 → (e : ℕ) → portSends c s (q) e ≡ crsSends c s e
+  on-one : c .ports ≡ 1 → (e : ℕ) → portSends c s q e ≡ crsSends c s e
   on-one n e =
-      same-test (portSends c s q e) (crsSends c s e) (from q e (fits .1) (omega (arith, fits .0)))
-      (λ h. let d = to e h in let j : e / placesOf c ≡ q = omega (arith, d .0, d .1) in rw j at (d .2))
+      same-test (portSends c s q e) (crsSends c s e) (of-port q e (fits .1) (omega (arith, fits .0)))
+      (λ h. let d = port-of e h in let j : e / placesOf c ≡ q = omega (arith, d .0, d .1) in rw j at (d .2))
 
-  pub on-two : (c .ports ≡ 1 → ⊥) → (e : ℕ) → portSends c s (q + 1) e || portSends c s (q) e ≡ crsSends c s e
+  on-two : (c .ports ≡ 1 → ⊥) → (e : ℕ) → portSends c s (q + 1) e || portSends c s q e ≡ crsSends c s e
   on-two n e =
-      let later = portSends c s (q + 1) e in
-      let sooner = portSends c s q e in
-      same-test (later || sooner) (crsSends c s e)
-      (λ h. up (or-cases later sooner h)) (λ h. let d = to e h in down (ℕ-discrete (e / placesOf c) q) d)
+      let one = portSends c s q e in
+      let other = portSends c s (q + 1) e in
+      same-test (other || one) (crsSends c s e) (λ h. up (or-cases other one h)) (λ h. down (ℕ-discrete (e / placesOf c) q) (port-of e h))
     where
-      up : (portSends c s (q + 1) e ≡ true) ⊎ (portSends c s (q) e ≡ true) → crsSends c s e ≡ true
-      up (inl h) = from (q + 1) e (fits .2 n) (omega (arith, fits .0)) h
-      up (inr h) = from (q) e (fits .1) (omega (arith, fits .0)) h
+      up : (portSends c s (q + 1) e ≡ true) ⊎ (portSends c s q e ≡ true) → crsSends c s e ≡ true
+      up (inl h) = of-port (q + 1) e (fits .2 n) (omega (arith, fits .0)) h
+      up (inr h) = of-port q e (fits .1) (omega (arith, fits .0)) h
 
       down : Dec (e / placesOf c ≡ q) → (e / placesOf c < c .ports) × (e / placesOf c / 2 * 2 ≡ q) × (portSends c s (e / placesOf c) e ≡ true)
-          → portSends c s (q + 1) e || portSends c s (q) e ≡ true
-      down (yes j) d = or-right (portSends c s (q + 1) e) (portSends c s (q) e) (rw j at (d .2))
-      down (no j) d =
-          let k : e / placesOf c ≡ q + 1 = omega (arith, d .1, j) in
-          or-left (portSends c s (q + 1) e) (portSends c s (q) e) (rw k at (d .2))
+          → portSends c s (q + 1) e || portSends c s q e ≡ true
+      down (yes j) d = or-right (portSends c s (q + 1) e) (portSends c s q e) (rw j at (d .2))
+      down (no j) d = let k : e / placesOf c ≡ q + 1 = omega (arith, d .1, j) in or-left (portSends c s (q + 1) e) (portSends c s q e) (rw k at (d .2))
 
-  -- ---- what is done from the first elements on is done in the symbol
+  -- ---- what is done from the first elements on, inside the grid, is done in the symbol
   module _ {first N : ℕ} (ef : first ≡ crsPlace c s q) (eN : N ≡ c .blocks) where
-    pub crs-one :
+    pub one-inside : 3 * (first + 6 * (2 * N)) + 2 < length g + 18
+    one-inside = crs-inside first-port ef eN (ready .room)
+
+    pub one-done :
         {X : Type 0} {Done : Deed X} {Also : Step X} {none x : X} → Accumulates Done Also none → (r : Registers) → c .ports ≡ 1
         → Done (everySixth first (2 * N)) (pairSent r first) x → Done (crsSends c s) (crsSent c r) x
-    crs-one A r n d = A .same (λ e. port-elements first-ready ef eN e ∙ on-one n e) (port-values first-ready ef eN r) d
+    one-done A r n d = A .same (λ e. port-elements first-port ef eN e ∙ on-one n e) (port-values first-port ef eN r) d
 
     module _ (n : c .ports ≡ 1 → ⊥) {second : ℕ} (es : second ≡ crsPlace c s (q + 1)) where
-      -- the second port's elements come after all of the first one's
-      pub both-apart : first + 6 * (2 * N) ≤ second
+      apart : first + 6 * (2 * N) ≤ second
       unfolding crsPlace
-      both-apart =
+      apart =
           let two-rows : 1 * carriers c + carriers c ≤ placesOf c = row-inside 1 (symbols c) (carriers c) (carriers c) (omega (arith, slot-length c)) (omega arith) in
           let next : (q + 1) * placesOf c ≡ q * placesOf c + placesOf c = omega arith in
           omega (arith, big (c .blocks) (ready .cell .blocks))
 
-      pub crs-both :
+      pub both-inside : (first + 6 * (2 * N) ≤ second) × (3 * (second + 6 * (2 * N)) + 2 < length g + 18)
+      both-inside = (apart, crs-inside (second-port n) es eN (ready .room))
+
+      pub both-done :
           {X : Type 0} {Done : Deed X} {Also : Step X} {none x : X} → Accumulates Done Also none → (r : Registers)
           → Done (onBoth first second (everySixth first (2 * N))) (onBoth first second (pairSent r first)) x → Done (crsSends c s) (crsSent c r) x
       unfolding pairSent
-      crs-both A r d =
+      both-done A r d =
           A .same
-          (λ e. either e ∙ or-same (port-elements (second-ready n) es eN e) (port-elements first-ready ef eN e) ∙ on-two n e)
+          (λ e. either e ∙ (λ i. port-elements (second-port n) es eN e i || port-elements first-port ef eN e i) ∙ on-two n e)
           (λ e t. value e (or-cases (everySixth second (2 * N) e) (everySixth first (2 * N) e) (sym (either e) ∙ t)))
           d
         where
           either : (e : ℕ) → everySixth first (2 * N) (onFirst first second e) ≡ everySixth second (2 * N) e || everySixth first (2 * N) e
-          either e = sixth-both first second first second (2 * N) e (omega arith) (omega arith) both-apart
-
-          or-same : {a b d k : Bool} → a ≡ d → b ≡ k → a || b ≡ d || k
-          or-same p q = rw (p, q) refl
+          either e = sixth-both first second first second (2 * N) e (omega arith) (omega arith) apart
 
           value : (e : ℕ) → (everySixth second (2 * N) e ≡ true) ⊎ (everySixth first (2 * N) e ≡ true) → pairSent r first (onFirst first second e) ≡ crsSent c r e
           value e (inl t) =
               let l = sixth-of second (2 * N) e t in
               let j : first + (e - second) - first ≡ e - second = omega arith in
-              rw (on-second first second e (l .0), j) (port-values (second-ready n) es eN r e t)
+              rw (on-second first second e (l .0), j) (port-values (second-port n) es eN r e t)
           value e (inr t) =
               let l = sixth-of first (2 * N) e t in
-              rw (on-first first second e (omega (arith, both-apart))) (port-values first-ready ef eN r e t)
+              rw (on-first first second e (omega (arith, apart))) (port-values first-port ef eN r e t)

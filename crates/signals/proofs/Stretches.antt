@@ -78,7 +78,7 @@ module _ (first second f s n e : ℕ) (past : first ≤ f) (alike : f + second �
   pub sixth-both : everySixth f n (onFirst first second e) ≡ everySixth s n e || everySixth f n e
   sixth-both =
       same-test (everySixth f n (onFirst first second e)) (everySixth s n e || everySixth f n e)
-      (λ h. down (decLe second e) h)
+      (down (decLe second e))
       (λ h. up (or-cases (everySixth s n e) (everySixth f n e) h))
     where
       down : Dec (second ≤ e) → everySixth f n (onFirst first second e) ≡ true → everySixth s n e || everySixth f n e ≡ true
@@ -93,16 +93,19 @@ module _ (first second f s n e : ℕ) (past : first ≤ f) (alike : f + second �
           rw (on-second first second e (omega arith)) (sixth-is f n (first + (e - second)) (omega arith) (omega arith) (omega arith))
       up (inr h) = let d = sixth-of f n e h in rw (on-first first second e (omega arith)) h
 
-  -- counted from either
-  pub sixth-like : everySixth f n (onFirst first second e) ≡ true → onFirst f s e ≡ onFirst first second e
-  sixth-like h = by (decLe second e)
-    where
-      by : Dec (second ≤ e) → onFirst f s e ≡ onFirst first second e
-      by (yes l) =
-          let d = sixth-of f n (first + (e - second)) (rw (on-second first second e l) at h) in
-          let j : f + (e - s) ≡ first + (e - second) = omega arith in
-          on-second f s e (omega arith) ∙ j ∙ sym (on-second first second e l)
-      by (no l) = on-first f s e (omega arith) ∙ sym (on-first first second e (omega arith))
+-- so it is the same to count from f and s
+pub sixth-like : (first second f s n e : ℕ) → first ≤ f → f + second ≡ s + first → f + 6 * n ≤ second
+    → (everySixth f n (onFirst f s e) ≡ everySixth f n (onFirst first second e)) × (everySixth f n (onFirst f s e) ≡ true → onFirst f s e ≡ onFirst first second e)
+sixth-like first second f s n e past alike before =
+    let own = sixth-both f s f s n e (omega arith) (omega arith) (omega arith) in
+    (own ∙ sym (sixth-both first second f s n e past alike before), λ h. by (or-cases (everySixth s n e) (everySixth f n e) (sym own ∙ h)))
+  where
+    by : (everySixth s n e ≡ true) ⊎ (everySixth f n e ≡ true) → onFirst f s e ≡ onFirst first second e
+    by (inl h) =
+        let d = sixth-of s n e h in
+        let j : f + (e - s) ≡ first + (e - second) = omega arith in
+        on-second f s e (d .0) ∙ j ∙ sym (on-second first second e (omega arith))
+    by (inr h) = let d = sixth-of f n e h in on-first f s e (omega arith) ∙ sym (on-first first second e (omega arith))
 
 -- one element on either
 pub one-both : (first second f s e : ℕ) → first ≤ f → f + second ≡ s + first → f + 6 ≤ second → eqb f (onFirst first second e) ≡ eqb s e || eqb f e

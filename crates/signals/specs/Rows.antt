@@ -25,13 +25,6 @@ pub record MarkIn (c : Cell) (grid : List ℕ) : Type 0 where
   pub cell : CellIn c
   pub room : Room (c .ports) (placesOf c) grid
 
--- and a symbol and a port of it
-pub record SignalIn (c : Cell) (s q : ℕ) (grid : List ℕ) : Type 0 where
-  pub cell : CellIn c
-  pub symbol : s < symbols c
-  pub port : q < c .ports
-  pub room : Room (c .ports) (placesOf c) grid
-
 -- and a symbol of it in which a reference signal stands
 pub record SymbolIn (c : Cell) (s : ℕ) (grid : List ℕ) : Type 0 where
   pub cell : CellIn c
@@ -58,11 +51,11 @@ wordSent word n first e = valueIn word n ((e - first) / 6)
 unfoldable pub pairSent : Registers → ℕ → ℕ → Element
 pairSent r first e = elementOf 2 (crsFrom r ((e - first) / 6))
 
--- ---- the same values on two ports, from `first` and, on the next port, from `second` on: e's like on the first port
+-- ---- the same values on two ports, from `first` on and from `second` on. The element on the first port that has e's value
 unfoldable pub onFirst : ℕ → ℕ → ℕ → ℕ
 onFirst first second e = cond (leb second e) (first + (e - second)) e
 
--- and what holds of the elements on the first port, of those on both
+-- a test of the first port's elements, or their values, on both ports
 abbrev pub onBoth : {A : Type 0} → ℕ → ℕ → (ℕ → A) → ℕ → A
 onBoth first second f e = f (onFirst first second e)
 

@@ -26,7 +26,7 @@ portSends c s q e =
 unfoldable pub signalled : Cell → ℕ → Bool
 signalled c s = crsSymbol c 0 s || (eqb (c .ports) 4 && crsSymbol c 2 s)
 
--- the first port of the two, or the only one
+-- the first of these ports
 unfoldable pub crsPort : Cell → ℕ → ℕ
 crsPort c s = cond (crsSymbol c 0 s) 0 2
 

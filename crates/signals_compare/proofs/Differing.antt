@@ -131,13 +131,14 @@ both-weight g first second n apart l w =
       sixth-weight g second n l (λ e t. w e (d e ∙ or-left (other e) (one e) t)),
     )
 
--- all values that the pair gives are compared
 pub pair-weight : (r : Registers) (first e : ℕ) → weightOf (pairSent r first e) ≡ 3
 unfolding pairSent crsFrom
 pair-weight r first e = let i = 2 * ((e - first) / 6) in value-weight (outputs r i) (outputs r (i + 1))
 
+-- all values are compared
 module _ {D : ℕ → Bool} {W : ℕ → Element} {g : List ℕ} {bits : ℕ} (d : Differing D W g bits) where
-  pub all-same : (k : ℕ) → ((e : ℕ) → weightOf (W e) ≡ 3) → (((e : ℕ) → D e ≡ true → weightOf (elementIn g e) ≡ 3) → weightIn D g (length g / 3) ≡ k) → bits ≡ 0 → Compared D W g (Weight k)
+  pub all-same : (k : ℕ) → ((e : ℕ) → weightOf (W e) ≡ 3) → (((e : ℕ) → D e ≡ true → weightOf (elementIn g e) ≡ 3) → weightIn D g (length g / 3) ≡ k)
+      → bits ≡ 0 → Compared D W g (Weight k)
   all-same k three sum z = let h = d .none z in holds-of h (sym (sum (λ e t. ap weightOf (h .elements e t) ∙ three e)))
 
   pub some-differ : (bits ≡ 0 → ⊥) → Compared D W g Differs

@@ -66,9 +66,10 @@ loop-again : tie.Need-loop-again Inv-loop μ-loop
 loop-again c =
     let at-word = c .before .before in let at-at-once = at-word .before in let at-loop = at-at-once .before .before in
     let entry = at-loop .before .before in
-    values-step (on-both (entry .args .first) (entry .args .second) (differing (entry .args .grid .now))) (at-at-once .at-once .result) (at-word .word .result) (at-loop .loop .inv)
-    (omega (arith, at-at-once .at-once .ensures)) (at-word .word .ensures)
-    (also-differing (word-both (entry .args .first) (entry .args .second) (differing (entry .args .grid .now)) (at-loop .loop .m) (at-at-once .at-once .result) (at-word .word .result) (omega (arith, at-at-once .at-once .ensures)) (c .before .compare-word-on-both .ensures)))
+    values-step (on-both (entry .args .first) (entry .args .second) (differing (entry .args .grid .now))) (at-at-once .at-once .result) (at-word .word .result)
+    (at-loop .loop .inv) (omega (arith, at-at-once .at-once .ensures)) (at-word .word .ensures)
+    (also-differing (word-both (entry .args .first) (entry .args .second) (differing (entry .args .grid .now)) (at-loop .loop .m) (at-at-once .at-once .result) (at-word .word .result)
+    (omega (arith, at-at-once .at-once .ensures)) (c .before .compare-word-on-both .ensures)))
     (c .advance .ensures)
 
 mul-weight : tie.Need-mul-weight Inv-loop μ-loop
@@ -77,9 +78,9 @@ mul-weight c = omega arith
 returns : tie.Need-returns Inv-loop μ-loop
 returns c =
     let at-loop = c .before .before in let entry = at-loop .before .before in
-    let n = entry .args .n in let first = entry .args .first in let second = entry .args .second in
-    all-same (values-last (on-both (entry .args .first) (entry .args .second) (differing (entry .args .grid .now))) (at-loop .loop .inv) (omega arith) .0) (6 * n) (λ e. pair-weight (entry .args .r) first (onFirst first second e))
-    (both-weight (entry .args .grid .now) first second n (entry .pre .0) (entry .pre .1)) (c .if1 .taken)
+    let n = entry .args .n in let first = entry .args .first in let second = entry .args .second in let g = entry .args .grid .now in
+    all-same (values-last (on-both first second (differing g)) (at-loop .loop .inv) (omega arith) .0) (6 * n) (λ e. pair-weight (entry .args .r) first (onFirst first second e))
+    (both-weight g first second n (entry .pre .0) (entry .pre .1)) (c .if1 .taken)
 
 returns-2 : tie.Need-returns-2 Inv-loop μ-loop
 returns-2 c =

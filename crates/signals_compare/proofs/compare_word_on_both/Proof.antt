@@ -68,7 +68,8 @@ loop-again : tie.Need-loop-again Inv-loop μ-loop
 loop-again c =
     let at-number-of = c .before .before in let at-loop-test = at-number-of .before in let at-loop = at-loop-test .before in
     let entry = at-loop .before .before in
-    word-step (on-both (entry .args .first) (entry .args .second) (differing (entry .args .grid .now))) (at-loop .loop .inv) (at-loop-test .loop-test .taken) refl (at-number-of .number-of .ensures .0)
+    word-step (on-both (entry .args .first) (entry .args .second) (differing (entry .args .grid .now))) (at-loop .loop .inv) (at-loop-test .loop-test .taken) refl
+    (at-number-of .number-of .ensures .0)
     (also-differing (value-both (entry .args .first) (entry .args .second) (differing (entry .args .grid .now)) (entry .pre .1) (at-loop-test .loop-test .taken)
     (numbered (entry .args .first + 6 * at-loop .loop .i) (c .before .three-at .ensures) (at-number-of .number-of .ensures .1))
     (also-differing (numbered (entry .args .second + 6 * at-loop .loop .i) (c .three-at2 .ensures) (at-number-of .number-of .ensures .1)))))

@@ -75,9 +75,10 @@ loop-again : tie.Need-loop-again Inv-loop μ-loop
 loop-again c =
     let at-fill-word-on-both = c .before .before .before in let at-word = at-fill-word-on-both .before .before in let at-at-once = at-word .before in
     let at-loop = at-at-once .before .before in let entry = at-loop .before .before in
-    values-step (on-both (entry .args .first) (entry .args .second) (writing (entry .args .grid .now))) (at-at-once .at-once .result) (at-word .word .result) (at-loop .loop .inv)
-    (omega (arith, at-at-once .at-once .ensures)) (at-word .word .ensures)
-    (word-both (entry .args .first) (entry .args .second) (writing (at-loop .loop .grid)) (at-loop .loop .m) (at-at-once .at-once .result) (at-word .word .result) (omega (arith, at-at-once .at-once .ensures)) (at-fill-word-on-both .fill-word-on-both .ensures))
+    values-step (on-both (entry .args .first) (entry .args .second) (writing (entry .args .grid .now))) (at-at-once .at-once .result) (at-word .word .result)
+    (at-loop .loop .inv) (omega (arith, at-at-once .at-once .ensures)) (at-word .word .ensures)
+    (word-both (entry .args .first) (entry .args .second) (writing (at-loop .loop .grid)) (at-loop .loop .m) (at-at-once .at-once .result) (at-word .word .result)
+    (omega (arith, at-at-once .at-once .ensures)) (at-fill-word-on-both .fill-word-on-both .ensures))
     (c .advance .ensures)
 
 same-length : tie.Need-same-length Inv-loop μ-loop

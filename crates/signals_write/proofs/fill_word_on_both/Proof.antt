@@ -77,7 +77,8 @@ loop-again c =
     let at-put2 = c .before .before in let at-put = at-put2 .before .before .before .before in let at-element-of = at-put .before .before in
     let at-value = at-element-of .before in let at-loop-test = at-value .before in let at-loop = at-loop-test .before in
     let entry = at-loop .before .before in
-    word-step (on-both (entry .args .first) (entry .args .second) (writing (entry .args .grid .now))) (at-loop .loop .inv) (at-loop-test .loop-test .taken) (at-value .value .ensures) (at-element-of .element-of .ensures)
+    word-step (on-both (entry .args .first) (entry .args .second) (writing (entry .args .grid .now))) (at-loop .loop .inv) (at-loop-test .loop-test .taken)
+    (at-value .value .ensures) (at-element-of .element-of .ensures)
     (value-both (entry .args .first) (entry .args .second) (writing (at-loop .loop .grid)) (entry .pre .1) (at-loop-test .loop-test .taken) (at-put .put .ensures) (at-put2 .put2 .ensures))
 
 same-length : tie.Need-same-length Inv-loop μ-loop
