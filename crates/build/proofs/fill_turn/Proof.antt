@@ -33,13 +33,4 @@ returns-2 : tie.Need-returns-2
 returns-2 c = (c .before .before .write .ensures, c .before .before .before .before .before .renew .ensures)
 
 pub fill-turn-spec : {M : Type 1} → statement M
-fill-turn-spec =
-    tie.close
-    (tie.spec
-    present-requires
-    returns
-    order-for-requires
-    renew-requires
-    write-requires
-    same-length
-    returns-2)
+fill-turn-spec = tie.close (tie.spec present-requires returns order-for-requires renew-requires write-requires same-length returns-2)

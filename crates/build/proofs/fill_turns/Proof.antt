@@ -100,23 +100,5 @@ returns c =
 
 pub fill-turns-spec : {M : Type 1} → statement M
 fill-turns-spec =
-    tie.close
-    (tie.spec
-    Inv-loop
-    μ-loop
-    shape-of-requires
-    started-requires
-    count-requires
-    first-requires
-    loop-holds
-    channel-at-requires
-    section-of-requires
-    sub-fill-turn
-    part-fill-turn-start
-    part-fill-turn-end
-    fill-turn-requires
-    next-requires
-    loop-less
-    loop-again
-    same-length
-    returns)
+    tie.close (tie.spec Inv-loop μ-loop shape-of-requires started-requires count-requires first-requires loop-holds channel-at-requires section-of-requires
+    sub-fill-turn part-fill-turn-start part-fill-turn-end fill-turn-requires next-requires loop-less loop-again same-length returns)

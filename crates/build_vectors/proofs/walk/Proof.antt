@@ -43,5 +43,5 @@ returns c = search needs
 
 pub walk-spec : {M : Type 1} → statement M
 walk-spec =
-    tie.close
-    (tie.spec Inv-loop μ-loop loop-holds add-number sub-record part-record-start part-record-end record-requires next-at-requires loop-less loop-again returns)
+    tie.close (tie.spec Inv-loop μ-loop loop-holds add-number sub-record part-record-start part-record-end record-requires next-at-requires loop-less loop-again
+    returns)

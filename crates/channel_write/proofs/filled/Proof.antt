@@ -114,33 +114,6 @@ returns-6 c =
 
 pub filled-spec : {M : Type 1} → statement M
 filled-spec =
-    tie.close
-    (tie.spec
-    enum-known-ch
-    wide-requires
-    fill-crs-requires
-    enum-told
-    enum-told-2
-    row-masks-requires
-    pbch-area-requires
-    fill-by-tables-requires
-    enum-told-3
-    fill-pcfich-requires
-    enum-known-ch-2
-    wide-requires-2
-    fill-phich-requires
-    enum-known-ch-3
-    user-area-requires
-    cast-fill-by-tables
-    fill-by-tables-requires-2
-    same-length
-    returns
-    returns-2
-    same-length-2
-    returns-3
-    same-length-3
-    returns-4
-    same-length-4
-    returns-5
-    same-length-5
-    returns-6)
+    tie.close (tie.spec enum-known-ch wide-requires fill-crs-requires enum-told enum-told-2 row-masks-requires pbch-area-requires fill-by-tables-requires
+    enum-told-3 fill-pcfich-requires enum-known-ch-2 wide-requires-2 fill-phich-requires enum-known-ch-3 user-area-requires cast-fill-by-tables
+    fill-by-tables-requires-2 same-length returns returns-2 same-length-2 returns-3 same-length-3 returns-4 same-length-4 returns-5 same-length-5 returns-6)

@@ -88,27 +88,5 @@ returns-4 c =
 
 pub write-spec : {M : Type 1} → statement M
 write-spec =
-    tie.close
-    (tie.spec
-    enum-known-ch
-    write-mark-requires
-    enum-told
-    map-requires
-    enum-known-ch-2
-    wide-requires
-    mul-from
-    add-to
-    sub-map
-    part-map-start
-    part-map-end
-    map-requires-2
-    started-requires
-    map-requires-3
-    same-length
-    returns
-    same-length-2
-    returns-2
-    same-length-3
-    returns-3
-    same-length-4
-    returns-4)
+    tie.close (tie.spec enum-known-ch write-mark-requires enum-told map-requires enum-known-ch-2 wide-requires mul-from add-to sub-map part-map-start
+    part-map-end map-requires-2 started-requires map-requires-3 same-length returns same-length-2 returns-2 same-length-3 returns-3 same-length-4 returns-4)

@@ -50,8 +50,10 @@ add-j : tie.Need-add-j Inv-loop μ-loop
 add-j c =
     let c2 = c .before .before in let c3 = c2 .before in let c5 = c3 .before .before in let c7 = c5 .before .before in let c8 = c7 .before in
     let c9 = c8 .before in let c11 = c9 .before .before in
-    omega
-    (arith, c .places-of .ensures, area-open (c11 .pre) (c9 .symbols .ensures .0) (c8 .carriers .ensures) (c7 .places .ensures) (c5 .loop .inv .cursor) (c3 .if1 .taken) (c2 .run-at .ensures .0) (c2 .run-at .ensures .1) .index)
+    let runs =
+    area-open (c11 .pre) (c9 .symbols .ensures .0) (c8 .carriers .ensures) (c7 .places .ensures) (c5 .loop .inv .cursor) (c3 .if1 .taken) (c2 .run-at .ensures .0)
+    (c2 .run-at .ensures .1) in
+    omega (arith, c .places-of .ensures, runs .index)
 
 next-requires : tie.Need-next-requires Inv-loop μ-loop
 next-requires c κs =
@@ -76,5 +78,5 @@ returns c =
 
 pub compare-runs-spec : {M : Type 1} → statement M
 compare-runs-spec =
-    tie.close (tie.spec Inv-loop μ-loop symbols-requires carriers-requires places-requires start-requires loop-holds run-at-requires compare-run-requires places-of-requires
-    add-j next-requires loop-less loop-again returns)
+    tie.close (tie.spec Inv-loop μ-loop symbols-requires carriers-requires places-requires start-requires loop-holds run-at-requires compare-run-requires
+    places-of-requires add-j next-requires loop-less loop-again returns)

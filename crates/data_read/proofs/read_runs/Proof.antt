@@ -68,5 +68,5 @@ returns c =
 
 pub read-runs-spec : {M : Type 1} → statement M
 read-runs-spec =
-    tie.close (tie.spec Inv-loop μ-loop symbols-requires carriers-requires places-requires start-requires loop-holds
-    run-at-requires read-run-requires next-requires loop-less loop-again same-length returns)
+    tie.close (tie.spec Inv-loop μ-loop symbols-requires carriers-requires places-requires start-requires loop-holds run-at-requires read-run-requires
+    next-requires loop-less loop-again same-length returns)

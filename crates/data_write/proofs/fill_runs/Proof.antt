@@ -68,5 +68,5 @@ returns c =
 
 pub fill-runs-spec : {M : Type 1} → statement M
 fill-runs-spec =
-    tie.close (tie.spec Inv-loop μ-loop symbols-requires carriers-requires places-requires start-requires loop-holds
-    run-at-requires fill-run-requires next-requires loop-less loop-again same-length returns)
+    tie.close (tie.spec Inv-loop μ-loop symbols-requires carriers-requires places-requires start-requires loop-holds run-at-requires fill-run-requires
+    next-requires loop-less loop-again same-length returns)

@@ -26,6 +26,4 @@ unfolding channelCount
 returns c = omega (arith, c .before .before .symbols .ensures, c .before .units .ensures)
 
 pub count-spec : {M : Type 1} → statement M
-count-spec =
-    tie.close
-    (tie.spec symbols-requires add-result units-requires add-result-2 add-result-3 returns)
+count-spec = tie.close (tie.spec symbols-requires add-result units-requires add-result-2 add-result-3 returns)

@@ -38,5 +38,4 @@ returns-3 : tie.Need-returns-3
 returns-3 c = let a = c .before .before in few _ _ (sym (a .before .crs-uses .ensures) ∙ a .if1 .left) (c .if2 .left)
 
 pub is-signalled-spec : {M : Type 1} → statement M
-is-signalled-spec =
-    tie.close (tie.spec crs-uses-requires returns crs-uses-requires-2 returns-2 returns-3)
+is-signalled-spec = tie.close (tie.spec crs-uses-requires returns crs-uses-requires-2 returns-2 returns-3)

@@ -61,20 +61,5 @@ returns-6 c = sym (ap (presentIn (c .before .before .args .p)) (c .enum-told5 .g
 
 pub present-spec : {M : Type 1} → statement M
 present-spec =
-    tie.close
-    (tie.spec
-    enum-known-ch
-    wide-requires
-    is-signalled-requires
-    enum-told
-    is-marked-requires
-    enum-told-2
-    enum-told-3
-    enum-told-4
-    enum-told-5
-    returns
-    returns-2
-    returns-3
-    returns-4
-    returns-5
-    returns-6)
+    tie.close (tie.spec enum-known-ch wide-requires is-signalled-requires enum-told is-marked-requires enum-told-2 enum-told-3 enum-told-4 enum-told-5 returns
+    returns-2 returns-3 returns-4 returns-5 returns-6)

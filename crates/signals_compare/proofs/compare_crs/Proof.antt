@@ -57,15 +57,5 @@ returns-2 c =
 
 pub compare-crs-spec : {M : Type 1} → statement M
 compare-crs-spec =
-    tie.close
-    (tie.spec
-    wide-requires
-    mul-n
-    crs-port-requires
-    crs-at-requires
-    compare-values-requires
-    returns
-    add-crs-at
-    crs-at-requires-2
-    compare-values-on-both-requires
-    returns-2)
+    tie.close (tie.spec wide-requires mul-n crs-port-requires crs-at-requires compare-values-requires returns add-crs-at crs-at-requires-2
+    compare-values-on-both-requires returns-2)

@@ -77,23 +77,5 @@ returns-2 c =
 
 pub compare-values-spec : {M : Type 1} → statement M
 compare-values-spec =
-    tie.close
-    (tie.spec
-    Inv-loop
-    μ-loop
-    loop-holds
-    sub-at-once
-    at-once-requires
-    mul-bits
-    cast-bits
-    word-requires
-    mul-compare-word
-    add-compare-word
-    compare-word-requires
-    advance-requires
-    add-m
-    loop-less
-    loop-again
-    mul-weight
-    returns
-    returns-2)
+    tie.close (tie.spec Inv-loop μ-loop loop-holds sub-at-once at-once-requires mul-bits cast-bits word-requires mul-compare-word add-compare-word
+    compare-word-requires advance-requires add-m loop-less loop-again mul-weight returns returns-2)

@@ -89,25 +89,6 @@ returns-2 c =
 
 pub compare-values-on-both-spec : {M : Type 1} → statement M
 compare-values-on-both-spec =
-    tie.close
-    (tie.spec
-    Inv-loop
-    μ-loop
-    loop-holds
-    sub-at-once
-    at-once-requires
-    mul-bits
-    cast-bits
-    word-requires
-    mul-compare-word-on-both
-    add-compare-word-on-both
-    mul-compare-word-on-both-2
-    add-compare-word-on-both-2
-    compare-word-on-both-requires
-    advance-requires
-    add-m
-    loop-less
-    loop-again
-    mul-weight
-    returns
-    returns-2)
+    tie.close (tie.spec Inv-loop μ-loop loop-holds sub-at-once at-once-requires mul-bits cast-bits word-requires mul-compare-word-on-both
+    add-compare-word-on-both mul-compare-word-on-both-2 add-compare-word-on-both-2 compare-word-on-both-requires advance-requires add-m loop-less loop-again
+    mul-weight returns returns-2)

@@ -81,26 +81,5 @@ returns c =
 
 pub compare-word-on-both-spec : {M : Type 1} → statement M
 compare-word-on-both-spec =
-    tie.close
-    (tie.spec
-    Inv-loop
-    μ-loop
-    loop-holds
-    sub-low
-    sub-low-2
-    mul-low
-    cast-number-of
-    shr-number-of
-    number-of-requires
-    mul-three-at
-    add-three-at
-    mul-three-at-2
-    three-at-requires
-    mul-three-at-3
-    add-three-at-2
-    mul-three-at-4
-    three-at-requires-2
-    add-i
-    loop-less
-    loop-again
-    returns)
+    tie.close (tie.spec Inv-loop μ-loop loop-holds sub-low sub-low-2 mul-low cast-number-of shr-number-of number-of-requires mul-three-at add-three-at
+    mul-three-at-2 three-at-requires mul-three-at-3 add-three-at-2 mul-three-at-4 three-at-requires-2 add-i loop-less loop-again returns)

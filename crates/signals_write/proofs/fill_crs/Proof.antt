@@ -70,17 +70,5 @@ returns-2 c =
 
 pub fill-crs-spec : {M : Type 1} → statement M
 fill-crs-spec =
-    tie.close
-    (tie.spec
-    wide-requires
-    mul-n
-    crs-port-requires
-    crs-at-requires
-    fill-values-requires
-    same-length
-    returns
-    add-crs-at
-    crs-at-requires-2
-    fill-values-on-both-requires
-    same-length-2
-    returns-2)
+    tie.close (tie.spec wide-requires mul-n crs-port-requires crs-at-requires fill-values-requires same-length returns add-crs-at crs-at-requires-2
+    fill-values-on-both-requires same-length-2 returns-2)

@@ -91,24 +91,5 @@ returns c =
 
 pub fill-values-on-both-spec : {M : Type 1} → statement M
 fill-values-on-both-spec =
-    tie.close
-    (tie.spec
-    Inv-loop
-    μ-loop
-    loop-holds
-    sub-at-once
-    at-once-requires
-    mul-bits
-    cast-bits
-    word-requires
-    mul-fill-word-on-both
-    add-fill-word-on-both
-    mul-fill-word-on-both-2
-    add-fill-word-on-both-2
-    fill-word-on-both-requires
-    advance-requires
-    add-m
-    loop-less
-    loop-again
-    same-length
-    returns)
+    tie.close (tie.spec Inv-loop μ-loop loop-holds sub-at-once at-once-requires mul-bits cast-bits word-requires mul-fill-word-on-both add-fill-word-on-both
+    mul-fill-word-on-both-2 add-fill-word-on-both-2 fill-word-on-both-requires advance-requires add-m loop-less loop-again same-length returns)

@@ -91,26 +91,5 @@ returns c =
 
 pub fill-word-on-both-spec : {M : Type 1} → statement M
 fill-word-on-both-spec =
-    tie.close
-    (tie.spec
-    Inv-loop
-    μ-loop
-    loop-holds
-    sub-low
-    sub-low-2
-    mul-low
-    cast-value
-    shr-value
-    value-requires
-    element-of-requires
-    mul-put
-    add-put
-    put-requires
-    mul-put-2
-    add-put-2
-    put-requires-2
-    add-i
-    loop-less
-    loop-again
-    same-length
-    returns)
+    tie.close (tie.spec Inv-loop μ-loop loop-holds sub-low sub-low-2 mul-low cast-value shr-value value-requires element-of-requires mul-put add-put
+    put-requires mul-put-2 add-put-2 put-requires-2 add-i loop-less loop-again same-length returns)
