@@ -1,14 +1,15 @@
 -- The bits of a word and of a register pair: two QPSK symbols from four bits of the CFI's codeword, and PHICH's twelve bits. Assumes
 -- nothing.
-use Prim.Native.Nat.{ℕ, _+_, _-_, _*_, _/_, _%_, _<_}
+use Prim.Native.Nat.{ℕ, zero, suc, _+_, _-_, _*_, _/_, _%_, _≤_, _<_}
 use mathlib.Core.Path.{_≡_, refl, sym, ap, ap₂, _∙_}
-use mathlib.Core.Bool.{Bool}
+use mathlib.Core.Bool.{Bool, true, false, _||_}
 use mathlib.Core.List.{List, [], _∷_}
 use native.Mathlib.Omega.{arith}
 use lib.Bits.{bitXor}
-use lib.Dec.{ltb, ltb→lt}
+use lib.Dec.{T, ltb, ltb→lt, eqb, eqb→eq}
 use lib.ListN.{getD}
-use Rattle.base.proofs.Computed.{every, every-at}
+use borrow.Author.Tests.{eqb-true}
+use Rattle.base.proofs.Computed.{every, every-at, allBelow, below-at}
 use Rattle.gold.specs.declared.Registers.{Registers}
 use Rattle.gold.specs.Sequence.{binary}
 use Rattle.gold.specs.Steps.{after, outputOf, wordOf}
@@ -62,10 +63,32 @@ cfi-two cfi i =
     ltb→lt (getD (getD codewords (cfi - 1) []) (i % 3) 0) 2
     (every-at digit 0 tt (getD codewords (cfi - 1) []) (every-at (every digit) [] tt codewords tt (cfi - 1)) (i % 3))
 
--- the code's table is the specification's
-pub codeword-bit : (row cfi i : ℕ) → row ≡ cfi → (getD (getD codewords (row - 1) []) (i % 3) 0 ≡ cfiBit cfi i) × (getD (getD codewords (row - 1) []) (i % 3) 0 < 2)
-unfolding cfiBit
-codeword-bit row cfi i e = rw e (refl, cfi-two cfi i)
+-- a codeword's only 0 of three bits stands in its own place
+zero-at : (k : ℕ) → k < 3 → 0 ≡ getD (getD codewords k []) k 0
+zero-at zero l = refl
+zero-at (suc zero) l = refl
+zero-at (suc (suc zero)) l = refl
+zero-at (suc (suc (suc k))) l = absurd (omega arith)
+
+one-at : (r k : ℕ) → r < 3 → k < 3 → (k ≡ r → ⊥) → 1 ≡ getD (getD codewords r []) k 0
+one-at r k l m n = eqb→eq 1 (getD (getD codewords r []) k 0) (test (eqb k r) refl (below-at (λ (x : ℕ). allBelow (λ (y : ℕ). right x y) 3) 3 tt r l))
+  where
+    right : ℕ → ℕ → Bool
+    right x y = eqb y x || eqb 1 (getD (getD codewords x []) y 0)
+
+    test : (b : Bool) → eqb k r ≡ b → T (allBelow (λ (y : ℕ). right r y) 3) → T (eqb 1 (getD (getD codewords r []) k 0))
+    test true e h = absurd (n (eqb-true k r e))
+    test false e h = rw e at (below-at (λ (y : ℕ). right r y) 3 h k m)
+
+-- so the code's bit is the specification's
+module _ (cfi i : ℕ) (some : 1 ≤ cfi) (most : cfi ≤ 3) where
+  pub codeword-zero : i % 3 + 1 ≡ cfi → 0 ≡ cfiBit cfi i
+  unfolding cfiBit
+  codeword-zero e = let r : cfi - 1 ≡ i % 3 = omega arith in rw r (zero-at (i % 3) (omega arith))
+
+  pub codeword-one : (i % 3 + 1 ≡ cfi → ⊥) → 1 ≡ cfiBit cfi i
+  unfolding cfiBit
+  codeword-one n = one-at (cfi - 1) (i % 3) (omega arith) (omega arith) (λ e. n (omega arith))
 
 -- four bits as a word
 four-bits : (x : ℕ → ℕ) (k : ℕ) → ((x k * 2 + x (k + 1)) * 2 + x (k + 2)) * 2 + x (k + 3) ≡ binary x k 4

@@ -21,17 +21,13 @@ pub struct PairAt {
     pub second: Pair,
 }
 
-// TS 36.212 table 5.3.4-1: the codewords of CFI 1, 2 and 3 repeat these bits.
-const CODEWORDS: [[u32; 3]; 3] = [[0, 1, 1], [1, 0, 1], [1, 1, 0]];
-
-// Bit i of the CFI's codeword.
+// Bit i of the CFI's codeword (TS 36.212 table 5.3.4-1): those of CFI 1, 2 and 3 repeat 011, 101 and 110, so it is 0 at every third place from
+// place CFI - 1 on.
 fn cfi_bit(cfi: u8, i: usize) -> u32
     requires { ⌜ (1 ≤ cfi) × (cfi ≤ 3) ⌝ }
     ensures { λ r. ⌜ (r ≡ cfiBit cfi i) × (r < 2) ⌝ }
 {
-    let row = base::wide(cfi) - 1;
-    let at = i % 3;
-    CODEWORDS[row][at]
+    if i % 3 + 1 == base::wide(cfi) { 0 } else { 1 }
 }
 
 // Its four bits from bit i on.

@@ -4,12 +4,8 @@ use mathlib.Core.Path.{_≡_, refl, ap, _∙_}
 use Prim.Native.Nat.{ℕ, zero, suc, _+_, _-_, _*_, _/_, _%_, _^_, _≤_, _<_}
 use native.Mathlib.Nat.{mul-le-mul}
 use native.Mathlib.Omega.{arith}
-use lib.IntN.{ℤ, pos, natAbs}
-use mir.Syntax.{w8}
-use mir.Val.{toZ, ofZ}
-use mir.Facts.{toZ-ofZ}
+use lib.IntN.{pos}
 use Rattle.base.specs.Signs.{flip}
-use Rattle.base.proofs.Fits.{fits-abs, flip-abs}
 use Rattle.base.proofs.Pairs.{pair-of}
 use Rattle.gold.specs.Sequence.{c, binary}
 use Rattle.gold.proofs.Binary.{binary-two}
@@ -51,7 +47,3 @@ pub prefix-extended : (p : ℕ) → (p ≡ 0 → ⊥) → 0 ≡ normalPrefix p
 unfolding normalPrefix
 prefix-extended zero h = absurd (h refl)
 prefix-extended (suc p) h = refl
-
--- a level of a value is held as an i8
-pub held : {z : ℤ} (b : ℕ) → z ≡ flip b (pos 1) → toZ w8 (ofZ w8 z) ≡ flip b (pos 1)
-held {z} b e = toZ-ofZ (fits-abs w8 z (omega (arith, ap natAbs e, flip-abs b (pos 1)))) ∙ e

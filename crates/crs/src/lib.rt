@@ -2,8 +2,6 @@
 ghost use mathlib.Core.Path.{_≡_};
 ghost use Prim.Native.Nat.{ℕ, _<_, _≤_};
 ghost use Rattle.crs.specs.Crs.{normalPrefix, crsInit, wordValue};
-ghost use Rattle.base.specs.Signs.{flip};
-ghost use lib.IntN.{pos};
 use base::Pair;
 
 fn n_cp(prefix: u8) -> u32
@@ -21,18 +19,12 @@ pub fn c_init(prefix: u8, cell: u16, slot: u8, l: u8) -> u32
     1024 * (7 * (slot as u32 + 1) + l as u32 + 1) * (twice + 1) + twice + n_cp(prefix)
 }
 
-fn level(bit: u32) -> i8
-    ensures { λ r. ⌜ r ≡ flip bit (pos 1) ⌝ }
-{
-    if bit == 0 { 1 } else { -1 }
-}
-
 // The value of two bits of the sequence, the first more significant.
 pub fn value(word: u32) -> Pair
     ensures { λ r. ⌜ r ≡ wordValue word ⌝ }
 {
     Pair {
-        re: level(word / 2),
-        im: level(word % 2),
+        re: base::level_of(word / 2),
+        im: base::level_of(word % 2),
     }
 }

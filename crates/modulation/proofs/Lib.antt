@@ -4,5 +4,4 @@ pub mod Places
 pub mod Symbols
 pub mod Constellation
 pub mod Marks
-pub mod Lookup
 pub mod Formulas

@@ -4,16 +4,14 @@ use base::Pair;
 ghost use mathlib.Core.Path.{_≡_};
 ghost use Rattle.modulation.specs.Symbols.{modulationSymbol, unitOf};
 
-const LEVELS: [i8; 2] = [1, -1];
-
 // The QPSK symbol of the two lowest bits of w, the first more significant.
 pub fn qpsk(w: u32) -> Pair
     ensures { λ r. ⌜ r ≡ modulationSymbol 2 w ⌝ }
 {
-    let t = LEVELS;
-    let i = (w / 2 % 2) as usize;
-    let j = (w % 2) as usize;
-    Pair { re: t[i], im: t[j] }
+    Pair {
+        re: base::level_of(w / 2 % 2),
+        im: base::level_of(w % 2),
+    }
 }
 
 // The unit of an order, and 0 of no order.

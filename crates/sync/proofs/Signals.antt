@@ -86,11 +86,3 @@ bit-even s i e = rw (eq-eqb (i % 2) 0 e) refl
 pub bit-odd : (s : Sss) (i : ℕ) → (i % 2 ≡ 0 → ⊥) → s .odd / 2 ^ (i / 2) % 2 ≡ bitIn s i
 unfolding bitIn dig
 bit-odd s i e = rw (ne-eqb (i % 2) 0 e) refl
-
-pub level-plus : (s : Sss) (i b : ℕ) → b ≡ bitIn s i → b ≡ 0 → pos 1 ≡ levelIn s i
-unfolding levelIn
-level-plus s i b e h = ap (λ (k : ℕ). flip k (pos 1)) (sym h ∙ e)
-
-pub level-minus : (s : Sss) (i b : ℕ) → b ≡ bitIn s i → (b ≡ 0 → ⊥) → negsuc 0 ≡ levelIn s i
-unfolding levelIn
-level-minus s i b e h = sym (flip-one b (pos 1) h) ∙ ap (λ (k : ℕ). flip k (pos 1)) e

@@ -21,10 +21,6 @@ triangle-le : (n k : ℕ) → n ≤ k → n * (n + 1) / 2 ≤ k * (k + 1) / 2
 triangle-le n k h = omega (arith, product-le n k h)
 
 -- ---- the primary signal
-pub root-is : (r : ℕ) → getD (25 ∷ 29 ∷ 34 ∷ []) r 0 ≡ pssRoot r
-unfolding pssRoot
-root-is r = refl
-
 pub t-first : (i t : ℕ) → i ≤ 30 → t ≡ i * (i + 1) / 2 → t ≡ pssT i
 unfolding pssT
 t-first i t h e = rw (le-leb i 30 h) e

@@ -4,9 +4,6 @@ ghost use Prim.Native.Nat.{_+_, _*_, _/_, _%_, _^_, _<_, _≤_};
 ghost use Rattle.sync.specs.Pss.{pssRoot, pssT, pssPhase};
 ghost use Rattle.sync.specs.Inner.{Sequences, pushedOf, aroundOf, signsOf, indicesOf, sssOf, bitIn, levelIn};
 
-// Table 6.11.1.1-1: the root index u of each C mod 3.
-const ROOTS: [u64; 3] = [25, 29, 34];
-
 // The two indices that a cell-identity group stands for, each below 31.
 pub struct Indices {
     pub m0: u32,
@@ -34,11 +31,15 @@ fn triangle(n: u64) -> u64
     n * (n + 1) / 2
 }
 
+// Table 6.11.1.1-1: the root index u of C mod 3.
 fn root(cell: u16) -> u64
     ensures { λ r. ⌜ r ≡ pssRoot (cell % 3) ⌝ }
 {
-    let r = (cell % 3) as usize;
-    ROOTS[r]
+    let r = cell % 3;
+    if r == 0 {
+        return 25;
+    }
+    if r == 1 { 29 } else { 34 }
 }
 
 // i(i+1)/2, and past the middle subcarrier, which is left out, (i+1)(i+2)/2.
@@ -151,6 +152,5 @@ pub fn sss_level(s: Sss, i: usize) -> i8
     requires { ⌜ i < 62 ⌝ }
     ensures { λ r. ⌜ r ≡ levelIn s i ⌝ }
 {
-    let b = sign_bit(s, i);
-    if b == 0 { 1 } else { -1 }
+    base::level_of(sign_bit(s, i))
 }

@@ -1,29 +1,26 @@
--- `control::cfi_bit` meets its contract: the code's table is the specification's. Assumes nothing.
-use Rattle.control.proofs.Words.{codeword-bit}
+-- `control::cfi_bit` meets its contract: the codeword's 0, and its 1s. Assumes nothing.
+use mathlib.Core.Path.{_∙_}
+use native.Mathlib.Omega.{arith}
+use Rattle.control.proofs.Words.{codeword-zero, codeword-one}
 use borrow.Author.Needs.{needs}
 use Rattle.control.proofs.cfi_bit.Statement.{statement}
 use Rattle.control.proofs.cfi_bit.Tie as tie
 
+add-if1 : tie.Need-add-if1
+add-if1 c = search needs
+
 wide-requires : tie.Need-wide-requires
 wide-requires c κs = search needs
 
-sub-row : tie.Need-sub-row
-sub-row c = search needs
-
-mul-result : tie.Need-mul-result
-mul-result c = search needs
-
-mul-result-2 : tie.Need-mul-result-2
-mul-result-2 c = search needs
-
-index-1-result : tie.Need-index-1-result
-index-1-result c = search needs
-
-index-2-result : tie.Need-index-2-result
-index-2-result c = search needs
-
 returns : tie.Need-returns
-returns c = codeword-bit _ (c .before .before .args .cfi) (c .before .before .args .i) (c .before .wide .ensures)
+returns c =
+    let c2 = c .before .before in
+    (codeword-zero (c2 .args .cfi) (c2 .args .i) (c2 .pre .0) (c2 .pre .1) (c .if1 .taken ∙ c .before .wide .ensures), omega arith)
+
+returns-2 : tie.Need-returns-2
+returns-2 c =
+    let c2 = c .before .before in
+    (codeword-one (c2 .args .cfi) (c2 .args .i) (c2 .pre .0) (c2 .pre .1) (λ e. c .if1 .left (omega (arith, e, c .before .wide .ensures))), omega arith)
 
 pub cfi-bit-spec : {M : Type 1} → statement M
-cfi-bit-spec = tie.close (tie.spec wide-requires sub-row mul-result mul-result-2 index-1-result index-2-result returns)
+cfi-bit-spec = tie.close (tie.spec add-if1 wide-requires returns returns-2)

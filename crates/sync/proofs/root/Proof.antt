@@ -1,21 +1,22 @@
--- `sync::root` meets its contract. Assumes nothing.
+-- `sync::root` meets its contract: the table's three entries. Assumes nothing.
 use Prim.Native.Nat.{_%_}
-use Rattle.sync.proofs.Triangles.{root-is}
-use borrow.Author.Needs.{needs}
+use mathlib.Core.Path.{_≡_, sym, ap}
+use native.Mathlib.Omega.{arith}
+use Rattle.sync.specs.Pss.{pssRoot}
 use Rattle.sync.proofs.root.Statement.{statement}
 use Rattle.sync.proofs.root.Tie as tie
 
-cast-r : tie.Need-cast-r
-cast-r c = search needs
-
-mul-result : tie.Need-mul-result
-mul-result c = search needs
-
-array-read-result : tie.Need-array-read-result
-array-read-result c = search needs
-
 returns : tie.Need-returns
-returns c = root-is (c .args .cell % 3)
+unfolding pssRoot
+returns c = sym (ap pssRoot (c .if1 .taken))
+
+returns-2 : tie.Need-returns-2
+unfolding pssRoot
+returns-2 c = sym (ap pssRoot (c .if2 .taken))
+
+returns-3 : tie.Need-returns-3
+unfolding pssRoot
+returns-3 c = let e : c .before .before .args .cell % 3 ≡ 2 = omega (arith, c .before .if1 .left, c .if2 .left) in sym (ap pssRoot e)
 
 pub root-spec : {M : Type 1} → statement M
-root-spec = tie.close (tie.spec cast-r mul-result array-read-result returns)
+root-spec = tie.close (tie.spec returns returns-2 returns-3)
