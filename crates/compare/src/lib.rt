@@ -93,22 +93,22 @@ pub fn compare_place(
     ports: u8,
     places: usize,
     t: usize,
-    port_pair: u8,
+    pair: u8,
     unit: u8,
     odd: u8,
     d: Pair,
     e: Pair,
 ) -> Seen
     requires { ⌜ Room ports places (now grid) × (t < places) × Small 127 e × (unit ≤ 127) ⌝ }
-    ensures { λ r. ⌜ Compared (sentAt ports places port_pair t) (λ (x : ℕ). onPort ports port_pair unit odd d e (x / places)) (now (grid .entry)) r ⌝ }
+    ensures { λ r. ⌜ Compared (sentAt ports places pair t) (λ (x : ℕ). onPort ports pair unit odd d e (x / places)) (now (grid .entry)) r ⌝ }
 {
     let u = precoding::unit_on(ports, unit);
-    let own = base::wide(precoding::own_port(ports, port_pair)) * places + t;
+    let own = base::wide(precoding::own_port(ports, pair)) * places + t;
     let seen = compare_at(grid, own, base::element_of(u, d));
     if ports == 1 {
         return seen;
     }
-    let other = base::wide(precoding::other_port(ports, port_pair)) * places + t;
+    let other = base::wide(precoding::other_port(ports, pair)) * places + t;
     together(
         seen,
         compare_at(grid, other, base::element_of(u, precoding::partner(odd, e))),

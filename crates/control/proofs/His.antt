@@ -16,7 +16,7 @@ use Rattle.plan.specs.declared.Cell.{Cell}
 use Rattle.plan.specs.declared.Hi.{Hi}
 use Rattle.plan.specs.declared.CommandList.{CommandList}
 use Rattle.plan.proofs.Counts.{units-most}
-use Rattle.plan.proofs.CommandLists.{row-length}
+use Rattle.plan.proofs.CommandLists.{commands-length}
 use Rattle.control.specs.Filling.{CellHis}
 
 within-at : (l : ℕ) (hs : List Hi) (n : ℕ) → Within l hs → n < length hs → hiNumber hs n .sequence < 2 * l
@@ -31,7 +31,7 @@ his-in {c = c} {his = his} {plan = plan} ok is =
     (record {
       each = λ n r. record {
         spread = length-ok c;
-        known = within-at (spreadLength c) (hisFrom (drop (his .at) plan) (his .count)) n (ok .known) (omega (arith, row-length hiOf (drop (his .at) plan) (his .count)));
+        known = within-at (spreadLength c) (hisFrom (drop (his .at) plan) (his .count)) n (ok .known) (omega (arith, commands-length hiOf (drop (his .at) plan) (his .count)));
         unit = omega (arith, ok .units n r, units-most c (ok .cell));
       };
     })

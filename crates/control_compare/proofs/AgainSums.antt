@@ -14,7 +14,7 @@ use Rattle.plan.specs.Fields.{mappingUnits}
 use Rattle.plan.specs.CommandLists.{hisFrom}
 use Rattle.plan.specs.declared.Cell.{Cell}
 use Rattle.plan.specs.declared.CommandList.{CommandList}
-use Rattle.plan.proofs.CommandLists.{row-length}
+use Rattle.plan.proofs.CommandLists.{commands-length}
 use Rattle.control_read.specs.Reading.{FirstRead, HisRead, ackFrom}
 use Rattle.control_read.proofs.Reading.{quad-ack}
 
@@ -26,4 +26,4 @@ pub again :
 unfolding bitsFrom
 again {c = c} {his = his} {plan = plan} ok f r w l ew el q =
     let hs = hisFrom (drop (his .at) plan) (his .count) in
-    quads-same (λ n k. quad-ack f r w (spreadLength c) ew refl hs n (ok .cell-his .units n (omega (arith, row-length hiOf (drop (his .at) plan) (his .count)))) refl) (rw el at q)
+    quads-same (λ n k. quad-ack f r w (spreadLength c) ew refl hs n (ok .cell-his .units n (omega (arith, commands-length hiOf (drop (his .at) plan) (his .count)))) refl) (rw el at q)

@@ -15,7 +15,7 @@ use Rattle.base.proofs.Tables.{table-length, table-at}
 use Rattle.plan.specs.declared.Hi.{Hi}
 use Rattle.plan.specs.Commands.{hiOf}
 use Rattle.plan.specs.CommandLists.{hisFrom, nextOf}
-use Rattle.plan.proofs.CommandLists.{row-next, row-zero}
+use Rattle.plan.proofs.CommandLists.{commands-next, commands-zero}
 use Rattle.phich.specs.His.{hiNumber}
 use Rattle.phich.specs.Units.{mappingUnit, sumAt}
 use Rattle.phich.specs.Recovery.{bitIn}
@@ -37,7 +37,7 @@ at-start plan at count =
 
 first : (plan : List ℕ) (from n : ℕ) → 0 < n → hisFrom (drop from plan) n ≡ hiOf (drop from plan) ∷ hisFrom (drop (nextOf plan from) plan) (n - 1)
 first plan from zero h = absurd (not-suc-le-zero h)
-first plan from (suc n) h = rw sub-one (row-next hiOf plan from n)
+first plan from (suc n) h = rw sub-one (commands-next hiOf plan from n)
 
 module _ {plan : List ℕ} {at count from k : ℕ} (t : At plan at count from k) (more : k < count) where
   pub split : left plan from count k ≡ hiOf (drop from plan) ∷ left plan (nextOf plan from) count (k + 1)
@@ -116,7 +116,7 @@ finish {l = l} {plan = plan} {count = count} {bit = bit} {s = s} {from = from} {
       size = t .size;
       sums = λ y r.
           rw (← (sym (plus-nil (t .so-far y))
-          ∙ ap (λ (hs : List Hi). plus (t .so-far y) (sumAt l unscrambled (y / 4) bit (y % 4) hs k)) (sym (row-zero hiOf (drop from plan) (count - k) (omega arith)))
+          ∙ ap (λ (hs : List Hi). plus (t .so-far y) (sumAt l unscrambled (y / 4) bit (y % 4) hs k)) (sym (commands-zero hiOf (drop from plan) (count - k) (omega arith)))
           ∙ t .whole y))
           (t .holds y r);
     }

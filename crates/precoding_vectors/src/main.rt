@@ -34,7 +34,7 @@ fn beside(j: usize) -> usize
 }
 
 // Which two of four ports send place j.
-fn port_pair(phich: bool, m: usize, j: usize) -> u8
+fn pair(phich: bool, m: usize, j: usize) -> u8
     requires { ⌜ (m ≤ 12) × (j < 12) ⌝ }
 {
     if phich {
@@ -55,17 +55,7 @@ fn fill(phich: bool, ports: u8, places: usize, m: usize, unit: u8, grid: &mut [u
         let odd = (j % 2) as u8;
         let d = symbol(j);
         let e = symbol(beside(j));
-        grid::put_place(
-            grid,
-            ports,
-            places,
-            j,
-            port_pair(phich, m, j),
-            unit,
-            odd,
-            d,
-            e,
-        );
+        grid::put_place(grid, ports, places, j, pair(phich, m, j), unit, odd, d, e);
         j += 1;
     }
 }

@@ -13,7 +13,7 @@ use Rattle.plan.specs.Valid.{UserIn}
 use Rattle.plan.specs.declared.User.{User}
 use Rattle.plan.specs.declared.Plan.{Plan}
 use Rattle.plan.specs.declared.Checked.the-variants.{Plan as accepted}
-use Rattle.plan.proofs.CommandLists.{row-next}
+use Rattle.plan.proofs.CommandLists.{commands-next}
 use Rattle.plan.proofs.Listed.{every-at}
 use Rattle.plan.proofs.Valid.{valid}
 use Rattle.layout.specs.declared.Owner.the-variants.{Pbch, User as UserOf}
@@ -53,7 +53,7 @@ module _ (w : List ℕ) (p : Plan) (at i : ℕ) (f : From w p at i) (in-i : i < 
   split : usersFrom (drop at w) (p .users .count - i) ≡ userOf (drop at w) ∷ usersFrom (drop (nextOf w at) w) (p .users .count - (i + 1))
   split =
       let e : p .users .count - i ≡ suc (p .users .count - (i + 1)) = omega arith in
-      ap (usersFrom (drop at w)) e ∙ row-next userOf w at (p .users .count - (i + 1))
+      ap (usersFrom (drop at w)) e ∙ commands-next userOf w at (p .users .count - (i + 1))
 
   cut : (d : User) → userOf (drop at w) ∷ usersFrom (drop (nextOf w at) w) (p .users .count - (i + 1)) ≡ getD (usersOf w p) i d ∷ drop (suc i) (usersOf w p)
   cut d = sym split ∙ f ∙ drop-cons (usersOf w p) i d in-i

@@ -38,7 +38,7 @@ use Rattle.subframe.specs.Elements.{ownerBit}
 use Rattle.subframe.proofs.DataBuilds.{Sends}
 use Rattle.recovery.specs.Recovery.{wordOf, symbolIn, dataBit, payloadIn}
 use Rattle.recovery.proofs.Digits.{digits-same}
-use Rattle.recovery.proofs.Symbols.{own-turn, own-read}
+use Rattle.recovery.proofs.Symbols.{own-pair, own-read}
 use Rattle.schedule.specs.Senders.{active, ownerSends}
 use Rattle.schedule.proofs.Some.{and-true}
 use Rattle.schedule.proofs.Numbered.{sends-port, placed-is, numbered, place-number, index-lt}
@@ -149,7 +149,7 @@ module _
       at-sent =
           let own : ownsAt w p o (at % T) ≡ true = ap (ownsAt w p o) at-place ∙ listed w p ok o .owned j l in
           let port : eqb (at / T) (ownPort P (indexOf w p o (at % T) / 2 % 2)) ≡ true =
-          eq-eqb _ _ (at-port ∙ sym (own-turn P (j / 2)) ∙ ap (λ (n : ℕ). ownPort P (n / 2 % 2)) (sym at-index)) in
+          eq-eqb _ _ (at-port ∙ sym (own-pair P (j / 2)) ∙ ap (λ (n : ℕ). ownPort P (n / 2 % 2)) (sym at-index)) in
           rw (own, turns (at % T) (at / T), port) refl
 
       read : Holds (ownerSends w p o) (elementDue w p g) g → S j ≡ d j

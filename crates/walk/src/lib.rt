@@ -117,10 +117,10 @@ pub fn port_offsets(ports: u8, places: usize, j: usize) -> PortOffsets
     requires { ⌜ places ≤ 16800 ⌝ }
     ensures { λ r. ⌜ OffsetsAt ports places j r ⌝ }
 {
-    let port_pair = (j / 2 % 2) as u8;
+    let pair = (j / 2 % 2) as u8;
     PortOffsets {
-        own: base::wide(precoding::own_port(ports, port_pair)) * places,
-        next: base::wide(precoding::own_port(ports, port_pair + 1)) * places,
+        own: base::wide(precoding::own_port(ports, pair)) * places,
+        next: base::wide(precoding::own_port(ports, pair + 1)) * places,
         across: base::wide(ports / 2) * places,
     }
 }
