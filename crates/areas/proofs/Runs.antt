@@ -1,5 +1,5 @@
--- AN AREA, run after run: where the cursor starts, what its run needs and is, where it stands after the run, and the end. The code has the extent of
--- the grid from a slot's symbols and from the blocks. Assumes what an area's runs need.
+-- AN AREA, run after run: where the cursor starts, what its run needs and is, where it stands after the run, and the end. The code has the
+-- symbols, subcarriers and places of the cell. Assumes what an area's runs need.
 use Prim.Native.Nat.{ℕ, _+_, _*_, _≤_, _<_}
 use mathlib.Core.Path.{_≡_, refl, sym, ap, _∙_}
 use mathlib.Core.Bool.{Bool}
@@ -10,7 +10,6 @@ use Rattle.base.proofs.Counts.{cnt-same, cnt-most}
 use Rattle.base.proofs.Rows.{row-inside}
 use Rattle.plan.proofs.Counts.{blocks-most}
 use Rattle.layout.specs.Owners.{symbols, carriers}
-use Rattle.layout.specs.Rules.{slotLength}
 use Rattle.places.specs.Places.{placesOf}
 use Rattle.places.proofs.Numbers.{symbols-most, symbols-least}
 use Rattle.walk.specs.declared.Cursor.{Cursor}
@@ -53,20 +52,17 @@ module _ {a : Area} {rows spans grid : List ℕ} (h : AreaRuns a rows spans grid
   forms : 2 ≤ a .cell .ports → (s : ℕ) → s < symbols (a .cell) → PairForm (rowMask rows s)
   forms many = h .tables .pairs (h .signals many .0) (h .signals many .1)
 
-  module _ {slot blocks : ℕ} (es : slot ≡ slotLength (a .cell)) (eb : blocks ≡ a .cell .blocks) where
-    pub extent : (2 * slot ≤ 14) × (12 * blocks ≤ 1200) × (2 * slot * (12 * blocks) ≤ 16800)
-    extent = rw (es, eb) (symbols-most (a .cell), omega (arith, blocks-most (a .cell) (h .cell)), h .room .fits)
-
-    module _ {c : Cursor} {j : ℕ} (k : AreaAt a rows spans c j) (less : c .s < 2 * slot) where
+  module _ {S W places : ℕ} (es : S ≡ symbols (a .cell)) (ew : W ≡ carriers (a .cell)) (ep : places ≡ placesOf (a .cell)) where
+    module _ {c : Cursor} {j : ℕ} (k : AreaAt a rows spans c j) (less : c .s < S) where
       l : c .s < symbols (a .cell)
       l = omega (arith, es)
 
-      pub cursor-in : CursorIn (12 * blocks) rows spans c
-      cursor-in = rw eb (run-in (h .tables .sets) (k .comes) (symbols-most (a .cell)) (omega (arith, blocks-most (a .cell) (h .cell))) l)
+      pub cursor-in : CursorIn W rows spans c
+      cursor-in = rw ew (run-in (h .tables .sets) (k .comes) (symbols-most (a .cell)) (omega (arith, blocks-most (a .cell) (h .cell))) l)
 
-      module _ {run : Run} (er : run ≡ cursorRun (12 * blocks) rows spans c) where
+      module _ {run : Run} (er : run ≡ cursorRun W rows spans c) where
         is : run ≡ cursorRun (carriers (a .cell)) rows spans c
-        is = er ∙ ap (λ (x : ℕ). cursorRun (12 * x) rows spans c) eb
+        is = er ∙ ap (λ (x : ℕ). cursorRun x rows spans c) ew
 
         pub area-laid : Laid (areaAt a) (placesOf (a .cell)) j run
         area-laid = rw is (laid-as (h .tables .places) (run-laid (h .tables .sets) (k .comes) l))
@@ -75,10 +71,10 @@ module _ {a : Area} {rows spans grid : List ℕ} (h : AreaRuns a rows spans grid
         unfolding areaCount
         area-few = area-laid .total
 
-        pub area-open : run .halves ≤ 255 → RunOpen (a .cell .ports) (2 * slot * (12 * blocks)) j run grid
+        pub area-open : run .halves ≤ 255 → RunOpen (a .cell .ports) places j run grid
         area-open short =
             let m : run .mask ≡ rowMask rows (c .s) = ap (λ (x : Run). x .mask) is in
-            rw (es, eb)
+            rw ep
             (record {
               room = h .room;
               even = k .even;
@@ -98,6 +94,6 @@ module _ {a : Area} {rows spans grid : List ℕ} (h : AreaRuns a rows spans grid
               even = λ many. omega (arith, k .even many, form-even (cursorRun (carriers (a .cell)) rows spans c) (forms many (c .s) l));
             })
 
-    pub area-count : {c : Cursor} {j : ℕ} → AreaAt a rows spans c j → 2 * slot ≤ c .s → j ≡ areaCount a
+    pub area-count : {c : Cursor} {j : ℕ} → AreaAt a rows spans c j → S ≤ c .s → j ≡ areaCount a
     unfolding areaCount
     area-count k m = through (h .tables .sets) (k .comes) (omega (arith, es)) ∙ cnt-same _ (areaAt a) (placesOf (a .cell)) (h .tables .places)

@@ -15,7 +15,7 @@ use Rattle.phich.specs.Spreading.{spreadLength}
 use Rattle.phich.specs.Loops.{HisIn, QuadSums}
 use Rattle.plan.specs.Check.{checkOf}
 use Rattle.plan.specs.CommandLists.{hisFrom, hisOf}
-use Rattle.plan.specs.Valid.{CellIn}
+use Rattle.plan.specs.Valid.{CellIn, FrameIn}
 use Rattle.plan.specs.declared.Plan.{Plan}
 use Rattle.plan.specs.declared.Checked.the-variants.{Plan as accepted}
 use Rattle.plan.proofs.Counts.{users-most}
@@ -41,7 +41,7 @@ use Rattle.schedule.proofs.Covers.{covers}
 use Rattle.schedule.proofs.Senders.{absent-sends}
 use Rattle.schedule.proofs.Slices.{heads-room}
 use Rattle.schedule.proofs.Turns.{turn-of, first-in, begins}
-use Rattle.schedule.proofs.Steps.{some-ports, start-few}
+use Rattle.schedule.proofs.Steps.{start-few}
 use Rattle.schedule.proofs.Values.{value, sums-of, section-room, bits-of}
 use Rattle.channel_write.specs.Channels.{LevelsIn, TableFor, ChannelIn}
 use Rattle.channel_write.proofs.Filling.{order-ok}
@@ -71,7 +71,7 @@ module _ {p : Plan} {ch : Channel} {have : ℕ} {t masks sums bits grid : List �
   -- the order of one that reads a table
   orders : (c : Channel) → TurnOf w p (ok .number) c → OrderOr have (orderFor have c)
   unfolding orderFor Among
-  orders (Crs s q) y = record { new = λ n. absurd (n refl) }
+  orders (Crs s) y = record { new = λ n. absurd (n refl) }
   orders (Sync m) y = record { new = λ n. absurd (n refl) }
   orders Pbch y = record { new = λ n. (refl, omega arith, omega arith) }
   orders Pcfich y = record { new = λ n. absurd (n refl) }
@@ -80,7 +80,7 @@ module _ {p : Plan} {ch : Channel} {have : ℕ} {t masks sums bits grid : List �
 
   tables : {s : List ℕ} (c : Channel) → TurnOf w p (ok .number) c → Having (p .cell .ports) (orderFor have c) s → TableFor p c s
   unfolding orderFor TableFor Among unitOf unitIn
-  tables (Crs s q) y x = tt
+  tables (Crs s) y x = tt
   tables (Sync m) y x = tt
   tables Pbch y x = x .table (λ z. omega (arith, z))
   tables Pcfich y x = tt
@@ -117,6 +117,11 @@ module _ {w : List ℕ} {p : Plan} {payload g₀ : List ℕ} (start : Ready w p 
   pub turns-in : CellIn (p .cell) × (p .users .count ≤ 100)
   turns-in = (valid w p ok .cell, users-most w p ok)
 
+  -- PCFICH's start
+  pub control-in : CellIn (p .cell) × FrameIn (p .frame) × Among p Pcfich
+  unfolding Among
+  control-in = (valid w p ok .cell, valid w p ok .frame, tt)
+
   -- the turn t is due, and those before it are written
   pub record Going (t : Turn) (g : List ℕ) : Type 0 where
     pub turn : TurnIn w p t
@@ -132,7 +137,7 @@ module _ {w : List ℕ} {p : Plan} {payload g₀ : List ℕ} (start : Ready w p 
 
     module _ {ch : Channel} (is : ch ≡ channelAt w p (t .number)) where
       turn : TurnOf w p (t .number) ch
-      turn = rw is (turn-of w p (some-ports going-due) (t .number) (going-due .more))
+      turn = rw is (turn-of w p (t .number) (going-due .more))
 
       pub going-few : t .start ≤ 4294967296
       going-few = start-few going-due is
@@ -144,7 +149,7 @@ module _ {w : List ℕ} {p : Plan} {payload g₀ : List ℕ} (start : Ready w p 
         module _ {masks sums : List ℕ} (shared : Shared w p payload masks sums) where
           levels : (bits : List ℕ) (c : Channel) → TurnOf w p (t .number) c → LevelsIn c (lentTo c sums bits)
           unfolding TurnOf LevelsIn lentTo
-          levels bits (Crs s q) y = tt
+          levels bits (Crs s) y = tt
           levels bits (Sync m) y = tt
           levels bits Pbch y = tt
           levels bits Pcfich y = tt

@@ -40,7 +40,7 @@ pub record OrderOr (have order : ℕ) : Type 0 where
 
 -- the order whose table a channel reads, or the one that the table has
 unfoldable pub orderFor : ℕ → Channel → ℕ
-orderFor have (Crs s q) = have
+orderFor have (Crs s) = have
 orderFor have (Sync m) = have
 orderFor have Pbch = 2
 orderFor have Pcfich = have

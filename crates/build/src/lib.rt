@@ -1,5 +1,6 @@
 // build: the grid of a plan and a payload, channel by channel in the schedule's turns (document 01).
 use data_write::set_table;
+use gold::Registers;
 use plan::Checked;
 use plan::Plan;
 use plan::Refusal;
@@ -13,6 +14,7 @@ ghost use Rattle.plan.specs.declared.Checked.the-variants.{Plan as accepted};
 ghost use Rattle.payload.specs.Payload.{payloadLength};
 ghost use Rattle.grid.specs.Writing.{Written};
 ghost use Rattle.subframe.specs.Grid.{elementNumbered, gridOf};
+ghost use Rattle.schedule.specs.declared.Channel.the-variants.{Pcfich};
 ghost use Rattle.schedule.specs.Schedule.{startPair, sendsOf, sentOf, allSend, lentTo, SumsOf};
 ghost use Rattle.build.specs.Filling.{Ready, Shared, Having, OrderOr, orderFor, TurnReady};
 ghost use Rattle.build.specs.Build.{builtOf, gridAfter, builtAnswer};
@@ -28,7 +30,7 @@ fn order_for(ch: Channel, have: u8) -> u8
     ensures { λ r. ⌜ r ≡ orderFor have ch ⌝ }
 {
     match ch {
-        Channel::Crs(_, _) => have,
+        Channel::Crs(_) => have,
         Channel::Sync(_) => have,
         Channel::Pbch => 2,
         Channel::Pcfich => have,
@@ -47,8 +49,10 @@ fn renew(t: &mut [u32; 256], have: u8, order: u8, ports: u8)
     }
 }
 
-// A turn: its channel written where the subframe has it, and the order of the table after it. Users of one order in turn share the table.
+// A turn: its channel written where the subframe has it, and the order of the table after it. Users of one order in turn share the table;
+// PCFICH and the PHICH units share `control`, the pair at the start of their bits.
 fn fill_turn(
+    control: Registers,
     p: Plan,
     ch: Channel,
     have: u8,
@@ -58,7 +62,7 @@ fn fill_turn(
     bits: &[u8],
     grid: &mut [u8],
 ) -> u8
-    requires { ⌜ TurnReady p ch have (now t) (now masks) (now sums) (now bits) (now grid) ⌝ }
+    requires { ⌜ TurnReady p ch have (now t) (now masks) (now sums) (now bits) (now grid) × (control ≡ startPair p Pcfich) ⌝ }
     ensures { λ r. ⌜
         Written (sendsOf p ch) (sentOf p (lentTo ch (now (sums .entry)) (now (bits .entry))) (startPair p ch) ch) (now (grid .entry)) (now (grid .exit))
         × Having (p .cell .ports) r (now (t .exit))
@@ -69,7 +73,7 @@ fn fill_turn(
     }
     let order = order_for(ch, have);
     renew(t, have, order, p.cell.ports);
-    channel_write::write(p, ch, t, masks, sums, bits, grid);
+    channel_write::write(control, p, ch, t, masks, sums, bits, grid);
     order
 }
 
@@ -87,6 +91,7 @@ fn fill_turns(
     ensures { λ _. ⌜ Written (allSend (now (plan .entry)) p) (elementNumbered (now (plan .entry)) p (now (payload .entry))) (now (grid .entry)) (now (grid .exit)) ⌝ }
 {
     let shape = counts::shape_of(p.cell, p.frame);
+    let control = schedule::started(p, Channel::Pcfich);
     let turns = schedule::count(p);
     let mut have: u8 = 0;
     let mut turn = schedule::first(p);
@@ -95,7 +100,17 @@ fn fill_turns(
         let part = schedule::section_of(p, shape, turn.start, ch);
         let start = part.start;
         let end = part.end;
-        have = fill_turn(p, ch, have, t, masks, sums, &payload[start..end], grid);
+        have = fill_turn(
+            control,
+            p,
+            ch,
+            have,
+            t,
+            masks,
+            sums,
+            &payload[start..end],
+            grid,
+        );
         turn = schedule::next(plan, turn, ch, end);
     }
 }

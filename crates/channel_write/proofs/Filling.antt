@@ -39,11 +39,11 @@ use Rattle.areas.specs.Tables.{RowMasks}
 use Rattle.areas.specs.declared.Area.{Area}
 use Rattle.areas.proofs.AreaOwners.{pbch-count, user-count}
 use Rattle.data_write.specs.Areas.{FillIn, AreaFilled}
-use Rattle.signals.specs.Signals.{crsSends, crsSent, markSends}
-use Rattle.signals.specs.Rows.{SignalIn, MarkIn}
+use Rattle.signals.specs.Signals.{signalled, crsSends, crsSent, markSends}
+use Rattle.signals.specs.Rows.{SymbolIn, MarkIn}
 use Rattle.control.specs.Control.{pcfichSends, pcfichSent, phichSends, phichSent}
 use Rattle.control.specs.Filling.{PcfichIn, PhichIn}
-use Rattle.schedule.specs.Schedule.{usersFirst, TurnOf, HasSequence, Among, startPair, presentIn, markRow, markSent, elementsOf, sendsOf, sentOf, lentTo}
+use Rattle.schedule.specs.Schedule.{usersFirst, TurnOf, HasSequence, Among, initOf, firstBit, startPair, presentIn, markRow, markSent, elementsOf, sendsOf, sentOf, lentTo}
 use Rattle.schedule.specs.declared.Channel.{Channel}
 use Rattle.schedule.specs.declared.Channel.the-variants.{Crs, Sync, Pbch, Pcfich, Phich, User as UserOf}
 use Rattle.schedule.proofs.Channel.{the-type}
@@ -76,11 +76,12 @@ module _ {p : Plan} {ch : Channel} {t masks bits grid : List ℕ} (ok : ChannelI
   v : Valid w p
   v = valid w p (ok .plan)
 
-  pub crs-in : (s q x : ℕ) → ch ≡ Crs s q → x ≡ s → SignalIn (p .cell) x q grid
-  unfolding TurnOf
-  crs-in s q x e ex =
+  pub crs-in : (s x : ℕ) → ch ≡ Crs s → x ≡ s → SymbolIn (p .cell) x grid
+  unfolding TurnOf presentIn
+  crs-in s x e ex =
       let a = subst (TurnOf w p (ok .number)) e (ok .turn) in
-      record { cell = v .cell; symbol = omega (arith, a .0, ex); port = a .1; room = ok .room }
+      let b = subst (λ (c : Channel). presentIn p c ≡ true) e (ok .present) in
+      record { cell = v .cell; symbol = omega (arith, a .0, ex); signal = ap (signalled (p .cell)) ex ∙ b; room = ok .room }
 
   pub mark-in : MarkIn (p .cell) grid
   mark-in = record { cell = v .cell; room = ok .room }
@@ -167,10 +168,10 @@ module _ {p : Plan} {ch : Channel} {t masks bits grid : List ℕ} (ok : ChannelI
         (same (λ n. sym (present-sends p c (subst (λ (d : Channel). presentIn p d ≡ true) e (ok .present)) n)) (λ n m. refl) k, l)
 
     pub crs-filled :
-        (s q y : ℕ) → ch ≡ Crs s q → y ≡ s → Written (crsSends (p .cell) y q) (crsSent (p .cell) r) grid h × (x ≡ after r (4 * p .cell .blocks)) → Fills r x h ch
+        (s y : ℕ) → ch ≡ Crs s → y ≡ s → Written (crsSends (p .cell) y) (crsSent (p .cell) r) grid h × (x ≡ after r (4 * p .cell .blocks)) → Fills r x h ch
     unfolding elementsOf sentOf bitsUsed
-    crs-filled s q y e ey k =
-        sent (Crs s q) e (subst (λ (z : ℕ). Written (crsSends (p .cell) z q) (crsSent (p .cell) r) grid h) ey (k .0)) (k .1)
+    crs-filled s y e ey k =
+        sent (Crs s) e (subst (λ (z : ℕ). Written (crsSends (p .cell) z) (crsSent (p .cell) r) grid h) ey (k .0)) (k .1)
 
     pub pbch-filled : (a : Area) → ch ≡ Pbch → a ≡ pbchArea (p .cell) (p .frame) → AreaFilled a 2 t bits r grid x h → Fills r x h ch
     unfolding elementsOf sentOf bitsUsed TableFor
@@ -242,23 +243,43 @@ module _ (sums bits : List ℕ) {p : Plan} {ch : Channel} {t masks grid : List �
     unit-ok =
         (subst (λ (bytes : List ℕ). ChannelIn p (Phich m) t masks bytes grid) (sym unit-lent) (subst (λ (c : Channel). ChannelIn p c t masks (lentTo c sums bits) grid) e ok), tt)
 
-    pub unit-written : {h : List ℕ} → Written (sendsOf p (Phich m)) (sentOf p (take (8 * x + 8 - 8 * x) (drop (8 * x) sums)) (startPair p (Phich m)) (Phich m)) grid h → Wrote h
-    unit-written {h} k =
+    -- a unit's bits start where PCFICH's do
+    pub unit-written :
+        {control : Registers} {h : List ℕ} → control ≡ startPair p Pcfich
+        → Written (sendsOf p (Phich m)) (sentOf p (take (8 * x + 8 - 8 * x) (drop (8 * x) sums)) control (Phich m)) grid h → Wrote h
+    unfolding initOf firstBit
+    unit-written {h = h} er k =
         subst (λ (c : Channel). Written (sendsOf p c) (sentOf p (lentTo c sums bits) (startPair p c) c) grid h) (sym e)
-        (subst (λ (bytes : List ℕ). Written (sendsOf p (Phich m)) (sentOf p bytes (startPair p (Phich m)) (Phich m)) grid h) unit-lent k)
+        (subst (λ (bytes : List ℕ). Written (sendsOf p (Phich m)) (sentOf p bytes (startPair p Pcfich) (Phich m)) grid h) unit-lent
+        (subst (λ (r : Registers). Written (sendsOf p (Phich m)) (sentOf p (take (8 * x + 8 - 8 * x) (drop (8 * x) sums)) r (Phich m)) grid h) er k))
 
-  module _ (k : OneOf (0 ∷ 2 ∷ 3 ∷ 5 ∷ []) (tagOf the-type ch)) where
-    other : (c : Channel) → OneOf (0 ∷ 2 ∷ 3 ∷ 5 ∷ []) (tagOf the-type c) → HasSequence c × (lentTo c sums bits ≡ bits)
+  module _ (e : ch ≡ Pcfich) where
+    pub pcfich-ok : SequenceIn p ch t masks bits grid
+    unfolding lentTo
+    pcfich-ok =
+        subst (λ (c : Channel). SequenceIn p c t masks bits grid) (sym e) (subst (λ (c : Channel). ChannelIn p c t masks (lentTo c sums bits) grid) e ok, tt)
+
+    pub pcfich-written : {control : Registers} {h : List ℕ} → control ≡ startPair p Pcfich → Written (sendsOf p ch) (sentOf p bits control ch) grid h → Wrote h
+    unfolding lentTo
+    pcfich-written {control = r} {h = h} er k =
+        subst (λ (c : Channel). Written (sendsOf p c) (sentOf p (lentTo c sums bits) (startPair p c) c) grid h) (sym e)
+        (subst (λ (x : Registers). Written (sendsOf p Pcfich) (sentOf p bits x Pcfich) grid h) er (subst (λ (c : Channel). Written (sendsOf p c) (sentOf p bits r c) grid h) e k))
+
+  module _ (k : OneOf (0 ∷ 2 ∷ 5 ∷ []) (tagOf the-type ch)) where
+    other : (c : Channel) → OneOf (0 ∷ 2 ∷ 5 ∷ []) (tagOf the-type c) → HasSequence c × (lentTo c sums bits ≡ bits)
     unfolding oneOf lentTo
-    other (Crs s q) h = (tt, refl)
-    other (Sync m) h = absurd (not-in (0 ∷ 2 ∷ 3 ∷ 5 ∷ []) 1 h refl)
+    other (Crs s) h = (tt, refl)
+    other (Sync m) h = absurd (not-in (0 ∷ 2 ∷ 5 ∷ []) 1 h refl)
     other Pbch h = (tt, refl)
-    other Pcfich h = (tt, refl)
-    other (Phich m) h = absurd (not-in (0 ∷ 2 ∷ 3 ∷ 5 ∷ []) 4 h refl)
+    other Pcfich h = absurd (not-in (0 ∷ 2 ∷ 5 ∷ []) 3 h refl)
+    other (Phich m) h = absurd (not-in (0 ∷ 2 ∷ 5 ∷ []) 4 h refl)
     other (UserOf u) h = (tt, refl)
 
     pub other-ok : SequenceIn p ch t masks bits grid
     other-ok = (rw (← other ch k .1) ok, other ch k .0)
 
-    pub other-written : {h : List ℕ} → Written (sendsOf p ch) (sentOf p bits (startPair p ch) ch) grid h → Wrote h
-    other-written c = rw (other ch k .1) c
+    pub other-starts : CellIn (p .cell) × FrameIn (p .frame) × Among p ch
+    other-starts = begins other-ok
+
+    pub other-written : {r : Registers} {h : List ℕ} → r ≡ startPair p ch → Written (sendsOf p ch) (sentOf p bits r ch) grid h → Wrote h
+    other-written er c = rw (other ch k .1, ← er) c

@@ -23,7 +23,7 @@ use Rattle.schedule.specs.declared.Channel.the-variants.{Crs, Sync, Pbch, Pcfic
 -- how many bits of the sequence it uses
 unfoldable pub bitsUsed : Plan → Channel → ℕ
 -- two for each of a symbol's values: "m = 0..2N−1, value ((1−2c(2m')), (1−2c(2m'+1)))"
-bitsUsed p (Crs s q) = 4 * p .cell .blocks
+bitsUsed p (Crs s) = 4 * p .cell .blocks
 bitsUsed p (Sync m) = 0
 -- "PBCH when f = 0 (480 bits, extended 432)"
 bitsUsed p Pbch = pbchBitCount (p .cell) (p .frame)
@@ -36,7 +36,7 @@ bitsUsed p (User u) = u .order * userElements (p .cell) (p .frame) (u .first) (u
 
 -- what a channel's bytes are to be: a unit's sums are of at most eight HIs
 unfoldable pub LevelsIn : Channel → List ℕ → Type 0
-LevelsIn (Crs s q) bits = Unit {0}
+LevelsIn (Crs s) bits = Unit {0}
 LevelsIn (Sync m) bits = Unit {0}
 LevelsIn Pbch bits = Unit {0}
 LevelsIn Pcfich bits = Unit {0}
@@ -45,7 +45,7 @@ LevelsIn (User u) bits = Unit {0}
 
 -- the table is that of the channel's order, for those that read it
 unfoldable pub TableFor : Plan → Channel → List ℕ → Type 0
-TableFor p (Crs s q) t = Unit {0}
+TableFor p (Crs s) t = Unit {0}
 TableFor p (Sync m) t = Unit {0}
 TableFor p Pbch t = TableOf (p .cell .ports) 2 2 t
 TableFor p Pcfich t = Unit {0}

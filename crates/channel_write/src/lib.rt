@@ -10,6 +10,7 @@ ghost use Rattle.gold.specs.Steps.{after};
 ghost use Rattle.grid.specs.Writing.{Written};
 ghost use Rattle.signals.specs.Rows.{MarkIn};
 ghost use Rattle.signals.specs.Signals.{markSends};
+ghost use Rattle.schedule.specs.declared.Channel.the-variants.{Pcfich};
 ghost use Rattle.schedule.specs.Schedule.{startPair, sendsOf, markRow, markSent, sentOf, lentTo};
 ghost use Rattle.channel_write.specs.Channels.{bitsUsed, ChannelIn, SequenceIn};
 
@@ -30,7 +31,7 @@ fn filled(
     let cell = p.cell;
     let frame = p.frame;
     match ch {
-        Channel::Crs(s, port) => signals_write::fill_crs(r, cell, base::wide(s), port, grid),
+        Channel::Crs(s) => signals_write::fill_crs(r, cell, base::wide(s), grid),
         Channel::Sync(_) => r,
         Channel::Pbch => {
             let mut own: [u8; 14] = [0; 14];
@@ -64,12 +65,21 @@ pub fn fill(
     *r = filled(was, p, ch, t, masks, bits, grid);
 }
 
-// The channel filled, with a pair of its own that it lends. Its parameters are plain, so that its callers need no proof by hand.
-fn map(p: Plan, ch: Channel, t: &[u32; 256], masks: &[u8; 14], bits: &[u8], grid: &mut [u8])
+// The channel filled, from the pair at the start of its bits, by a pair of its own that it lends. Its parameters are plain, so that its callers
+// need no proof by hand.
+fn map(
+    start: Registers,
+    p: Plan,
+    ch: Channel,
+    t: &[u32; 256],
+    masks: &[u8; 14],
+    bits: &[u8],
+    grid: &mut [u8],
+)
     requires { ⌜ SequenceIn p ch (now t) (now masks) (now bits) (now grid) ⌝ }
-    ensures { λ _. ⌜ Written (sendsOf p ch) (sentOf p (now (bits .entry)) (startPair p ch) ch) (now (grid .entry)) (now (grid .exit)) ⌝ }
+    ensures { λ _. ⌜ Written (sendsOf p ch) (sentOf p (now (bits .entry)) start ch) (now (grid .entry)) (now (grid .exit)) ⌝ }
 {
-    let mut r = schedule::started(p, ch);
+    let mut r = start;
     fill(&mut r, p, ch, t, masks, bits, grid);
 }
 
@@ -84,8 +94,10 @@ fn write_mark(p: Plan, m: Mark, grid: &mut [u8])
     }
 }
 
-// A channel that the subframe has: a mark, a PHICH unit with its part of all units' sums, or another one with its section's bits.
+// A channel that the subframe has: a mark, a PHICH unit with its part of all units' sums, or another one with its section's bits. `control` is
+// the pair at the start of PCFICH's bits, which is every PHICH unit's too, so that it is made once for all.
 pub fn write(
+    control: Registers,
     p: Plan,
     ch: Channel,
     t: &[u32; 256],
@@ -94,18 +106,19 @@ pub fn write(
     bits: &[u8],
     grid: &mut [u8],
 )
-    requires { ⌜ ChannelIn p ch (now t) (now masks) (lentTo ch (now sums) (now bits)) (now grid) × (length (now sums) ≡ 200) ⌝ }
+    requires { ⌜ ChannelIn p ch (now t) (now masks) (lentTo ch (now sums) (now bits)) (now grid) × (length (now sums) ≡ 200) × (control ≡ startPair p Pcfich) ⌝ }
     ensures { λ _. ⌜
         Written (sendsOf p ch) (sentOf p (lentTo ch (now (sums .entry)) (now (bits .entry))) (startPair p ch) ch) (now (grid .entry)) (now (grid .exit))
         ⌝ }
 {
     match ch {
         Channel::Sync(m) => write_mark(p, m, grid),
+        Channel::Pcfich => map(control, p, ch, t, masks, bits, grid),
         Channel::Phich(m) => {
             let from = 8 * base::wide(m);
             let to = from + 8;
-            map(p, ch, t, masks, &sums[from..to], grid);
+            map(control, p, ch, t, masks, &sums[from..to], grid);
         }
-        _ => map(p, ch, t, masks, bits, grid),
+        _ => map(schedule::started(p, ch), p, ch, t, masks, bits, grid),
     }
 }

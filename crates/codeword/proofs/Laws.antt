@@ -77,15 +77,6 @@ outputs-are ci k = λ t i. output-of ci k i t
 pub outputs-start : (ci : ℕ) → outputs (pairAt ci 0) ≡ c ci
 outputs-start ci = outputs-are ci 0 ∙ (λ i n. c ci (zero-add n i))
 
--- the symbols of a slice by the sequence of a c_init, from c(k) on and from c(0) on
-pub symbols-are : (q : ℕ) (bits : List ℕ) (ci k j : ℕ) → symbolsOf q bits (pairAt ci k) j ≡ dataSymbol q (bitAt bits) (λ (i : ℕ). c ci (k + i)) j
-unfolding symbolsOf
-symbols-are q bits ci k j = ap (λ (x : ℕ → ℕ). dataSymbol q (bitAt bits) x j) (outputs-are ci k)
-
-pub symbols-start : (q : ℕ) (bits : List ℕ) (ci j : ℕ) → symbolsOf q bits (pairAt ci 0) j ≡ dataSymbol q (bitAt bits) (c ci) j
-symbols-start q bits ci j =
-    symbols-are q bits ci 0 j ∙ ap (λ (x : ℕ → ℕ). dataSymbol q (bitAt bits) x j) (λ t i. c ci (zero-add i t))
-
 -- ---- the scrambled word
 differ-sum : (a b : ℕ) → a < 2 → b < 2 → differ a b ≡ (a + b) % 2
 differ-sum zero b h k = omega arith

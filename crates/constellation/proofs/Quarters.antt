@@ -300,6 +300,3 @@ entries-more {q} {u} {x} {n} {t} s en l f =
 -- ---- an index is the eight lowest bits of a word
 pub entry-of : {q u : ℕ} {t : List ℕ} → Elements q u t → q ≤ 8 → (w : ℕ) → getD t (w % 256) 0 ≡ elementNumber u (modulationSymbol q w)
 entry-of {q} {u} s l w = s .entry (w % 256) (omega arith) ∙ ap (elementNumber u) (symbol-low 8 q w l)
-
-pub entry-word : {q u : ℕ} {t : List ℕ} → Elements q u t → q ≤ 8 → (w : ℕ) → getD t (w % 256) 0 ≡ elementNumber u (modulationSymbol q (w % 2 ^ q))
-entry-word {q} {u} s l w = entry-of s l w ∙ ap (elementNumber u) (sym (symbol-low q q w (omega arith)))

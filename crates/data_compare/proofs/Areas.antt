@@ -3,7 +3,7 @@ use Prim.Native.Nat.{ℕ, _+_, _*_, _≤_, _<_}
 use mathlib.Core.Path.{_≡_}
 use mathlib.Core.List.{List}
 use lib.Bits.{bitOr}
-use Rattle.layout.specs.Rules.{slotLength}
+use Rattle.layout.specs.Owners.{symbols, carriers}
 use Rattle.places.specs.Places.{placesOf}
 use Rattle.walk.specs.declared.Cursor.{Cursor}
 use Rattle.walk.specs.declared.Run.{Run}
@@ -22,20 +22,20 @@ module _ {a : Area} {rows spans g : List ℕ} (h : AreaRuns a rows spans g) wher
   pub area-begins : {f : Form} {c : Cursor} → c ≡ cursorStart rows → Going a rows spans f g c 0 0
   area-begins e = record { cursor = area-starts h e; done = record { seen = λ q u o. tells-none } }
 
-  module _ {slot blocks : ℕ} (es : slot ≡ slotLength (a .cell)) (eb : blocks ≡ a .cell .blocks) {f : Form} where
+  module _ {S W places : ℕ} (es : S ≡ symbols (a .cell)) (ew : W ≡ carriers (a .cell)) (ep : places ≡ placesOf (a .cell)) {f : Form} where
     pub area-on :
-        {c : Cursor} {j bad : ℕ} (w : Going a rows spans f g c j bad) (l : c .s < 2 * slot) {run : Run} → run ≡ cursorRun (12 * blocks) rows spans c
-        → {c′ : Cursor} {n r : ℕ} → c′ ≡ cursorNext rows c → n ≡ runCount run → RunSeen (a .cell .ports) (2 * slot * (12 * blocks)) j run f g r
+        {c : Cursor} {j bad : ℕ} (w : Going a rows spans f g c j bad) (l : c .s < S) {run : Run} → run ≡ cursorRun W rows spans c
+        → {c′ : Cursor} {n r : ℕ} → c′ ≡ cursorNext rows c → n ≡ runCount run → RunSeen (a .cell .ports) (places) j run f g r
         → Going a rows spans f g c′ (j + n) (bitOr bad r)
     area-on {j = j} w l {run} er {r = r} ec en s =
-        let s′ : RunSeen (a .cell .ports) (placesOf (a .cell)) j run f g r = rw (es, eb) at s in
+        let s′ : RunSeen (a .cell .ports) (placesOf (a .cell)) j run f g r = rw ep at s in
         rw en
         (record {
-          cursor = area-next h es eb (w .cursor) l er ec;
-          done = record { seen = λ q u o. tells-or (w .done .seen q u o) (s′ .seen (areaAt a) q u (area-laid h es eb (w .cursor) l er) o) };
+          cursor = area-next h es ew ep (w .cursor) l er ec;
+          done = record { seen = λ q u o. tells-or (w .done .seen q u o) (s′ .seen (areaAt a) q u (area-laid h es ew ep (w .cursor) l er) o) };
         })
 
-    pub area-ends : {c : Cursor} {j bad : ℕ} → Going a rows spans f g c j bad → 2 * slot ≤ c .s → Through a f g j bad
+    pub area-ends : {c : Cursor} {j bad : ℕ} → Going a rows spans f g c j bad → S ≤ c .s → Through a f g j bad
     area-ends {j = j} w l =
-        let e : j ≡ areaCount a = area-count h es eb (w .cursor) l in
+        let e : j ≡ areaCount a = area-count h es ew ep (w .cursor) l in
         record { index = e; done = rw e at (w .done) }

@@ -268,9 +268,9 @@ fn compare_runs(f: Form, grid: &[u8], a: Area, rows: &[u8; 45], spans: &[u8; 512
     requires { ⌜ AreaRuns a (now rows) (now spans) (now grid) ⌝ }
     ensures { λ r. ⌜ Through a f (now (grid .entry)) (r .j) (r .bad) ⌝ }
 {
-    let symbols = 2 * layout::slot_length(a.cell);
-    let carriers = 12 * base::wide(a.cell.blocks);
-    let places = symbols * carriers;
+    let symbols = layout::symbols(a.cell);
+    let carriers = layout::carriers(a.cell);
+    let places = layout::places(a.cell);
     let mut c = walk::start(rows);
     let mut j: usize = 0;
     let mut bad: u64 = 0;

@@ -24,8 +24,7 @@ use Rattle.modulation.proofs.Symbols.{demap-only}
 use Rattle.codeword.specs.Codewords.{scrambled}
 use Rattle.codeword.specs.Streams.{outputs}
 use Rattle.precoding.specs.Places.{ownPort}
-use Rattle.layout.specs.Owners.{symbols}
-use Rattle.layout.specs.Rules.{slotLength}
+use Rattle.layout.specs.Owners.{symbols, carriers}
 use Rattle.payload.specs.Sections.{sectionBytes}
 use Rattle.places.specs.Places.{placesOf}
 use Rattle.recovery.specs.Recovery.{wordOf, sectionOf}
@@ -60,18 +59,18 @@ module _ {a : Area} {q : ℕ} {rows spans d g st part : List ℕ} (h : RunsIn a 
   pub area-begins : {c : Cursor} → c ≡ cursorStart rows → Going a q rows spans d g st part c 0 st part
   area-begins e = record { cursor = area-starts (h .runs) e; read = read-none (h .reading) }
 
-  module _ {slot blocks : ℕ} (es : slot ≡ slotLength (a .cell)) (eb : blocks ≡ a .cell .blocks) where
+  module _ {S W places : ℕ} (es : S ≡ symbols (a .cell)) (ew : W ≡ carriers (a .cell)) (ep : places ≡ placesOf (a .cell)) where
     module _
-        {c : Cursor} {j : ℕ} {st′ part′ : List ℕ} (k : Going a q rows spans d g st part c j st′ part′) (less : c .s < 2 * slot) {run : Run}
-        (er : run ≡ cursorRun (12 * blocks) rows spans c) where
+        {c : Cursor} {j : ℕ} {st′ part′ : List ℕ} (k : Going a q rows spans d g st part c j st′ part′) (less : c .s < S) {run : Run}
+        (er : run ≡ cursorRun W rows spans c) where
       laid : Laid (areaAt a) T j run
-      laid = area-laid (h .runs) es eb (k .cursor) less er
+      laid = area-laid (h .runs) es ew ep (k .cursor) less er
 
-      pub area-run : run .halves ≤ 255 → RunOpen P (2 * slot * (12 * blocks)) j run g × Reading q j (runCount run) d st′ part′
+      pub area-run : run .halves ≤ 255 → RunOpen P (places) j run g × Reading q j (runCount run) d st′ part′
       area-run short = (
-        area-open (h .runs) es eb (k .cursor) less er short,
+        area-open (h .runs) es ew ep (k .cursor) less er short,
         subst (λ (x : ℕ). Reading q x (runCount run) d st′ part′) (zero-add j)
-            (read-later (k .read) (h .reading) (runCount run) (area-few (h .runs) es eb (k .cursor) less er)),
+            (read-later (k .read) (h .reading) (runCount run) (area-few (h .runs) es ew ep (k .cursor) less er)),
       )
 
       -- its elements are those of the area's next symbols
@@ -84,23 +83,23 @@ module _ {a : Area} {q : ℕ} {rows spans d g st part : List ℕ} (h : RunsIn a 
 
       pub area-on :
           {c′ : Cursor} {j′ : ℕ} {st″ part″ : List ℕ} → c′ ≡ cursorNext rows c
-          → RunRead q P (2 * slot * (12 * blocks)) j run d g st′ part′ j′ st″ part″
+          → RunRead q P (places) j run d g st′ part′ j′ st″ part″
           → Going a q rows spans d g st part c′ j′ st″ part″
       area-on {c′} {j′} {st″} {part″} ec x =
-          let x′ : RunRead q P T j run d g st′ part′ j′ st″ part″ = rw (es, eb) at x in
+          let x′ : RunRead q P T j run d g st′ part′ j′ st″ part″ = rw ep at x in
           rw (x′ .0)
           (record {
-            cursor = area-next (h .runs) es eb (k .cursor) less er ec;
+            cursor = area-next (h .runs) es ew ep (k .cursor) less er ec;
             read =
                 read-join (k .read) refl
                 (subst (λ (y : ℕ). ReadOn q y (runCount run) (runElement P T j run) d g st′ part′ st″ part″) (sym (zero-add j)) (x′ .1)) next-element;
           })
 
     pub area-ends :
-        {c : Cursor} {j : ℕ} {st′ part′ : List ℕ} → Going a q rows spans d g st part c j st′ part′ → 2 * slot ≤ c .s
+        {c : Cursor} {j : ℕ} {st′ part′ : List ℕ} → Going a q rows spans d g st part c j st′ part′ → S ≤ c .s
         → ReadOn q 0 (areaCount a) (symbolElement a) d g st part st′ part′
     area-ends {c} {j} {st′} {part′} k m =
-        subst (λ (x : ℕ). ReadOn q 0 x (symbolElement a) d g st part st′ part′) (area-count (h .runs) es eb (k .cursor) m) (k .read)
+        subst (λ (x : ℕ). ReadOn q 0 x (symbolElement a) d g st part st′ part′) (area-count (h .runs) es ew ep (k .cursor) m) (k .read)
 
 -- ---- bits of a constellation point
 -- by the table they are those that recovery takes

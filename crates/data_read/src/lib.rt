@@ -332,9 +332,9 @@ fn read_runs(
     requires { ⌜ RunsIn a q (now rows) (now spans) (now d) (now grid) (now st) (now part) ⌝ }
     ensures { λ _. ⌜ ReadOn q 0 (areaCount a) (symbolElement a) (now (d .entry)) (now (grid .entry)) (now (st .entry)) (now (part .entry)) (now (st .exit)) (now (part .exit)) ⌝ }
 {
-    let symbols = 2 * layout::slot_length(a.cell);
-    let carriers = 12 * base::wide(a.cell.blocks);
-    let places = symbols * carriers;
+    let symbols = layout::symbols(a.cell);
+    let carriers = layout::carriers(a.cell);
+    let places = layout::places(a.cell);
     let mut c = walk::start(rows);
     let mut j: usize = 0;
     while c.s < symbols {

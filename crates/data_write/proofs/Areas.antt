@@ -15,7 +15,7 @@ use Rattle.modulation.proofs.Formulas.{unit-small}
 use Rattle.codeword.specs.Streams.{symbolsOf}
 use Rattle.codeword.specs.Bits48.{Standing, Begins48, Ends}
 use Rattle.precoding.specs.Matrices.{unitOn}
-use Rattle.layout.specs.Rules.{slotLength}
+use Rattle.layout.specs.Owners.{symbols, carriers}
 use Rattle.places.specs.Places.{placesOf}
 use Rattle.grid.proofs.Writing.{same}
 use Rattle.walk.specs.declared.Cursor.{Cursor}
@@ -80,35 +80,35 @@ module _ {a : Area} {q : ℕ} {rows spans t bits st before : List ℕ} (h : Runs
         written = λ unit r tb s. written-none (areaAt a) P T (valueOf unit r) 0 before;
       }
 
-  module _ {slot blocks : ℕ} (es : slot ≡ slotLength (a .cell)) (eb : blocks ≡ a .cell .blocks) where
+  module _ {S W places : ℕ} (es : S ≡ symbols (a .cell)) (ew : W ≡ carriers (a .cell)) (ep : places ≡ placesOf (a .cell)) where
     module _
-        {c : Cursor} {j : ℕ} {st′ grid : List ℕ} (g : Going a q rows spans t bits st before c j st′ grid) (l : c .s < 2 * slot) {run : Run}
-        (er : run ≡ cursorRun (12 * blocks) rows spans c) where
-      pub area-run : run .halves ≤ 255 → RunOpen P (2 * slot * (12 * blocks)) j run grid × Sending (groupIn a q) q j t bits st′
-      area-run short = (area-open (runs-later (h .runs) (g .size)) es eb (g .cursor) l er short, later-sending (h .sending) (g .stands))
+        {c : Cursor} {j : ℕ} {st′ grid : List ℕ} (g : Going a q rows spans t bits st before c j st′ grid) (l : c .s < S) {run : Run}
+        (er : run ≡ cursorRun W rows spans c) where
+      pub area-run : run .halves ≤ 255 → RunOpen P (places) j run grid × Sending (groupIn a q) q j t bits st′
+      area-run short = (area-open (runs-later (h .runs) (g .size)) es ew ep (g .cursor) l er short, later-sending (h .sending) (g .stands))
 
       pub area-on :
           {c′ : Cursor} {j′ : ℕ} {st″ after : List ℕ} → c′ ≡ cursorNext rows c
-          → RunFilled (groupIn a q) P (2 * slot * (12 * blocks)) j run q t bits st′ grid j′ st″ after → Going a q rows spans t bits st before c′ j′ st″ after
+          → RunFilled (groupIn a q) P (places) j run q t bits st′ grid j′ st″ after → Going a q rows spans t bits st before c′ j′ st″ after
       area-on {c′} {j′} {st″} {after} ec x =
-          let f : RunFilled (groupIn a q) P T j run q t bits st′ grid j′ st″ after = rw (es, eb) at x in
+          let f : RunFilled (groupIn a q) P T j run q t bits st′ grid j′ st″ after = rw ep at x in
           rw (f .next-index)
           (record {
-            cursor = area-next (h .runs) es eb (g .cursor) l er ec;
+            cursor = area-next (h .runs) es ew ep (g .cursor) l er ec;
             size = f .size ∙ g .size;
             stands = λ r s. f .stands r (g .stands r s);
             written = λ unit r tb s.
                 let z : 0 + j ≡ j = omega arith in
                 written-join (areaAt a) P T (valueOf unit r) 0 j (runCount run) (g .written unit r tb s)
-                (rw z (f .filled (areaAt a) unit r tb (g .stands r s) (area-laid (h .runs) es eb (g .cursor) l er)));
+                (rw z (f .filled (areaAt a) unit r tb (g .stands r s) (area-laid (h .runs) es ew ep (g .cursor) l er)));
           })
 
     pub area-ends :
-        {c : Cursor} {j : ℕ} {st′ grid : List ℕ} → Going a q rows spans t bits st before c j st′ grid → 2 * slot ≤ c .s
+        {c : Cursor} {j : ℕ} {st′ grid : List ℕ} → Going a q rows spans t bits st before c j st′ grid → S ≤ c .s
         → RunsDone a q rows spans t bits st before st′ grid
     unfolding areaCount areaIndex areaSends areaElement ownSends sentElement
     area-ends {j = j} {st′} g l =
-        let e : j ≡ areaCount a = area-count (h .runs) es eb (g .cursor) l in
+        let e : j ≡ areaCount a = area-count (h .runs) es ew ep (g .cursor) l in
         record {
           size = g .size;
           stands = λ r s. subst (λ (x : ℕ). Standing (groupIn a q) bits r (q * x) st′) e (g .stands r s);

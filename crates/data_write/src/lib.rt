@@ -413,9 +413,9 @@ fn fill_runs(
     requires { ⌜ RunsIn a q (now rows) (now spans) (now t) (now bits) (now st) (now grid) ⌝ }
     ensures { λ _. ⌜ RunsDone a q (now (rows .entry)) (now (spans .entry)) (now (t .entry)) (now (bits .entry)) (now (st .entry)) (now (grid .entry)) (now (st .exit)) (now (grid .exit)) ⌝ }
 {
-    let symbols = 2 * layout::slot_length(a.cell);
-    let carriers = 12 * base::wide(a.cell.blocks);
-    let places = symbols * carriers;
+    let symbols = layout::symbols(a.cell);
+    let carriers = layout::carriers(a.cell);
+    let places = layout::places(a.cell);
     let mut c = walk::start(rows);
     let mut j: usize = 0;
     while c.s < symbols {

@@ -26,11 +26,6 @@ pub output-lt : (r : Registers) → outputOf r < 2
 unfolding outputOf
 output-lt r = omega arith
 
--- a word of n bits has n digits
-pub word-lt : (r : Registers) (n : ℕ) → wordOf r n < 2 ^ n
-unfolding wordOf
-word-lt r n = binary-lt (λ (i : ℕ). outputOf (after r i)) (λ i. output-lt (after r i)) 0 n
-
 -- ---- the pair that stands at c(k)
 -- n steps take it to c(k + n)
 pub pair-after : (ci k n : ℕ) → after (pairAt ci k) n ≡ pairAt ci (k + n)

@@ -122,7 +122,3 @@ module _ (c : Cell) (s k : ℕ) where
   pub below-is : (n : ℕ) → n ≤ 4 → crsBelow c n s k ≡ ltb (pilot c s k) n
   unfolding crsBelow
   below-is n l = rw (crs-is 0 (omega arith), crs-is 1 (omega arith), crs-is 2 (omega arith), crs-is 3 (omega arith)) (belowP n l (pilot c s k))
-
-pub in-slot-le : (c : Cell) (s : ℕ) → inSlot c s ≤ s
-unfolding inSlot
-in-slot-le c s = by-test (ltb s (slotLength c)) (λ e. rw e (omega arith)) (λ e. rw e (omega arith))

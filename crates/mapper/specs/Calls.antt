@@ -28,7 +28,7 @@ use Rattle.mapper.specs.declared.Number.the-variants.{Is, Refused}
 abbrev pub answerWith : (Plan → ℕ) → Checked → Answer
 answerWith f a = unlessRefused refusedAs (λ (p : Plan). given (f p)) a
 
--- "grid not 36×N×S×P bytes"
+-- the length that refusal 10 asks of a grid, "grid not 36×N×S×P bytes"
 unfoldable pub gridLengthOf : List ℕ → Answer
 gridLengthOf w = answerWith gridLength (checkOf w)
 

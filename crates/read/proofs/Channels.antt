@@ -39,7 +39,7 @@ module _ (p : Plan) (ch : Channel) (A : Area) (q : ℕ) (g : List ℕ) (a : Area
 -- ---- by the channel
 kept-part : (p : Plan) (g part : List ℕ) (ch : Channel) → OneOf (0 ∷ 1 ∷ 3 ∷ 4 ∷ []) (tagOf the-type ch) → part ≡ ownPart p ch g part
 unfolding ownPart oneOf
-kept-part p g part (Crs s q) k = refl
+kept-part p g part (Crs s) k = refl
 kept-part p g part (Sync m) k = refl
 kept-part p g part Pbch k = absurd (not-in (0 ∷ 1 ∷ 3 ∷ 4 ∷ []) 2 k refl)
 kept-part p g part Pcfich k = refl

@@ -34,14 +34,14 @@ use Rattle.data_read.proofs.AreaBits.{pbch-section, user-section}
 use Rattle.control_read.specs.Reading.{ackFrom, ReadIn}
 use Rattle.control_read.proofs.ReadingOwners.{acks-are, read-in}
 use Rattle.schedule.specs.Schedule.{signalTurns, usersFirst, channelCount, channelAt, TurnOf, initOf, firstBit, startPair, Among, presentIn, sectionOf, partOf}
-use Rattle.schedule.specs.Cursor.{firstTurn, usersBefore, TurnIn, Due}
+use Rattle.schedule.specs.Cursor.{laterTurn, usersBefore, TurnIn, Due}
 use Rattle.schedule.specs.declared.Section.{Section}
 use Rattle.schedule.specs.declared.Turn.{Turn}
 use Rattle.schedule.specs.declared.Channel.{Channel}
 use Rattle.schedule.specs.declared.Channel.the-variants.{Crs, Sync, Pbch, Pcfich, Phich, User as UserOf}
 use Rattle.schedule.proofs.Owners as owners
 use Rattle.schedule.proofs.Slices.{section-end, start-next, heads-room}
-use Rattle.schedule.proofs.Turns.{turn-of, begins, first-in}
+use Rattle.schedule.proofs.Turns.{turn-of, begins, later-in}
 use Rattle.schedule.proofs.Values.{section-room}
 use Rattle.verify.specs.Made.{Given}
 use Rattle.verify.proofs.Known.{pbch-known, pbch-even, user-known, user-even}
@@ -85,8 +85,8 @@ module _ {w : List ℕ} {p : Plan} {g before : List ℕ} (start : Readable w p g
 
     pub acks-read :
         (r : Registers) → r ≡ startPair p (Phich 0) → (ys : List ℕ) → ys ≡ recovered (ackFrom (p .cell) r (hisFrom (drop (p .his .at) w) (p .his .count)) g) (p .his .count)
-        → (t : Turn) → t ≡ firstTurn p → TurnIn w p t × ReadBefore w p g t (putMid (x .start) (x .end - x .start) before ys)
-    unfolding initOf firstBit hisOf firstTurn
+        → (t : Turn) → t ≡ laterTurn p → TurnIn w p t × ReadBefore w p g t (putMid (x .start) (x .end - x .start) before ys)
+    unfolding initOf firstBit hisOf laterTurn
     acks-read r er ys ey t et =
         let room = heads-room w p ok before (x .start) (x .end) from-is to-is in
         let put =
@@ -97,7 +97,7 @@ module _ {w : List ℕ} {p : Plan} {g before : List ℕ} (start : Readable w p g
         ∙ sym (acks-part w p g (x .start) (x .end) from-is to-is))
         in
         rw et (
-          first-in w p,
+          later-in w p,
           record {
             size = put .size;
             pbch = λ l. absurd (omega arith);
@@ -164,7 +164,7 @@ module _ {w : List ℕ} {p : Plan} {g before : List ℕ} (start : Readable w p g
 
     turn-needs : (ch : Channel) → TurnOf w p (t .number) ch → presentIn p ch ≡ true → PartOf p ch g (partOf (sectionOf p (t .start) ch) payload)
     unfolding PartOf presentIn sectionOf
-    turn-needs (Crs s q) y h = tt
+    turn-needs (Crs s) y h = tt
     turn-needs (Sync m) y h = tt
     turn-needs Pbch y h = pbch-needs (t .number) y (eqb-true (p .frame .subframe) 0 h) (Part Pbch) (part-size Pbch y ∙ omega arith)
     turn-needs Pcfich y h = tt
@@ -183,11 +183,9 @@ module _ {w : List ℕ} {p : Plan} {g before : List ℕ} (start : Readable w p g
       pass : t .number < usersFirst p → (R + 2 < t .number + 1 → R + 2 < t .number) → ReadBefore w p g r payload
       pass l k = record { size = right; pbch = λ m. had .pbch (k (omega arith)); others = others-kept l }
 
-      crs-pass : (s q : ℕ) → TurnOf w p (t .number) (Crs s q) → ReadBefore w p g r payload
+      crs-pass : (s : ℕ) → TurnOf w p (t .number) (Crs s) → ReadBefore w p g r payload
       unfolding TurnOf
-      crs-pass s q y =
-          let l : t .number < R = omega (arith, y .2, mul-le-mul {n₁ = suc s} {m₁ = p .cell .ports} {n₂ = symbols (p .cell)} {m₂ = p .cell .ports} (y .0) (omega arith), y .1) in
-          pass (omega arith) (λ k. omega arith)
+      crs-pass s y = pass (omega arith) (λ k. omega arith)
 
       sync-pass : (m : Mark) → TurnOf w p (t .number) (Sync m) → ReadBefore w p g r payload
       unfolding TurnOf
@@ -197,7 +195,7 @@ module _ {w : List ℕ} {p : Plan} {g before : List ℕ} (start : Readable w p g
       -- the subframe does not have the channel
       absent-read : (ch : Channel) → TurnOf w p (t .number) ch → presentIn p ch ≡ false → ReadBefore w p g r payload
       unfolding TurnOf presentIn
-      absent-read (Crs s q) y h = crs-pass s q y
+      absent-read (Crs s) y h = crs-pass s y
       absent-read (Sync m) y h = sync-pass m y
       absent-read Pbch y h =
           record {
@@ -251,7 +249,7 @@ module _ {w : List ℕ} {p : Plan} {g before : List ℕ} (start : Readable w p g
 
         present-read : (ch : Channel) → TurnOf w p (t .number) ch → presentIn p ch ≡ true → ys ≡ ownPart p ch g (Part ch) → ReadBefore w p g r (After ch)
         unfolding TurnOf ownPart
-        present-read (Crs s q) y h e = same-read (Crs s q) e (crs-pass s q y)
+        present-read (Crs s) y h e = same-read (Crs s) e (crs-pass s y)
         present-read (Sync m) y h e = same-read (Sync m) e (sync-pass m y)
         present-read Pbch y h e = pbch-read y h e
         present-read Pcfich y h e = same-read Pcfich e (pass (omega arith) (λ k. omega arith))
@@ -272,7 +270,7 @@ module _ {w : List ℕ} {p : Plan} {g before : List ℕ} (start : Readable w p g
 
     module _ {ch : Channel} (is : ch ≡ channelAt w p (t .number)) {payload : List ℕ} (had : ReadBefore w p g t payload) (x : Section) (ex : x ≡ sectionOf p (t .start) ch) where
       turn : TurnOf w p (t .number) ch
-      turn = subst (TurnOf w p (t .number)) (sym is) (turn-of w p (start .room .some) (t .number) (due .more))
+      turn = subst (TurnOf w p (t .number)) (sym is) (turn-of w p (t .number) (due .more))
 
       pub loop-room : (x .start ≤ x .end) × (x .end ≤ length payload)
       loop-room = rw (ex, had .size) (section-room w p ok before (start .room) t so ch turn)

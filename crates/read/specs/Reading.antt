@@ -57,7 +57,7 @@ partRead p ch a q grid = sectionOf (areaBit a q grid (startPair p ch)) (q * area
 
 -- the same by the channel, where the subframe has it: PBCH and the users have a section of their own
 unfoldable pub PartOf : Plan → Channel → List ℕ → List ℕ → Type 0
-PartOf p (Crs s q) grid part = Unit {0}
+PartOf p (Crs s) grid part = Unit {0}
 PartOf p (Sync m) grid part = Unit {0}
 PartOf p Pbch grid part = PartIn p Pbch (pbchArea (p .cell) (p .frame)) 2 grid part
 PartOf p Pcfich grid part = Unit {0}
@@ -65,7 +65,7 @@ PartOf p (Phich m) grid part = Unit {0}
 PartOf p (User u) grid part = PartIn p (User u) (userArea (p .cell) (p .frame) u) (u .order) grid part
 
 unfoldable pub ownPart : Plan → Channel → List ℕ → List ℕ → List ℕ
-ownPart p (Crs s q) grid part = part
+ownPart p (Crs s) grid part = part
 ownPart p (Sync m) grid part = part
 ownPart p Pbch grid part = partRead p Pbch (pbchArea (p .cell) (p .frame)) 2 grid
 ownPart p Pcfich grid part = part

@@ -77,7 +77,7 @@ fn read_channel(
     }
 }
 
-// The section of the HIs' bits, which all PHICH units share; then turn after turn, each section lent on for writing. Whoever calls has the plan
+// The section of the HIs' bits, which all PHICH units share; then turn after turn behind the reference signals, each section lent on for writing. Whoever calls has the plan
 // from the plan check, has verified the grid, and has compared the payload's length.
 fn read_sections(plan: &[u8], p: Plan, grid: &[u8], payload: &mut [u8])
     requires { ⌜ Readable (now plan) p (now grid) (now payload) ⌝ }
@@ -94,7 +94,7 @@ fn read_sections(plan: &[u8], p: Plan, grid: &[u8], payload: &mut [u8])
     let mut d: [u8; 32] = [0; 32];
     let mut have: u8 = 0;
     let turns = schedule::count(p);
-    let mut turn = schedule::first(p);
+    let mut turn = schedule::after_signals(p);
     while turn.number < turns {
         let ch = schedule::channel_at(plan, p, turn);
         let section = schedule::section_of(p, shape, turn.start, ch);

@@ -1,7 +1,8 @@
 // What the test programs of plan, build and read share: numbers in their input, the lengths that they lend, and digests of what they see.
 use base::wide;
 use plan::Checked;
-ghost use Prim.Native.Nat.{_<_};
+ghost use Prim.Native.Nat.{_≤_, _<_};
+ghost use lib.ListN.{length};
 
 // Two numbers that depend on every byte and its position.
 pub struct Digest {
@@ -77,4 +78,18 @@ pub fn lent(n: usize, difference: u8) -> usize {
         return n + 1;
     }
     n
+}
+
+// Where the record after the one at `at` stands, of which `used` bytes are known; the input's end after one that is cut off.
+pub fn next_at(input: &[u8], at: usize, used: usize) -> usize
+    requires { ⌜ at < length (now input) ⌝ }
+    ensures { λ r. ⌜ (at < r) × (r ≤ length (now (input .entry))) ⌝ }
+{
+    if used == 0 {
+        return input.len();
+    }
+    if input.len() - at < used {
+        return input.len();
+    }
+    at + used
 }

@@ -98,10 +98,8 @@ module _ (w : List ℕ) (p : Plan) (ok : checkOf w ≡ accepted p) (payload : Li
         pick : Dec (q ≡ r) → crsElement (p .cell) (p .frame) r q s k ≡ silent
         pick (no n) = rw (ne-eqb q r n) refl
         pick (yes y) =
-            let a = and-true (ltb r (p .cell .ports)) _ h in
-            let b = and-true (crsSymbol (p .cell) r s) _ (a .1) in
-            let c = crs-covers w p r e h y in
-            clash (both (b .0) c) (not-sent (s * p .cell .ports + r) (channel.Crs s r) (place-in w p ok e .0, ltb-true r (p .cell .ports) (a .0), refl))
+            let d = crs-covers w p (valid w p ok .cell) r e h y in
+            clash (both (d .0) (d .1)) (not-sent s (channel.Crs s) (place-in w p ok e .0, refl))
 
     quiet-pss : owns w p (Sync Primary) s k ≡ true → pssElement (p .cell) q k ≡ silent
     unfolding pssElement owns fixedRule pss sendsOf presentIn elementsOf TurnOf

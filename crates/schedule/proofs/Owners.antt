@@ -12,7 +12,7 @@ use Rattle.plan.specs.CommandLists.{usersOf}
 use Rattle.plan.specs.declared.Plan.{Plan}
 use Rattle.plan.specs.declared.Checked.the-variants.{Plan as accepted}
 use Rattle.plan.proofs.Valid.{valid}
-use Rattle.layout.specs.Rules.{crsSymbol, marked}
+use Rattle.layout.specs.Rules.{marked}
 use Rattle.layout.specs.Owners.{owns}
 use Rattle.layout.specs.declared.Mark.the-variants.{Primary, Secondary}
 use Rattle.layout.specs.declared.Owner.{Owner}
@@ -20,8 +20,8 @@ use Rattle.layout.specs.declared.Owner.the-variants.{Crs, Sync, Pbch, Pcfich, P
 use Rattle.layout.proofs.OneOwner.{one-owner}
 use Rattle.places.specs.Places.{symbolAt, carrierAt, placesOf, ownsAt, indexOf}
 use Rattle.grid.specs.Writing.{sends, Room}
-use Rattle.signals.specs.Signals.{crsSends, markSends}
-use Rattle.signals.proofs.SignalOwners.{crs-sends, pss-sends, sss-sends}
+use Rattle.signals.specs.Signals.{signalled, crsSends, markSends}
+use Rattle.signals.proofs.SignalOwners.{port-sends, crs-parts, pss-sends, sss-sends}
 use Rattle.schedule.specs.Senders.{active, ownerSends}
 use Rattle.schedule.specs.Schedule.{signalTurns, usersFirst, channelCount, channelAt, TurnOf, ownerOfTurn, presentIn, elementsOf, sendsOf, sentBelow, allSend}
 use Rattle.schedule.specs.declared.Channel.{Channel}
@@ -33,7 +33,7 @@ use Rattle.schedule.proofs.Turns.{turn-of}
 
 -- the turn of an owner's elements in symbol s
 abbrev pub turnNumber : Plan → Owner → ℕ → ℕ
-turnNumber p (Crs q) s = s * p .cell .ports + q
+turnNumber p (Crs q) s = s
 turnNumber p (Sync Primary) s = signalTurns (p .cell)
 turnNumber p (Sync Secondary) s = signalTurns (p .cell) + 1
 turnNumber p Pbch s = signalTurns (p .cell) + 2
@@ -84,14 +84,14 @@ module _ (w : List ℕ) (p : Plan) (ok : checkOf w ≡ accepted p) {g : List ℕ
 
   -- ---- each channel's elements are its owner's
   module _ (n e : ℕ) where
-    crs-belongs : (s q : ℕ) → TurnOf w p n (channel.Crs s q) → sendsOf p (channel.Crs s q) e ≡ true → Belongs w p n (Crs q) e
+    crs-belongs : (s : ℕ) → TurnOf w p n (channel.Crs s) → sendsOf p (channel.Crs s) e ≡ true → Belongs w p n (Crs (e / T)) e
     unfolding TurnOf sendsOf presentIn elementsOf ownsAt
-    crs-belongs s q t h =
-        let y = and-true (crsSymbol (p .cell) q s) (crsSends (p .cell) s q e) h in
-        let d = crs-sends w p q s e (t .1) (y .0) (y .1) in
+    crs-belongs s t h =
+        let y = crs-parts w p s e (and-true (signalled (p .cell) s) (crsSends (p .cell) s e) h .1) in
+        let d = port-sends w p (e / T) s e (y .0) (y .1) (y .2) in
         record {
-          of = record { owned = ap (λ (x : ℕ). owns w p (Crs q) x (carrierAt (p .cell) (e % T))) (d .2) ∙ d .0; port = omega (arith, d .1, t .1) };
-          number = t .2 ∙ ap (λ (x : ℕ). x * P + q) (sym (d .2));
+          of = record { owned = ap (λ (x : ℕ). owns w p (Crs (e / T)) x (carrierAt (p .cell) (e % T))) (d .2) ∙ d .0; port = y .0 };
+          number = t .1 ∙ sym (d .2);
         }
 
     pss-belongs : TurnOf w p n (channel.Sync Primary) → sendsOf p (channel.Sync Primary) e ≡ true → Belongs w p n (Sync Primary) e
@@ -108,9 +108,9 @@ module _ (w : List ℕ) (p : Plan) (ok : checkOf w ≡ accepted p) {g : List ℕ
         let d = sss-sends w p e (y .0) .0 (y .1) in
         record { of = record { owned = d .0; port = omega (arith, d .1, room .some) }; number = t }
 
-    pub belongs : (ch : Channel) → TurnOf w p n ch → sendsOf p ch e ≡ true → Belongs w p n (ownerOfTurn p n ch) e
+    pub belongs : (ch : Channel) → TurnOf w p n ch → sendsOf p ch e ≡ true → Belongs w p n (ownerOfTurn p n ch e) e
     unfolding TurnOf active
-    belongs (channel.Crs s q) t h = crs-belongs s q t h
+    belongs (channel.Crs s) t h = crs-belongs s t h
     belongs (channel.Sync Primary) t h = pss-belongs t h
     belongs (channel.Sync Secondary) t h = sss-belongs t h
     belongs channel.Pbch t h = record { of = sent-of Pbch e (indexOf w p Pbch (e % T) / 2 % 2) refl (sym (pbch-sends w p ok (present-of p channel.Pbch e h) e) ∙ h); number = t }
@@ -125,8 +125,8 @@ module _ (w : List ℕ) (p : Plan) (ok : checkOf w ≡ accepted p) {g : List ℕ
         }
 
   -- ---- the turns
-  turn-belongs : (n e : ℕ) → n < channelCount p → sendsOf p (channelAt w p n) e ≡ true → Belongs w p n (ownerOfTurn p n (channelAt w p n)) e
-  turn-belongs n e l h = belongs n e (channelAt w p n) (turn-of w p (room .some) n l) h
+  turn-belongs : (n e : ℕ) → n < channelCount p → sendsOf p (channelAt w p n) e ≡ true → Belongs w p n (ownerOfTurn p n (channelAt w p n) e) e
+  turn-belongs n e l h = belongs n e (channelAt w p n) (turn-of w p n l) h
 
   -- NO ELEMENT IS SENT IN TWO TURNS
   pub apart : (i j e : ℕ) → i < j → j < channelCount p → sendsOf p (channelAt w p i) e ≡ true → sendsOf p (channelAt w p j) e ≡ true → ⊥

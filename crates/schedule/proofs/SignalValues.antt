@@ -8,7 +8,7 @@ use Rattle.crs.specs.Crs.{crsInit}
 use Rattle.plan.specs.Check.{checkOf}
 use Rattle.plan.specs.declared.Plan.{Plan}
 use Rattle.plan.specs.declared.Checked.the-variants.{Plan as accepted}
-use Rattle.layout.specs.Rules.{slotOf, inSlot, crsSymbol, marked}
+use Rattle.layout.specs.Rules.{slotOf, inSlot, marked}
 use Rattle.layout.specs.Owners.{owns}
 use Rattle.layout.specs.declared.Mark.the-variants.{Primary, Secondary}
 use Rattle.layout.specs.declared.Owner.the-variants.{Crs, Sync}
@@ -16,7 +16,7 @@ use Rattle.places.specs.Places.{carrierAt, placesOf, ownsAt}
 use Rattle.subframe.specs.Elements.{crsElement, elementFor}
 use Rattle.subframe.specs.Grid.{elementNumbered}
 use Rattle.signals.specs.Signals.{crsSends, crsSent, markSends, pssSent, sssSent}
-use Rattle.signals.proofs.SignalOwners.{crs-sends, crs-value, pss-sends, sss-sends, pss-value, sss-value}
+use Rattle.signals.proofs.SignalOwners.{port-sends, crs-parts, crs-value, pss-sends, sss-sends, pss-value, sss-value}
 use Rattle.schedule.proofs.Numbered.{numbered}
 
 module _ (w : List ℕ) (p : Plan) (ok : checkOf w ≡ accepted p) (payload : List ℕ) where
@@ -24,13 +24,15 @@ module _ (w : List ℕ) (p : Plan) (ok : checkOf w ≡ accepted p) (payload : Li
   T = placesOf (p .cell)
 
   pub crs-numbered :
-      (s q e : ℕ) → q < p .cell .ports → crsSymbol (p .cell) q s ≡ true → crsSends (p .cell) s q e ≡ true
+      (s e : ℕ) → crsSends (p .cell) s e ≡ true
       → crsSent (p .cell) (pairAt (crsInit (p .cell .prefix) (p .cell .identity) (2 * p .frame .subframe + slotOf (p .cell) s) (inSlot (p .cell) s)) (2 * (110 - p .cell .blocks))) e
       ≡ elementNumbered w p payload e
   unfolding elementFor ownsAt
-  crs-numbered s q e l y h =
-      let d = crs-sends w p q s e l y h in
-      crs-value w p q s e ok h
+  crs-numbered s e h =
+      let q = e / T in
+      let y = crs-parts w p s e h in
+      let d = port-sends w p q s e (y .0) (y .1) (y .2) in
+      crs-value w p q s e ok (y .2)
       ∙ ap (λ (x : ℕ). crsElement (p .cell) (p .frame) q (e / T) x (carrierAt (p .cell) (e % T))) (sym (d .2))
       ∙ sym (numbered w p ok payload (Crs q) e (ap (λ (x : ℕ). owns w p (Crs q) x (carrierAt (p .cell) (e % T))) (d .2) ∙ d .0))
 

@@ -1,8 +1,7 @@
 -- The steps of the code: the channel of a turn, and the cursor after it. Assumes nothing beyond the plan check's answer.
-use Prim.Native.Nat.{ℕ, suc, _+_, _-_, _/_, _%_, _≤_, _<_}
+use Prim.Native.Nat.{ℕ, _+_, _-_, _≤_, _<_}
 use mathlib.Core.Path.{_≡_, refl, sym, ap, subst, _∙_}
 use mathlib.Core.List.{List, [], _∷_}
-use native.Mathlib.Nat.{mod-lt, div-lt-iff-lt-mul, mul-le-mul}
 use native.Mathlib.Omega.{arith}
 use lib.ListN.{drop}
 use types.Run.{OneOf}
@@ -15,7 +14,7 @@ use Rattle.plan.specs.CommandLists.{nextOf, nthUser}
 use Rattle.plan.specs.declared.Plan.{Plan}
 use Rattle.plan.specs.declared.User.{User}
 use Rattle.plan.specs.declared.Checked.the-variants.{Plan as accepted}
-use Rattle.plan.proofs.Counts.{ports-least, ports-most, units-most, his-most, users-most}
+use Rattle.plan.proofs.Counts.{units-most, his-most, users-most}
 use Rattle.plan.proofs.OneOf.{not-in}
 use Rattle.plan.proofs.Valid.{valid}
 use Rattle.layout.specs.Owners.{symbols}
@@ -39,22 +38,13 @@ module _ {w : List ℕ} {p : Plan} {t : Turn} (due : Due w p t) where
   ok : checkOf w ≡ accepted p
   ok = due .answer
 
-  pub some-ports : 0 < p .cell .ports
-  some-ports = omega (arith, ports-least (p .cell) (valid w p ok .cell))
+  -- of reference signals: a symbol's number is small
+  module _ {n : ℕ} (en : n ≡ signalTurns (p .cell)) (l : t .number < n) where
+    pub signal-symbol : t .number < 14
+    signal-symbol = omega (arith, symbols-most (p .cell))
 
-  -- of a reference signal: its numbers are small
-  module _ {q n : ℕ} (eq : q ≡ p .cell .ports) (en : n ≡ signalTurns (p .cell)) (l : t .number < n) where
-    less : t .number < signalTurns (p .cell)
-    less = omega arith
-
-    pub signal-symbol : t .number / q < 14
-    signal-symbol = rw eq (omega (arith, div-lt-iff-lt-mul {x = t .number} {y = symbols (p .cell)} some-ports .1 less, symbols-most (p .cell)))
-
-    pub signal-port : t .number % q < 4
-    signal-port = rw eq (omega (arith, mod-lt (t .number) some-ports, ports-most (p .cell) (valid w p ok .cell)))
-
-    pub signal-found : Crs (t .number / q) (t .number % q) ≡ channelAt w p (t .number)
-    signal-found = rw eq (sym (signal-is w p (t .number) less))
+    pub signal-found : Crs (t .number) ≡ channelAt w p (t .number)
+    signal-found = sym (signal-is w p (t .number) (omega arith))
 
   -- of a later one
   module _ (n : ℕ) where
@@ -77,8 +67,7 @@ module _ {w : List ℕ} {p : Plan} {t : Turn} (due : Due w p t) where
 -- ---- the cursor after a turn
 no-user : (w : List ℕ) (p : Plan) (n : ℕ) (ch : Channel) → OneOf (0 ∷ 1 ∷ 2 ∷ 3 ∷ 4 ∷ []) (tagOf the-type ch) → TurnOf w p n ch → n < usersFirst p
 unfolding TurnOf oneOf
-no-user w p n (Crs s q) k h =
-    omega (arith, h .2, mul-le-mul {n₁ = suc s} {m₁ = p .cell .ports} {n₂ = symbols (p .cell)} {m₂ = p .cell .ports} (h .0) (omega arith), h .1)
+no-user w p n (Crs s) k h = omega arith
 no-user w p n (Sync Primary) k h = omega arith
 no-user w p n (Sync Secondary) k h = omega arith
 no-user w p n Pbch k h = omega arith
@@ -95,7 +84,7 @@ payload-few w p ok =
 
 module _ {w : List ℕ} {p : Plan} {t : Turn} (due : Due w p t) {ch : Channel} (is : ch ≡ channelAt w p (t .number)) where
   turn : TurnOf w p (t .number) ch
-  turn = subst (TurnOf w p (t .number)) (sym is) (turn-of w p (some-ports due) (t .number) (due .more))
+  turn = subst (TurnOf w p (t .number)) (sym is) (turn-of w p (t .number) (due .more))
 
   pub start-few : t .start ≤ 4294967296
   start-few = omega (arith, due .turn .section, start-room w p (due .answer) w (t .number - usersFirst p), payload-few w p (due .answer))
@@ -103,14 +92,7 @@ module _ {w : List ℕ} {p : Plan} {t : Turn} (due : Due w p t) {ch : Channel} (
   pub number-few : t .number < 4000
   unfolding channelCount
   number-few =
-      let v = valid w p (due .answer) .cell in
-      omega (
-        arith,
-        due .more,
-        units-most (p .cell) v,
-        users-most w p (due .answer),
-        mul-le-mul {n₁ = symbols (p .cell)} {m₁ = p .cell .ports} {n₂ = 14} {m₂ = 4} (symbols-most (p .cell)) (ports-most (p .cell) v),
-      )
+      omega (arith, due .more, units-most (p .cell) (valid w p (due .answer) .cell), users-most w p (due .answer), symbols-most (p .cell))
 
 -- what `next` needs, and the turn after it
 pub passing :

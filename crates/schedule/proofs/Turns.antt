@@ -1,9 +1,8 @@
 -- THE TURNS: the channel of each turn by cases and the turn of each channel, and the cursor's steps. Assumes nothing beyond the plan check's
 -- answer.
-use Prim.Native.Nat.{ℕ, zero, suc, _+_, _-_, _*_, _/_, _%_, _≤_, _<_}
-use mathlib.Core.Path.{_≡_, refl, sym, ap, ap₂, _∙_}
+use Prim.Native.Nat.{ℕ, zero, suc, _+_, _-_, _≤_, _<_}
+use mathlib.Core.Path.{_≡_, refl, sym, ap, _∙_}
 use mathlib.Core.List.{List}
-use native.Mathlib.Nat.{mod-lt, mod-eq-of-lt, div-lt-iff-lt-mul, div-eq-of-lt, div-add-mod', mul-add-div-right, mul-add-mod-self-right, mul-le-mul}
 use native.Mathlib.Omega.{arith}
 use borrow.Author.Tests.{lt-ltb, le-ltb, ltb-true, ltb-false}
 use lib.Dec.{ltb}
@@ -24,16 +23,13 @@ use Rattle.payload.specs.Sections.{sectionBytes}
 use Rattle.payload.specs.Loops.{computedBitCount}
 use Rattle.payload.proofs.Sections.{user-start-first}
 use Rattle.schedule.specs.Schedule.{signalTurns, usersFirst, channelCount, laterAt, channelAt, TurnOf, HasSequence, Among}
-use Rattle.schedule.specs.Cursor.{usersBefore, TurnIn, firstTurn}
+use Rattle.schedule.specs.Cursor.{usersBefore, TurnIn, firstTurn, laterTurn}
 use Rattle.schedule.specs.declared.Turn.{Turn}
 use Rattle.schedule.specs.declared.Channel.{Channel}
 use Rattle.schedule.specs.declared.Channel.the-variants.{Crs, Sync, Pbch, Pcfich, Phich, User as UserOf}
 use Rattle.schedule.proofs.Slices.{from-first, from-user, from-next, start-next, section-end, user-valid}
 
 module _ (w : List ℕ) (p : Plan) where
-  abbrev P : ℕ
-  P = p .cell .ports
-
   abbrev R : ℕ
   R = signalTurns (p .cell)
 
@@ -51,24 +47,16 @@ module _ (w : List ℕ) (p : Plan) where
       on-if (TurnOf w p n) (ltb m U) (λ t. (ltb-true m U t, omega arith))
       (λ f. let k = ltb-false m U f in let i : m - U ≡ n - usersFirst p = omega arith in (omega arith, l, ap (nthUser w p) i))
 
-  module _ (some : 0 < P) where
-    signal-of : (n : ℕ) → n < R → TurnOf w p n (Crs (n / P) (n % P))
-    unfolding TurnOf
-    signal-of n l = (div-lt-iff-lt-mul some .1 l, mod-lt n some, sym (div-add-mod' n P))
-
-    pub turn-of : (n : ℕ) → n < channelCount p → TurnOf w p n (channelAt w p n)
-    unfolding channelAt
-    turn-of n l =
-        on-if (TurnOf w p n) (ltb n R) (λ t. signal-of n (ltb-true n R t))
-        (λ f. let k = ltb-false n R f in later-of n (n - R) (omega arith) l)
+  pub turn-of : (n : ℕ) → n < channelCount p → TurnOf w p n (channelAt w p n)
+  unfolding channelAt TurnOf
+  turn-of n l =
+      on-if (TurnOf w p n) (ltb n R) (λ t. (ltb-true n R t, refl))
+      (λ f. let k = ltb-false n R f in later-of n (n - R) (omega arith) l)
 
   -- ---- and the turn of a channel
-  signal-lt : (s q : ℕ) → s < symbols (p .cell) → q < P → s * P + q < R
-  signal-lt s q l k = omega (arith, mul-le-mul {n₁ = suc s} {m₁ = P} {n₂ = symbols (p .cell)} {m₂ = P} l (omega arith))
-
   pub turn-lt : (n : ℕ) (ch : Channel) → TurnOf w p n ch → n < channelCount p
   unfolding TurnOf channelCount
-  turn-lt n (Crs s q) h = omega (arith, signal-lt s q (h .0) (h .1), h .2)
+  turn-lt n (Crs s) h = omega arith
   turn-lt n (Sync Primary) h = omega arith
   turn-lt n (Sync Secondary) h = omega arith
   turn-lt n Pbch h = omega arith
@@ -76,7 +64,7 @@ module _ (w : List ℕ) (p : Plan) where
   turn-lt n (Phich m) h = omega arith
   turn-lt n (UserOf u) h = h .1
 
-  pub signal-is : (n : ℕ) → n < R → channelAt w p n ≡ Crs (n / P) (n % P)
+  pub signal-is : (n : ℕ) → n < R → channelAt w p n ≡ Crs n
   unfolding channelAt
   signal-is n l = rw (lt-ltb n R l) refl
 
@@ -94,11 +82,7 @@ module _ (w : List ℕ) (p : Plan) where
 
   pub channel-is : (n : ℕ) (ch : Channel) → TurnOf w p n ch → channelAt w p n ≡ ch
   unfolding TurnOf laterAt
-  channel-is n (Crs s q) h =
-      let some : 0 < P = omega (arith, h .1) in
-      let a : n / P ≡ s = ap (λ (x : ℕ). x / P) (h .2) ∙ mul-add-div-right some s q ∙ omega (arith, div-eq-of-lt (h .1)) in
-      let b : n % P ≡ q = ap (λ (x : ℕ). x % P) (h .2) ∙ mul-add-mod-self-right s P q ∙ mod-eq-of-lt (h .1) in
-      signal-is n (omega (arith, h .2, signal-lt s q (h .0) (h .1))) ∙ ap₂ Crs a b
+  channel-is n (Crs s) h = signal-is n (omega (arith, h .0, h .1)) ∙ ap Crs (h .1)
   channel-is n (Sync Primary) h = later-is n 0 (omega arith)
   channel-is n (Sync Secondary) h = later-is n 1 h
   channel-is n Pbch h = later-is n 2 h
@@ -113,6 +97,16 @@ module _ (w : List ℕ) (p : Plan) where
   unfolding firstTurn
   first-in =
       let z : 0 - usersFirst p ≡ 0 = omega arith in
+      record {
+        most = omega arith;
+        users = rw z (from-first w p);
+        section = rw z (sym (user-start-first w p));
+      }
+
+  pub later-in : TurnIn w p (laterTurn p)
+  unfolding laterTurn channelCount
+  later-in =
+      let z : signalTurns (p .cell) - usersFirst p ≡ 0 = omega arith in
       record {
         most = omega arith;
         users = rw z (from-first w p);
@@ -167,7 +161,7 @@ unfolding Among TurnOf channelCount
 begins w p ok n ch q t = (valid w p ok .cell, valid w p ok .frame, among ch q t)
   where
     among : (c : Channel) → HasSequence c → TurnOf w p n c → Among p c
-    among (Crs s r) h y = (y .0, y .1)
+    among (Crs s) h y = y .0
     among (Sync m) h y = h
     among Pbch h y = tt
     among Pcfich h y = tt

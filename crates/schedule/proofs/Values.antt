@@ -56,7 +56,7 @@ module _ (w : List ℕ) (p : Plan) (ok : checkOf w ≡ accepted p) (payload : Li
         (ch : Channel) → TurnOf w p n ch → BitsOf w p payload n bits ch → sendsOf p ch e ≡ true
         → sentOf p bits (startPair p ch) ch e ≡ elementNumbered w p payload e
     unfolding TurnOf BitsOf sendsOf presentIn elementsOf sentOf initOf firstBit
-    value (Crs s q) t b h = let d = and-true (presentIn p (Crs s q)) (elementsOf p (Crs s q) e) h in crs-numbered w p ok payload s q e (t .1) (d .0) (d .1)
+    value (Crs s) t b h = crs-numbered w p ok payload s e (and-true (presentIn p (Crs s)) (elementsOf p (Crs s) e) h .1)
     value (Sync Primary) t b h = let d = and-true (presentIn p (Sync Primary)) (elementsOf p (Sync Primary) e) h in pss-numbered w p ok payload (d .0) e (d .1)
     value (Sync Secondary) t b h = let d = and-true (presentIn p (Sync Secondary)) (elementsOf p (Sync Secondary) e) h in sss-numbered w p ok payload (d .0) e (d .1)
     value Pbch t b h =
@@ -87,7 +87,7 @@ module _ (w : List ℕ) (p : Plan) (ok : checkOf w ≡ accepted p) (payload : Li
     -- a turn's section lies in the payload
     pub section-room : (ch : Channel) → TurnOf w p (t .number) ch → (sectionOf p (t .start) ch .start ≤ sectionOf p (t .start) ch .end) × (sectionOf p (t .start) ch .end ≤ payloadLength w p)
     unfolding sectionOf TurnOf
-    section-room (Crs s q) y = (omega arith, omega arith)
+    section-room (Crs s) y = (omega arith, omega arith)
     section-room (Sync m) y = (omega arith, omega arith)
     section-room Pbch y = (omega arith, (let h = heads-room w p ok payload _ (usersStart p) refl refl in omega (arith, h .0, h .1)))
     section-room Pcfich y = (omega arith, omega arith)
@@ -100,7 +100,7 @@ module _ (w : List ℕ) (p : Plan) (ok : checkOf w ≡ accepted p) (payload : Li
         {s : List ℕ} → SumsOf w p payload s → (ch : Channel) → TurnOf w p (t .number) ch
         → BitsOf w p payload (t .number) (lentTo ch s (partOf (sectionOf p (t .start) ch) payload)) ch
     unfolding sectionOf TurnOf BitsOf lentTo
-    bits-of sums (Crs s q) y = tt
+    bits-of sums (Crs s) y = tt
     bits-of sums (Sync m) y = tt
     bits-of sums Pbch y = pbch-slice w p ok payload _ refl
     bits-of sums Pcfich y = tt

@@ -10,7 +10,7 @@ use Rattle.plan.specs.declared.Plan.{Plan}
 use Rattle.plan.specs.declared.Checked.the-variants.{Plan as accepted}
 use Rattle.payload.specs.Sections.{startOf}
 use Rattle.payload.specs.Payload.{heads, sections, usersStart}
-use Rattle.schedule.specs.Schedule.{usersFirst, channelCount, channelAt, sectionOf}
+use Rattle.schedule.specs.Schedule.{signalTurns, usersFirst, channelCount, channelAt, sectionOf}
 use Rattle.schedule.specs.declared.Channel.{Channel}
 use Rattle.schedule.specs.declared.Turn.{Turn}
 
@@ -48,3 +48,7 @@ pub record Follows (w : List ℕ) (t : Turn) (ch : Channel) (end : ℕ) (r : Tur
 -- the first turn
 unfoldable pub firstTurn : Plan → Turn
 firstTurn p = record { number = 0; at = p .users .at; start = usersStart p }
+
+-- and the first one after the reference signals
+unfoldable pub laterTurn : Plan → Turn
+laterTurn p = record { number = signalTurns (p .cell); at = p .users .at; start = usersStart p }

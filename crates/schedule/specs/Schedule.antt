@@ -1,6 +1,6 @@
 -- For the inner contracts and loops only: THE SCHEDULE, the channels of a plan in the order in which they are built, verified and read, each
 -- with its turn's number. w is a plan's bytes, p the plan that the plan check answers with. An element's number is port × T + place, T the
--- places on a port. The laws in proofs/ show that no element is sent in two turns (Apart) and that the rest is silent (Covers).
+-- places on a port. The laws in proofs/ show that no element is sent in two turns (Owners) and that the rest is silent (Covers).
 use Prim.Native.Nat.{ℕ, zero, suc, _+_, _-_, _*_, _/_, _%_, _≤_, _<_}
 use mathlib.Core.Path.{_≡_}
 use mathlib.Core.Bool.{Bool, true, _&&_}
@@ -22,19 +22,20 @@ use Rattle.plan.specs.CommandLists.{hisOf, nthUser}
 use Rattle.plan.specs.Valid.{UserIn}
 use Rattle.plan.specs.declared.Cell.{Cell}
 use Rattle.plan.specs.declared.Plan.{Plan}
-use Rattle.layout.specs.Rules.{slotOf, inSlot, crsSymbol, marked}
+use Rattle.layout.specs.Rules.{slotOf, inSlot, marked}
 use Rattle.layout.specs.Owners.{symbols}
 use Rattle.layout.specs.declared.Mark.{Mark}
 use Rattle.layout.specs.declared.Mark.the-variants.{Primary, Secondary}
 use Rattle.layout.specs.declared.Owner.{Owner}
 use Rattle.layout.specs.declared.Owner.the-variants as owner
 use Rattle.counts.specs.Counts.{countOf}
+use Rattle.places.specs.Places.{placesOf}
 use Rattle.payload.specs.Sections.{sectionBytes}
 use Rattle.payload.specs.Payload.{pbchBitCount, usersStart}
 use Rattle.payload.specs.Loops.{computedBitCount}
 use Rattle.subframe.specs.Elements.{pbchFirst, controlInit, userInit, ownerBit, hiBit}
 use Rattle.areas.specs.Areas.{areaSends, areaElement, pbchArea, userArea}
-use Rattle.signals.specs.Signals.{crsSends, crsSent, markSends, pssSent, sssSent}
+use Rattle.signals.specs.Signals.{signalled, crsSends, crsSent, markSends, pssSent, sssSent}
 use Rattle.control.specs.Control.{pcfichSends, pcfichSent, phichSends, phichSent}
 use Rattle.schedule.specs.Senders.{someBelow}
 use Rattle.schedule.specs.declared.Section.{Section}
@@ -42,9 +43,9 @@ use Rattle.schedule.specs.declared.Channel.{Channel}
 use Rattle.schedule.specs.declared.Channel.the-variants.{Crs, Sync, Pbch, Pcfich, Phich, User}
 
 -- ---- THE LIST
--- the turns of the reference signals: one for each port in each symbol, symbol after symbol
+-- the turns of the reference signals: one for each symbol, with all ports that send there
 abbrev pub signalTurns : Cell → ℕ
-signalTurns c = symbols c * c .ports
+signalTurns c = symbols c
 
 -- the turn of the first user, and how many turns there are
 abbrev pub usersFirst : Plan → ℕ
@@ -64,7 +65,7 @@ laterAt w p (suc (suc (suc (suc m)))) = if ltb m (mappingUnits (p .cell)) then P
 -- the channel of turn n
 unfoldable pub channelAt : List ℕ → Plan → ℕ → Channel
 channelAt w p n =
-    if ltb n (signalTurns (p .cell)) then Crs (n / p .cell .ports) (n % p .cell .ports) else laterAt w p (n - signalTurns (p .cell))
+    if ltb n (signalTurns (p .cell)) then Crs n else laterAt w p (n - signalTurns (p .cell))
 
 -- all of them
 unfoldable pub channelsOf : List ℕ → Plan → List Channel
@@ -72,7 +73,7 @@ channelsOf w p = table (channelCount p) (channelAt w p)
 
 -- ch is the channel of turn n, said by cases of ch
 unfoldable pub TurnOf : List ℕ → Plan → ℕ → Channel → Type 0
-TurnOf w p n (Crs s q) = (s < symbols (p .cell)) × (q < p .cell .ports) × (n ≡ s * p .cell .ports + q)
+TurnOf w p n (Crs s) = (s < symbols (p .cell)) × (n ≡ s)
 TurnOf w p n (Sync Primary) = n ≡ signalTurns (p .cell)
 TurnOf w p n (Sync Secondary) = n ≡ signalTurns (p .cell) + 1
 TurnOf w p n Pbch = n ≡ signalTurns (p .cell) + 2
@@ -80,19 +81,19 @@ TurnOf w p n Pcfich = n ≡ signalTurns (p .cell) + 3
 TurnOf w p n (Phich m) = (m < mappingUnits (p .cell)) × (n ≡ signalTurns (p .cell) + 4 + m)
 TurnOf w p n (User u) = (usersFirst p ≤ n) × (n < channelCount p) × (u ≡ nthUser w p (n - usersFirst p))
 
--- its owner: a user is the plan's user of its number
-abbrev pub ownerOfTurn : Plan → ℕ → Channel → Owner
-ownerOfTurn p n (Crs s q) = owner.Crs q
-ownerOfTurn p n (Sync m) = owner.Sync m
-ownerOfTurn p n Pbch = owner.Pbch
-ownerOfTurn p n Pcfich = owner.Pcfich
-ownerOfTurn p n (Phich m) = owner.Phich m
-ownerOfTurn p n (User u) = owner.User (n - usersFirst p)
+-- its owner at an element: a reference signal's is that of the element's port, a user is the plan's user of its number
+abbrev pub ownerOfTurn : Plan → ℕ → Channel → ℕ → Owner
+ownerOfTurn p n (Crs s) e = owner.Crs (e / placesOf (p .cell))
+ownerOfTurn p n (Sync m) e = owner.Sync m
+ownerOfTurn p n Pbch e = owner.Pbch
+ownerOfTurn p n Pcfich e = owner.Pcfich
+ownerOfTurn p n (Phich m) e = owner.Phich m
+ownerOfTurn p n (User u) e = owner.User (n - usersFirst p)
 
 -- ---- A CHANNEL'S SEQUENCE
 -- its c_init, and the bit of the sequence at which it starts; a mark has no sequence
 unfoldable pub initOf : Plan → Channel → ℕ
-initOf p (Crs s q) =
+initOf p (Crs s) =
     crsInit (p .cell .prefix) (p .cell .identity) (2 * p .frame .subframe + slotOf (p .cell) s) (inSlot (p .cell) s)
 initOf p (Sync m) = 0
 initOf p Pbch = p .cell .identity
@@ -101,7 +102,7 @@ initOf p (Phich m) = controlInit (p .cell) (p .frame)
 initOf p (User u) = userInit (p .cell) (p .frame) u
 
 unfoldable pub firstBit : Plan → Channel → ℕ
-firstBit p (Crs s q) = 2 * (110 - p .cell .blocks)
+firstBit p (Crs s) = 2 * (110 - p .cell .blocks)
 firstBit p (Sync m) = 0
 firstBit p Pbch = pbchFirst (p .cell) (p .frame)
 firstBit p Pcfich = 0
@@ -114,7 +115,7 @@ startPair p ch = pairAt (initOf p ch) (firstBit p ch)
 
 -- it has a sequence: every channel but the marks
 abbrev pub HasSequence : Channel → Type 0
-HasSequence (Crs s q) = Unit {0}
+HasSequence (Crs s) = Unit {0}
 HasSequence (Sync m) = ⊥
 HasSequence Pbch = Unit {0}
 HasSequence Pcfich = Unit {0}
@@ -123,7 +124,7 @@ HasSequence (User u) = Unit {0}
 
 -- what its start needs: a channel with a sequence, and parameters of the cell
 unfoldable pub Among : Plan → Channel → Type 0
-Among p (Crs s q) = (s < symbols (p .cell)) × (q < p .cell .ports)
+Among p (Crs s) = s < symbols (p .cell)
 Among p (Sync m) = ⊥
 Among p Pbch = Unit {0}
 Among p Pcfich = Unit {0}
@@ -131,9 +132,9 @@ Among p (Phich m) = m < mappingUnits (p .cell)
 Among p (User u) = UserIn (p .cell) u
 
 -- ---- WHAT IT SENDS
--- the subframe has it: the port's signal uses the symbol, the subframe has marks, "PBCH when f = 0"
+-- the subframe has it: a reference signal stands in the symbol, the subframe has marks, "PBCH when f = 0"
 unfoldable pub presentIn : Plan → Channel → Bool
-presentIn p (Crs s q) = crsSymbol (p .cell) q s
+presentIn p (Crs s) = signalled (p .cell) s
 presentIn p (Sync m) = marked (p .frame)
 presentIn p Pbch = eqb (p .frame .subframe) 0
 presentIn p Pcfich = true
@@ -152,7 +153,7 @@ markSent p Secondary e = sssSent (p .cell) (p .frame) e
 -- the elements that it sends where the subframe has it, and what it sends there with the pair r, bits its section of the payload; a PHICH
 -- unit has the bytes of its quad's sums instead, which are made for all units at once
 unfoldable pub elementsOf : Plan → Channel → ℕ → Bool
-elementsOf p (Crs s q) e = crsSends (p .cell) s q e
+elementsOf p (Crs s) e = crsSends (p .cell) s e
 elementsOf p (Sync m) e = markSends (p .cell) (markRow m) e
 elementsOf p Pbch e = areaSends (pbchArea (p .cell) (p .frame)) e
 elementsOf p Pcfich e = pcfichSends (p .cell) e
@@ -160,7 +161,7 @@ elementsOf p (Phich m) e = phichSends (p .cell) m e
 elementsOf p (User u) e = areaSends (userArea (p .cell) (p .frame) u) e
 
 unfoldable pub sentOf : Plan → List ℕ → Registers → Channel → ℕ → Element
-sentOf p bits r (Crs s q) e = crsSent (p .cell) r e
+sentOf p bits r (Crs s) e = crsSent (p .cell) r e
 sentOf p bits r (Sync m) e = markSent p m e
 sentOf p bits r Pbch e = areaElement (pbchArea (p .cell) (p .frame)) 2 2 bits r e
 sentOf p bits r Pcfich e = pcfichSent (p .cell) (p .frame .cfi) r e
@@ -181,7 +182,7 @@ allSend w p e = sentBelow w p (channelCount p) e
 -- ---- ITS SECTION of the payload, none for a channel without bits; `start` is where the next user's section starts. The units share that of
 -- the HIs
 unfoldable pub sectionOf : Plan → ℕ → Channel → Section
-sectionOf p start (Crs s q) = record { start = 0; end = 0 }
+sectionOf p start (Crs s) = record { start = 0; end = 0 }
 sectionOf p start (Sync m) = record { start = 0; end = 0 }
 sectionOf p start Pbch = record { start = 0; end = sectionBytes (pbchBitCount (p .cell) (p .frame)) }
 sectionOf p start Pcfich = record { start = 0; end = 0 }
@@ -196,7 +197,7 @@ pub record SumsOf (w : List ℕ) (p : Plan) (payload s : List ℕ) : Type 0 wher
 
 -- the bytes `bits` are what turn n is to send of the payload: its owner's bits, or the unit's sums
 unfoldable pub BitsOf : List ℕ → Plan → List ℕ → ℕ → List ℕ → Channel → Type 0
-BitsOf w p payload n bits (Crs s q) = Unit {0}
+BitsOf w p payload n bits (Crs s) = Unit {0}
 BitsOf w p payload n bits (Sync m) = Unit {0}
 BitsOf w p payload n bits Pbch = (k : ℕ) → k < 2 * countOf w p owner.Pbch → bitAt bits k ≡ ownerBit w p payload owner.Pbch k
 BitsOf w p payload n bits Pcfich = Unit {0}
@@ -209,7 +210,7 @@ abbrev pub partOf : Section → List ℕ → List ℕ
 partOf x payload = take (x .end - x .start) (drop (x .start) payload)
 
 unfoldable pub lentTo : Channel → List ℕ → List ℕ → List ℕ
-lentTo (Crs s q) sums bits = bits
+lentTo (Crs s) sums bits = bits
 lentTo (Sync m) sums bits = bits
 lentTo Pbch sums bits = bits
 lentTo Pcfich sums bits = bits

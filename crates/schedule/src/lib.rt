@@ -16,13 +16,14 @@ ghost use Rattle.layout.specs.Rules.{slotOf, inSlot};
 ghost use Rattle.layout.specs.Owners.{symbols};
 ghost use Rattle.counts.specs.Shape.{shapeOf};
 ghost use Rattle.subframe.specs.Elements.{pbchFirst, controlInit, userInit};
+ghost use Rattle.signals.specs.Signals.{signalled};
 ghost use Rattle.schedule.specs.Schedule.{signalTurns, channelCount, laterAt, channelAt, initOf, firstBit, Among, presentIn, sectionOf};
 ghost use Rattle.plan.specs.declared.Plan.{Plan as PlanOf};
-ghost use Rattle.schedule.specs.Cursor.{firstTurn, Due, Passing, Follows};
+ghost use Rattle.schedule.specs.Cursor.{firstTurn, laterTurn, Due, Passing, Follows};
 
-// Which channel: a port's reference signal in a symbol, a synchronisation mark, PBCH, PCFICH, a PHICH unit, a user.
+// Which channel: the reference signals of a symbol, a synchronisation mark, PBCH, PCFICH, a PHICH unit, a user.
 pub enum Channel {
-    Crs(u8, u8),
+    Crs(u8),
     Sync(Mark),
     Pbch,
     Pcfich,
@@ -44,19 +45,12 @@ pub struct Section {
     pub end: usize,
 }
 
-// The turns of the reference signals: one for each port in each symbol.
-fn signal_turns(cell: Cell) -> usize
-    ensures { λ r. ⌜ (r ≡ signalTurns cell) × (r ≤ 3570) ⌝ }
-{
-    layout::symbols(cell) * base::wide(cell.ports)
-}
-
 // How many turns a plan has. A plan from the plan check has at most 100 users.
 pub fn count(p: Plan) -> usize
     requires { ⌜ CellIn (p .cell) × (p .users .count ≤ 100) ⌝ }
     ensures { λ r. ⌜ r ≡ channelCount p ⌝ }
 {
-    signal_turns(p.cell) + 4 + plan::units(p.cell) + p.users.count
+    layout::symbols(p.cell) + 4 + plan::units(p.cell) + p.users.count
 }
 
 // The first turn.
@@ -65,6 +59,17 @@ pub fn first(p: Plan) -> Turn
 {
     Turn {
         number: 0,
+        at: p.users.at,
+        start: payload::users_start(p),
+    }
+}
+
+// The first turn after the reference signals.
+pub fn after_signals(p: Plan) -> Turn
+    ensures { λ r. ⌜ r ≡ laterTurn p ⌝ }
+{
+    Turn {
+        number: layout::symbols(p.cell),
         at: p.users.at,
         start: payload::users_start(p),
     }
@@ -94,13 +99,25 @@ pub fn channel_at(plan: &[u8], p: Plan, turn: Turn) -> Channel
     requires { ⌜ Due (now plan) p turn ⌝ }
     ensures { λ r. ⌜ r ≡ channelAt (now (plan .entry)) p (turn .number) ⌝ }
 {
-    let signals = signal_turns(p.cell);
+    let signals = layout::symbols(p.cell);
     let number = turn.number;
     if number < signals {
-        let ports = base::wide(p.cell.ports);
-        return Channel::Crs((number / ports) as u8, (number % ports) as u8);
+        return Channel::Crs(number as u8);
     }
     later_at(plan, p, turn, number - signals)
+}
+
+// Whether a reference signal stands in symbol s: that of ports 0 and 1 or, with four ports, that of ports 2 and 3.
+fn is_signalled(cell: Cell, s: usize) -> bool
+    ensures { λ r. ⌜ r ≡ signalled cell s ⌝ }
+{
+    if layout::crs_uses(cell, 0, s) {
+        return true;
+    }
+    if cell.ports == 4 {
+        return layout::crs_uses(cell, 2, s);
+    }
+    false
 }
 
 // Whether the subframe has the channel.
@@ -108,7 +125,7 @@ pub fn present(p: Plan, ch: Channel) -> bool
     ensures { λ r. ⌜ r ≡ presentIn p ch ⌝ }
 {
     match ch {
-        Channel::Crs(s, port) => layout::crs_uses(p.cell, port, base::wide(s)),
+        Channel::Crs(s) => is_signalled(p.cell, base::wide(s)),
         Channel::Sync(_) => layout::is_marked(p.frame),
         Channel::Pbch => p.frame.subframe == 0,
         Channel::Pcfich => true,
@@ -123,7 +140,7 @@ pub fn section_of(p: Plan, shape: Shape, start: usize, ch: Channel) -> Section
     ensures { λ r. ⌜ r ≡ sectionOf p start ch ⌝ }
 {
     match ch {
-        Channel::Crs(_, _) => Section { start: 0, end: 0 },
+        Channel::Crs(_) => Section { start: 0, end: 0 },
         Channel::Sync(_) => Section { start: 0, end: 0 },
         Channel::Pbch => Section {
             start: 0,
@@ -211,7 +228,7 @@ fn c_init(p: Plan, ch: Channel) -> u32
     let cell = p.cell;
     let frame = p.frame;
     match ch {
-        Channel::Crs(s, _) => crs_init(cell, frame, s),
+        Channel::Crs(s) => crs_init(cell, frame, s),
         Channel::Sync(_) => 0,
         Channel::Pbch => cell.identity as u32,
         Channel::Pcfich => control_init(cell, frame),
@@ -228,7 +245,7 @@ fn first_bit(p: Plan, ch: Channel) -> usize
     let cell = p.cell;
     let frame = p.frame;
     match ch {
-        Channel::Crs(_, _) => 2 * (110 - base::wide(cell.blocks)),
+        Channel::Crs(_) => 2 * (110 - base::wide(cell.blocks)),
         Channel::Sync(_) => 0,
         Channel::Pbch => pbch_first(cell, frame),
         Channel::Pcfich => 0,

@@ -28,10 +28,11 @@ use Rattle.layout.specs.Owners.{symbols, carriers}
 use Rattle.layout.proofs.Pilot.{slot-length}
 use Rattle.counts.proofs.Ranges.{big}
 use Rattle.places.specs.Places.{symbolAt, carrierAt, placesOf}
+use Rattle.grid.specs.Writing.{Room}
 use Rattle.grid.proofs.Accumulating.{Deed, Step, Accumulates}
 use Rattle.subframe.specs.Elements.{markNumber, pssElement, sssElement}
-use Rattle.signals.specs.Signals.{crsSends, crsFrom, crsSent, markSends, pssSent, sssSent}
-use Rattle.signals.specs.Rows.{MarkIn, SignalIn, crsPlace, everySixth, pairSent, inRow, phaseElement, phaseSent, levelElement, levelSent}
+use Rattle.signals.specs.Signals.{portSends, crsFrom, crsSent, markSends, pssSent, sssSent}
+use Rattle.signals.specs.Rows.{MarkIn, crsPlace, everySixth, pairSent, inRow, phaseElement, phaseSent, levelElement, levelSent}
 use Rattle.signals.proofs.Stretches.{sixth-is, sixth-of, row-is as in-row, row-of}
 
 -- ---- the first element of a symbol
@@ -102,8 +103,8 @@ module _ (c : Cell) (s q a first : ℕ) (ok : CellIn c) (in-s : s < symbols c)
         d .1,
       )
 
-  sends : (e : ℕ) → everySixth first (2 * c .blocks) e ≡ true → crsSends c s q e ≡ true
-  unfolding crsSends standsAt
+  sends : (e : ℕ) → everySixth first (2 * c .blocks) e ≡ true → portSends c s q e ≡ true
+  unfolding portSends standsAt
   sends e h =
       let d = there e h in
       let k = carrierAt c (e % placesOf c) in
@@ -114,8 +115,8 @@ module _ (c : Cell) (s q a first : ℕ) (ok : CellIn c) (in-s : s < symbols c)
       residue : (a x : ℕ) → a < 6 → x % 6 ≡ 0 → (a + x) % 6 ≡ a
       residue a x l h = omega arith
 
-  sent : (e : ℕ) → crsSends c s q e ≡ true → everySixth first (2 * c .blocks) e ≡ true
-  unfolding crsSends standsAt
+  sent : (e : ℕ) → portSends c s q e ≡ true → everySixth first (2 * c .blocks) e ≡ true
+  unfolding portSends standsAt
   sent e h =
       let T = placesOf c in
       let t = e % T in
@@ -133,8 +134,8 @@ module _ (c : Cell) (s q a first : ℕ) (ok : CellIn c) (in-s : s < symbols c)
       back : (N k a first e : ℕ) → k % 6 ≡ a → e ≡ first + (k - a) → k < 12 * N → everySixth first (2 * N) e ≡ true
       back N k a first e m y l = sixth-is first (2 * N) e (omega arith) (omega arith) (omega arith)
 
-  crs-elements : (e : ℕ) → everySixth first (2 * c .blocks) e ≡ crsSends c s q e
-  crs-elements e = same-test (everySixth first (2 * c .blocks) e) (crsSends c s q e) (sends e) (sent e)
+  crs-elements : (e : ℕ) → everySixth first (2 * c .blocks) e ≡ portSends c s q e
+  crs-elements e = same-test (everySixth first (2 * c .blocks) e) (portSends c s q e) (sends e) (sent e)
 
   crs-values : (r : Registers) (e : ℕ) → everySixth first (2 * c .blocks) e ≡ true → pairSent r first e ≡ crsSent c r e
   unfolding pairSent crsSent
@@ -155,22 +156,22 @@ crs-first c s q er ea = rw (er, ea) refl
 pub crs-given : {N B : ℕ} → N ≡ B → (r : Registers) {result : Registers} → result ≡ after r (2 * (2 * N)) → result ≡ after r (4 * B)
 crs-given {N = N} {B = B} e r h = let bits : 2 * (2 * N) ≡ 4 * B = omega arith in h ∙ ap (after r) bits
 
-module _ {c : Cell} {s q : ℕ} {g : List ℕ} (ready : SignalIn c s q g) {first N : ℕ} (ef : first ≡ crsPlace c s q) (eN : N ≡ c .blocks) where
+module _ {c : Cell} {s q : ℕ} (on : CellIn c × (s < symbols c) × (q < c .ports)) {first N : ℕ} (ef : first ≡ crsPlace c s q) (eN : N ≡ c .blocks) where
   -- the last one lies in the grid
-  pub crs-inside : 3 * (first + 6 * (2 * N)) + 2 < length g + 18
+  pub crs-inside : {g : List ℕ} → Room (c .ports) (placesOf c) g → 3 * (first + 6 * (2 * N)) + 2 < length g + 18
   unfolding crsPlace
-  crs-inside =
-      let in-row : s * carriers c + carriers c ≤ placesOf c = row-inside s (symbols c) (carriers c) (carriers c) (ready .symbol) (omega arith) in
-      let in-port : q * placesOf c + placesOf c ≤ c .ports * placesOf c = row-inside q (c .ports) (placesOf c) (placesOf c) (ready .port) (omega arith) in
-      omega (arith, ready .room .size)
+  crs-inside room =
+      let in-row : s * carriers c + carriers c ≤ placesOf c = row-inside s (symbols c) (carriers c) (carriers c) (on .1) (omega arith) in
+      let in-port : q * placesOf c + placesOf c ≤ c .ports * placesOf c = row-inside q (c .ports) (placesOf c) (placesOf c) (on .2) (omega arith) in
+      omega (arith, room .size)
 
-  pub crs-done :
-      {X : Type 0} {Done : Deed X} {Also : Step X} {none x : X} → Accumulates Done Also none → (r : Registers)
-      → Done (everySixth first (2 * N)) (pairSent r first) x → Done (crsSends c s q) (crsSent c r) x
+  pub port-elements : (e : ℕ) → everySixth first (2 * N) e ≡ portSends c s q e
   unfolding crsPlace
-  crs-done A r d =
-      let a = (crsShift c q s + c .identity) % 6 in
-      A .same (crs-elements c s q a first (ready .cell) (ready .symbol) refl ef) (crs-values c s q a first (ready .cell) (ready .symbol) refl ef r) (rw eN at d)
+  port-elements = rw eN (crs-elements c s q ((crsShift c q s + c .identity) % 6) first (on .0) (on .1) refl ef)
+
+  pub port-values : (r : Registers) (e : ℕ) → everySixth first (2 * N) e ≡ true → pairSent r first e ≡ crsSent c r e
+  unfolding crsPlace
+  port-values = rw eN (crs-values c s q ((crsShift c q s + c .identity) % 6) first (on .0) (on .1) refl ef)
 
 -- ---- synchronisation signals
 module _ (c : Cell) (ok : CellIn c) (y first : ℕ) (in-y : (1 ≤ y) × (y ≤ 2)) (ef : first ≡ (slotLength c - y) * carriers c + (6 * c .blocks - 31)) where

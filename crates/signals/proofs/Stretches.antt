@@ -1,26 +1,15 @@
--- Elements by their numbers: every sixth from a first one on, and all from a first one on. Assumes nothing.
+-- Elements by their numbers: every sixth from a first one on, on one port or on two, and all from a first one on. Assumes nothing.
 use Prim.Native.Nat.{ℕ, _+_, _-_, _*_, _/_, _%_, _≤_, _<_}
-use mathlib.Core.Path.{_≡_, refl}
+use mathlib.Core.Path.{_≡_, refl, sym, _∙_}
 use mathlib.Core.Logic.{_⊎_, inl, inr}
-use mathlib.Core.Bool.{Bool, true, false, _&&_, _||_}
+use mathlib.Core.Bool.{true, false, _&&_, _||_}
 use native.Mathlib.Decide.{decLe}
 use native.Mathlib.Omega.{arith}
 use lib.Dec.{leb, ltb, eqb}
-use borrow.Author.Tests.{leb-true, le-leb, ltb-true, lt-ltb, eqb-true, eq-eqb}
-use Rattle.base.proofs.Tests.{both, is-false, same-test}
+use borrow.Author.Tests.{leb-true, le-leb, lt-leb, ltb-true, lt-ltb, eqb-true, eq-eqb}
+use Rattle.base.proofs.Tests.{both, or-cases, or-left, or-right, is-false, same-test}
 use Rattle.plan.proofs.Listed.{and-left, and-right}
-use Rattle.signals.specs.Rows.{everySixth, inRow}
-
-or-cases : (a b : Bool) → a || b ≡ true → (a ≡ true) ⊎ (b ≡ true)
-or-cases true b e = inl refl
-or-cases false b e = inr e
-
-or-left : (a b : Bool) → a ≡ true → a || b ≡ true
-or-left a b e = rw e refl
-
-or-right : (a b : Bool) → b ≡ true → a || b ≡ true
-or-right true b e = refl
-or-right false b e = e
+use Rattle.signals.specs.Rows.{everySixth, onFirst, inRow}
 
 -- ---- every sixth
 pub sixth-is : (first n e : ℕ) → first ≤ e → (e - first) % 6 ≡ 0 → (e - first) / 6 < n → everySixth first n e ≡ true
@@ -74,6 +63,54 @@ sixth-apart first m n e h k = let a = sixth-of first m e h in let b = sixth-of (
 
 pub sixth-past : (first m e : ℕ) → everySixth first m e ≡ true → eqb (first + 6 * m) e ≡ true → ⊥
 sixth-past first m e h k = let a = sixth-of first m e h in let b = eqb-true (first + 6 * m) e k in omega arith
+
+-- ---- on two ports
+pub on-second : (first second e : ℕ) → second ≤ e → onFirst first second e ≡ first + (e - second)
+unfolding onFirst
+on-second first second e l = rw (le-leb second e l) refl
+
+pub on-first : (first second e : ℕ) → e < second → onFirst first second e ≡ e
+unfolding onFirst
+on-first first second e l = rw (lt-leb second e l) refl
+
+-- n elements from f and from s on, which lie as far past `first` and `second`; those from f on end before `second`
+module _ (first second f s n e : ℕ) (past : first ≤ f) (alike : f + second ≡ s + first) (before : f + 6 * n ≤ second) where
+  pub sixth-both : everySixth f n (onFirst first second e) ≡ everySixth s n e || everySixth f n e
+  sixth-both =
+      same-test (everySixth f n (onFirst first second e)) (everySixth s n e || everySixth f n e)
+      (down (decLe second e))
+      (λ h. up (or-cases (everySixth s n e) (everySixth f n e) h))
+    where
+      down : Dec (second ≤ e) → everySixth f n (onFirst first second e) ≡ true → everySixth s n e || everySixth f n e ≡ true
+      down (yes l) h =
+          let d = sixth-of f n (first + (e - second)) (rw (on-second first second e l) at h) in
+          or-left (everySixth s n e) (everySixth f n e) (sixth-is s n e (omega arith) (omega arith) (omega arith))
+      down (no l) h = or-right (everySixth s n e) (everySixth f n e) (rw (on-first first second e (omega arith)) at h)
+
+      up : (everySixth s n e ≡ true) ⊎ (everySixth f n e ≡ true) → everySixth f n (onFirst first second e) ≡ true
+      up (inl h) =
+          let d = sixth-of s n e h in
+          rw (on-second first second e (omega arith)) (sixth-is f n (first + (e - second)) (omega arith) (omega arith) (omega arith))
+      up (inr h) = let d = sixth-of f n e h in rw (on-first first second e (omega arith)) h
+
+-- so it is the same to count from f and s
+pub sixth-like : (first second f s n e : ℕ) → first ≤ f → f + second ≡ s + first → f + 6 * n ≤ second
+    → (everySixth f n (onFirst f s e) ≡ everySixth f n (onFirst first second e)) × (everySixth f n (onFirst f s e) ≡ true → onFirst f s e ≡ onFirst first second e)
+sixth-like first second f s n e past alike before =
+    let own = sixth-both f s f s n e (omega arith) (omega arith) (omega arith) in
+    (own ∙ sym (sixth-both first second f s n e past alike before), λ h. by (or-cases (everySixth s n e) (everySixth f n e) (sym own ∙ h)))
+  where
+    by : (everySixth s n e ≡ true) ⊎ (everySixth f n e ≡ true) → onFirst f s e ≡ onFirst first second e
+    by (inl h) =
+        let d = sixth-of s n e h in
+        let j : f + (e - s) ≡ first + (e - second) = omega arith in
+        on-second f s e (d .0) ∙ j ∙ sym (on-second first second e (omega arith))
+    by (inr h) = let d = sixth-of f n e h in on-first f s e (omega arith) ∙ sym (on-first first second e (omega arith))
+
+-- one element on either
+pub one-both : (first second f s e : ℕ) → first ≤ f → f + second ≡ s + first → f + 6 ≤ second → eqb f (onFirst first second e) ≡ eqb s e || eqb f e
+one-both first second f s e a b d =
+    rw (← sixth-only f (onFirst first second e), ← sixth-only s e, ← sixth-only f e) (sixth-both first second f s 1 e a b (omega arith))
 
 -- ---- all
 pub row-is : (first n e : ℕ) → first ≤ e → e < first + n → inRow first n e ≡ true

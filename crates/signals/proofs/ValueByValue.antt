@@ -1,6 +1,6 @@
 -- THE LOOPS OVER A SIGNAL'S ELEMENTS, whether they write or compare: the elements so far are done with their values. Assumes nothing.
 use Prim.Native.Nat.{ℕ, _+_, _-_, _*_, _/_, _%_, _^_, _≤_, _<_}
-use mathlib.Core.Path.{_≡_, sym, ap, _∙_}
+use mathlib.Core.Path.{_≡_, refl, sym, ap, _∙_}
 use native.Mathlib.Omega.{arith}
 use lib.Dec.{eqb}
 use borrow.Author.Tests.{eqb-true}
@@ -12,8 +12,8 @@ use Rattle.gold.specs.Steps.{after, wordOf}
 use Rattle.gold.proofs.Laws.{after-none}
 use Rattle.crs.specs.Crs.{wordValue}
 use Rattle.grid.proofs.Accumulating.{Deed, Step, Accumulates, empty}
-use Rattle.signals.specs.Rows.{everySixth, wordSent, pairSent, inRow}
-use Rattle.signals.proofs.Stretches.{sixth-none, sixth-more, sixth-one, sixth-apart, sixth-past, row-none, row-one, row-past}
+use Rattle.signals.specs.Rows.{everySixth, wordSent, pairSent, onFirst, onBoth, inRow}
+use Rattle.signals.proofs.Stretches.{sixth-none, sixth-more, sixth-one, sixth-apart, sixth-past, sixth-like, one-both, row-none, row-one, row-past}
 use Rattle.signals.proofs.Values.{word-value, pair-value, pair-next}
 
 -- the first i of the n values of one word
@@ -76,3 +76,37 @@ module _ {X : Type 0} {Done : Deed X} {Also : Step X} {none : X} (A : Accumulate
 
   pub row-last : {W : ℕ → Element} {first i : ℕ} {x : X} → RowDone Done W first i x → 62 ≤ i → Done (inRow first 62) W x
   row-last {i = i} h l = let j : i ≡ 62 = omega (arith, h .most) in rw j at (h .done)
+
+-- ---- the same values on two ports: an element stands for its like on the first one, and all of the above holds
+abbrev pub BothDone : ℕ → ℕ → {X : Type 0} → Deed X → Deed X
+BothDone first second Done D W x = Done (onBoth first second D) (onBoth first second W) x
+
+module _ (first second : ℕ) {X : Type 0} {Done : Deed X} {Also : Step X} {none : X} (A : Accumulates Done Also none) where
+  pub on-both : Accumulates (BothDone first second Done) (λ D W x y. Also (onBoth first second D) (onBoth first second W) x y) none
+  on-both =
+      let at = onFirst first second in
+      record {
+        nothing = λ W. A .nothing (onBoth first second W);
+        same = λ d v p. A .same (λ e. d (at e)) (λ e. v (at e)) p;
+        more = λ a p k v d. A .more (λ e. a (at e)) p k (λ e. v (at e)) (λ e. d (at e));
+      }
+
+  -- value i, first on the one, then on the other
+  pub value-both :
+      {n i : ℕ} {x y : X} {el : Element} → first + 6 * n ≤ second → i < n → Done (eqb (first + 6 * i)) (λ (e : ℕ). el) x → Also (eqb (second + 6 * i)) (λ (e : ℕ). el) x y
+      → Done (onBoth first second (eqb (first + 6 * i))) (λ (e : ℕ). el) y
+  value-both {i = i} l k d also =
+      A .more (λ e h t. let a = eqb-true (first + 6 * i) e h in let b = eqb-true (second + 6 * i) e t in omega arith) d also (λ e t. refl)
+      (λ e. one-both first second (first + 6 * i) (second + 6 * i) e (omega arith) (omega arith) (omega arith))
+
+  -- a word's values, counted from their own first elements
+  pub word-both :
+      (m count word : ℕ) {x : X} → let f = first + 6 * m in let s = second + 6 * m in let W = wordSent word count f in
+      first + 6 * (m + count) ≤ second → Done (onBoth f s (everySixth f count)) (onBoth f s W) x → Done (onBoth first second (everySixth f count)) (onBoth first second W) x
+  word-both m count word l d =
+      let f = first + 6 * m in
+      let s = second + 6 * m in
+      let past : first ≤ f = omega arith in
+      let alike : f + second ≡ s + first = omega arith in
+      let before : f + 6 * count ≤ second = omega arith in
+      A .same (λ e. sixth-like first second f s count e past alike before .0) (λ e t. ap (wordSent word count f) (sixth-like first second f s count e past alike before .1 t)) d

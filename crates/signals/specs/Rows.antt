@@ -1,6 +1,7 @@
 -- For the inner contracts and loops only: what the functions over a signal need, and its elements by their numbers, from the first one on.
 use Prim.Native.Nat.{ℕ, _+_, _-_, _*_, _/_, _%_, _^_, _<_}
-use mathlib.Core.Bool.{Bool, _&&_}
+use mathlib.Core.Path.{_≡_}
+use mathlib.Core.Bool.{Bool, true, cond, _&&_}
 use mathlib.Core.List.{List}
 use lib.Dec.{leb, ltb, eqb}
 use lib.IntN.{pos}
@@ -17,18 +18,18 @@ use Rattle.layout.specs.Rules.{crsShift}
 use Rattle.layout.specs.Owners.{symbols, carriers}
 use Rattle.places.specs.Places.{placesOf}
 use Rattle.grid.specs.Writing.{Room}
-use Rattle.signals.specs.Signals.{crsFrom}
+use Rattle.signals.specs.Signals.{crsFrom, signalled}
 
 -- an accepted cell and its whole grid
 pub record MarkIn (c : Cell) (grid : List ℕ) : Type 0 where
   pub cell : CellIn c
   pub room : Room (c .ports) (placesOf c) grid
 
--- and a symbol and a port of it
-pub record SignalIn (c : Cell) (s q : ℕ) (grid : List ℕ) : Type 0 where
+-- and a symbol of it in which a reference signal stands
+pub record SymbolIn (c : Cell) (s : ℕ) (grid : List ℕ) : Type 0 where
   pub cell : CellIn c
   pub symbol : s < symbols c
-  pub port : q < c .ports
+  pub signal : signalled c s ≡ true
   pub room : Room (c .ports) (placesOf c) grid
 
 -- the first element of a port's reference signal in symbol s
@@ -49,6 +50,14 @@ wordSent word n first e = valueIn word n ((e - first) / 6)
 -- value m of what the pair gives
 unfoldable pub pairSent : Registers → ℕ → ℕ → Element
 pairSent r first e = elementOf 2 (crsFrom r ((e - first) / 6))
+
+-- ---- the same values on two ports, from `first` on and from `second` on. The element on the first port that has e's value
+unfoldable pub onFirst : ℕ → ℕ → ℕ → ℕ
+onFirst first second e = cond (leb second e) (first + (e - second)) e
+
+-- a test of the first port's elements, or their values, on both ports
+abbrev pub onBoth : {A : Type 0} → ℕ → ℕ → (ℕ → A) → ℕ → A
+onBoth first second f e = f (onFirst first second e)
 
 -- ---- synchronisation: 62 elements from `first` on
 unfoldable pub inRow : ℕ → ℕ → ℕ → Bool

@@ -10,6 +10,7 @@ ghost use Rattle.plan.specs.Valid.{CellIn};
 ghost use Rattle.layout.specs.Rules.{slotLength};
 ghost use Rattle.layout.specs.Owners.{symbols, carriers};
 ghost use Rattle.places.specs.Places.{placesOf};
+ghost use Rattle.signals.specs.Signals.{crsPort};
 ghost use Rattle.signals.specs.Rows.{crsPlace, phaseElement, levelElement};
 
 // The number of the first element of symbol s on a port. Callers ask inside a grid: at most 14 symbols.
@@ -19,6 +20,13 @@ fn row_at(cell: Cell, s: usize, port: u8) -> usize
 {
     let rows = base::wide(port) * layout::symbols(cell) + s;
     rows * layout::carriers(cell)
+}
+
+// The first of the ports whose reference signals stand in symbol s.
+pub fn crs_port(cell: Cell, s: usize) -> u8
+    ensures { λ r. ⌜ r ≡ crsPort cell s ⌝ }
+{
+    if layout::crs_uses(cell, 0, s) { 0 } else { 2 }
 }
 
 // The number of the first element of a port's reference signal in symbol s. Callers have the cell from an accepted plan.

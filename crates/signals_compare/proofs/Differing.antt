@@ -1,6 +1,6 @@
 -- THE LAWS OF BITS THAT DIFFER: they are an instance of what loops over a grid's elements share, the state being the bits so far; a
 -- reference value as a number; and none differs just when a symbol's values, none of whose bytes is 0, stand in the grid. Assumes nothing.
-use Prim.Native.Nat.{ℕ, zero, suc, _+_, _-_, _*_, _/_, _%_, _<_}
+use Prim.Native.Nat.{ℕ, zero, suc, _+_, _-_, _*_, _/_, _%_, _≤_, _<_}
 use mathlib.Core.Path.{_≡_, refl, sym, ap, _∙_}
 use mathlib.Core.Bool.{Bool, true, false, _||_}
 use mathlib.Core.List.{List}
@@ -25,8 +25,8 @@ use Rattle.compare.proofs.Comparing.{weight-same, weight-or, weight-none, weigh
 use Rattle.element_pairs.specs.Numbers.{elementFrom, OneRead}
 use Rattle.element_pairs.proofs.Puts.{or-none, none-or, none-same, same-none}
 use Rattle.signals.specs.Signals.{crsFrom}
-use Rattle.signals.specs.Rows.{everySixth, pairSent}
-use Rattle.signals.proofs.Stretches.{sixth-none, sixth-one, sixth-past}
+use Rattle.signals.specs.Rows.{everySixth, pairSent, onFirst, onBoth}
+use Rattle.signals.proofs.Stretches.{sixth-of, sixth-none, sixth-one, sixth-past, sixth-both}
 use Rattle.signals_compare.specs.Differing.{Differing}
 
 abbrev pub DifferingIn : List ℕ → Deed ℕ
@@ -98,7 +98,7 @@ value-weight zero (suc b) = refl
 value-weight (suc a) zero = refl
 value-weight (suc a) (suc b) = refl
 
-sixth-weight :
+pub sixth-weight :
     (g : List ℕ) (first n : ℕ) → 3 * (first + 6 * n) + 2 < length g + 18 → ((e : ℕ) → everySixth first n e ≡ true → weightOf (elementIn g e) ≡ 3)
     → weightIn (everySixth first n) g (length g / 3) ≡ 3 * n
 sixth-weight g first zero l w = weight-none g (everySixth first 0) (length g / 3) (λ e k t. clash t (sixth-none first e))
@@ -113,14 +113,33 @@ sixth-weight g first (suc n) l w =
     let one = weight-one g new N (omega arith) ∙ w new (d new ∙ or-left (eqb new new) (everySixth first n new) (eq-eqb new new refl)) in
     omega (arith, sum, old, one)
 
--- all n values that the pair gives are compared
-module _ (r : Registers) (n first : ℕ) {g : List ℕ} {bits : ℕ} (d : Differing (everySixth first n) (pairSent r first) g bits) where
-  pub values-same : 3 * (first + 6 * n) + 2 < length g + 18 → bits ≡ 0 → Compared (everySixth first n) (pairSent r first) g (Weight (3 * n))
-  unfolding pairSent crsFrom
-  values-same inside z =
-      let k = d .none z in
-      let i : ℕ → ℕ = λ e. 2 * ((e - first) / 6) in
-      holds-of k (sym (sixth-weight g first n inside (λ e t. ap weightOf (k .elements e t) ∙ value-weight (outputs r (i e)) (outputs r (i e + 1)))))
+-- on two ports twice as many
+pub both-weight :
+    (g : List ℕ) (first second n : ℕ) → first + 6 * n ≤ second → 3 * (second + 6 * n) + 2 < length g + 18
+    → ((e : ℕ) → onBoth first second (everySixth first n) e ≡ true → weightOf (elementIn g e) ≡ 3) → weightIn (onBoth first second (everySixth first n)) g (length g / 3) ≡ 6 * n
+both-weight g first second n apart l w =
+    let N = length g / 3 in
+    let one = everySixth first n in
+    let other = everySixth second n in
+    let d : (e : ℕ) → one (onFirst first second e) ≡ other e || one e = λ e. sixth-both first second first second n e (omega arith) (omega arith) apart in
+    let sum = weight-same g (onBoth first second one) (λ (e : ℕ). other e || one e) N (λ e k. d e)
+    ∙ weight-or g one other N (λ e k h t. let a = sixth-of first n e h in let b = sixth-of second n e t in omega arith) in
+    omega (
+      arith,
+      sum,
+      sixth-weight g first n (omega arith) (λ e t. w e (d e ∙ or-right (other e) (one e) t)),
+      sixth-weight g second n l (λ e t. w e (d e ∙ or-left (other e) (one e) t)),
+    )
 
-  pub values-differ : (bits ≡ 0 → ⊥) → Compared (everySixth first n) (pairSent r first) g Differs
-  values-differ z = differs (λ k. z (d .same k))
+pub pair-weight : (r : Registers) (first e : ℕ) → weightOf (pairSent r first e) ≡ 3
+unfolding pairSent crsFrom
+pair-weight r first e = let i = 2 * ((e - first) / 6) in value-weight (outputs r i) (outputs r (i + 1))
+
+-- all values are compared
+module _ {D : ℕ → Bool} {W : ℕ → Element} {g : List ℕ} {bits : ℕ} (d : Differing D W g bits) where
+  pub all-same : (k : ℕ) → ((e : ℕ) → weightOf (W e) ≡ 3) → (((e : ℕ) → D e ≡ true → weightOf (elementIn g e) ≡ 3) → weightIn D g (length g / 3) ≡ k)
+      → bits ≡ 0 → Compared D W g (Weight k)
+  all-same k three sum z = let h = d .none z in holds-of h (sym (sum (λ e t. ap weightOf (h .elements e t) ∙ three e)))
+
+  pub some-differ : (bits ≡ 0 → ⊥) → Compared D W g Differs
+  some-differ z = differs (λ k. z (d .same k))

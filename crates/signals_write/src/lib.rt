@@ -9,7 +9,7 @@ ghost use lib.ListN.{length};
 ghost use Rattle.gold.specs.Steps.{after};
 ghost use Rattle.grid.specs.Writing.{Written};
 ghost use Rattle.signals.specs.Signals.{crsSends, crsSent, markSends, pssSent, sssSent};
-ghost use Rattle.signals.specs.Rows.{MarkIn, SignalIn, everySixth, wordSent, pairSent, inRow, phaseSent, levelSent};
+ghost use Rattle.signals.specs.Rows.{MarkIn, SymbolIn, everySixth, wordSent, pairSent, onBoth, inRow, phaseSent, levelSent};
 
 // The n values of a word of 2n bits, at every sixth element. Callers take n from `signals::at_once`, and the last element lies in the grid.
 fn fill_word(word: u32, n: usize, first: usize, grid: &mut [u8])
@@ -42,14 +42,60 @@ fn fill_values(r: Registers, n: usize, first: usize, grid: &mut [u8]) -> Registe
     pair
 }
 
-// A port's reference signal in symbol s, from the pair that stands at the symbol's first value. Callers have the cell from an
-// accepted plan, and have compared the grid's length.
-pub fn fill_crs(r: Registers, cell: Cell, s: usize, port: u8, grid: &mut [u8]) -> Registers
-    requires { ⌜ SignalIn cell s port (now grid) ⌝ }
-    ensures { λ result. ⌜ Written (crsSends cell s port) (crsSent cell r) (now (grid .entry)) (now (grid .exit)) × (result ≡ after r (4 * cell .blocks)) ⌝ }
+// The n values of a word on two ports, from `first` and `second` on, as for one. The signal on the first port ends before `second`.
+fn fill_word_on_both(word: u32, n: usize, first: usize, second: usize, grid: &mut [u8])
+    requires { ⌜ (n ≤ 14) × (first + 6 * n ≤ second) × (3 * (second + 6 * n) + 2 < length (now grid) + 18) ⌝ }
+    ensures { λ _. ⌜ Written (onBoth first second (everySixth first n)) (onBoth first second (wordSent word n first)) (now (grid .entry)) (now (grid .exit)) ⌝ }
 {
+    let mut i: usize = 0;
+    while i < n {
+        let low = 2 * (n - 1 - i);
+        let d = crs::value((word >> low) % 4);
+        let e = base::element_of(2, d);
+        grid::put(grid, first + 6 * i, e);
+        grid::put(grid, second + 6 * i, e);
+        i += 1;
+    }
+}
+
+// The first n values that the pair gives, on two ports: the sequence does not depend on the port (6.10.1.1), so it is made once.
+fn fill_values_on_both(
+    r: Registers,
+    n: usize,
+    first: usize,
+    second: usize,
+    grid: &mut [u8],
+) -> Registers
+    requires { ⌜ (first + 6 * n ≤ second) × (3 * (second + 6 * n) + 2 < length (now grid) + 18) ⌝ }
+    ensures { λ result. ⌜ Written (onBoth first second (everySixth first n)) (onBoth first second (pairSent r first)) (now (grid .entry)) (now (grid .exit)) × (result ≡ after r (2 * n)) ⌝ }
+{
+    let mut pair = r;
+    let mut m: usize = 0;
+    while m < n {
+        let count = signals::at_once(n - m);
+        let bits = (2 * count) as u32;
+        let word = gold::word(pair, bits);
+        fill_word_on_both(word, count, first + 6 * m, second + 6 * m, grid);
+        pair = gold::advance(pair, bits);
+        m += count;
+    }
+    pair
+}
+
+// The reference signals of symbol s on all ports that send there, from the pair that stands at the symbol's first value; the pair
+// after them. Callers have the cell from an accepted plan, and have compared the grid's length.
+pub fn fill_crs(r: Registers, cell: Cell, s: usize, grid: &mut [u8]) -> Registers
+    requires { ⌜ SymbolIn cell s (now grid) ⌝ }
+    ensures { λ result. ⌜ Written (crsSends cell s) (crsSent cell r) (now (grid .entry)) (now (grid .exit)) × (result ≡ after r (4 * cell .blocks)) ⌝ }
+{
+    let n = 2 * base::wide(cell.blocks);
+    let port = signals::crs_port(cell, s);
     let first = signals::crs_at(cell, s, port);
-    fill_values(r, 2 * base::wide(cell.blocks), first, grid)
+    if cell.ports == 1 {
+        return fill_values(r, n, first, grid);
+    }
+    let second = signals::crs_at(cell, s, port + 1);
+    fill_values_on_both(r, n, first, second, grid)
 }
 
 // The primary signal's 62 elements.

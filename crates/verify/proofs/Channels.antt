@@ -40,8 +40,8 @@ use Rattle.areas.specs.Areas.{areaCount, pbchArea, userArea, AreaIn}
 use Rattle.areas.specs.Tables.{RowMasks}
 use Rattle.areas.proofs.AreaOwners as areas
 use Rattle.data_compare.specs.Symbols.{AreaCompared, CompareIn}
-use Rattle.signals.specs.Signals.{crsSends, crsSent, markSends, pssSent, sssSent}
-use Rattle.signals.specs.Rows.{MarkIn, SignalIn}
+use Rattle.signals.specs.Signals.{signalled, crsSends, crsSent, markSends, pssSent, sssSent}
+use Rattle.signals.specs.Rows.{MarkIn, SymbolIn}
 use Rattle.control.specs.Control.{pcfichSends, pcfichSent, phichSends, phichSent}
 use Rattle.control.specs.Filling.{PcfichIn, PhichIn}
 use Rattle.control_read.specs.Reading.{HisRead, ackFrom}
@@ -101,12 +101,14 @@ module _ {w : List ℕ} {p : Plan} {g : List ℕ} where
     turn-as : {c : Channel} → ch ≡ c → TurnOf w p (k .number) c
     turn-as e = subst (TurnOf w p (k .number)) e (k .turn)
 
-    pub crs-starts : {s q : ℕ} → ch ≡ Crs s q → CellIn (p .cell) × FrameIn (p .frame) × Among p (Crs s q)
-    crs-starts {s} {q} e = begins w p ok (k .number) (Crs s q) tt (turn-as e)
+    pub crs-starts : {s : ℕ} → ch ≡ Crs s → CellIn (p .cell) × FrameIn (p .frame) × Among p (Crs s)
+    crs-starts {s} e = begins w p ok (k .number) (Crs s) tt (turn-as e)
 
-    pub crs-ready : {s q y : ℕ} → ch ≡ Crs s q → y ≡ s → SignalIn (p .cell) y q g
-    unfolding TurnOf
-    crs-ready e ey = let t = turn-as e in record { cell = cell-in; symbol = rw ey (t .0); port = t .1; room = k .given .room }
+    pub crs-ready : {s y : ℕ} → ch ≡ Crs s → y ≡ s → SymbolIn (p .cell) y g
+    unfolding TurnOf presentIn
+    crs-ready e ey =
+        let y = subst (λ (c : Channel). presentIn p c ≡ true) e (k .present) in
+        record { cell = cell-in; symbol = rw ey (turn-as e .0); signal = ap (signalled (p .cell)) ey ∙ y; room = k .given .room }
 
     pub mark-ready : MarkIn (p .cell) g
     mark-ready = record { cell = cell-in; room = k .given .room }
@@ -185,7 +187,7 @@ module _ {w : List ℕ} {p : Plan} {g : List ℕ} where
 -- ---- WHAT IT ANSWERS, by channel
 module _ (p : Plan) {ch : Channel} (sums g : List ℕ) (x : Seen) where
   pub crs-answer :
-      {s q y : ℕ} {r : Registers} → ch ≡ Crs s q → y ≡ s → r ≡ startPair p (Crs s q) → Compared (crsSends (p .cell) y q) (crsSent (p .cell) r) g x → ChannelSeen p ch sums g x
+      {s y : ℕ} {r : Registers} → ch ≡ Crs s → y ≡ s → r ≡ startPair p (Crs s) → Compared (crsSends (p .cell) y) (crsSent (p .cell) r) g x → ChannelSeen p ch sums g x
   unfolding ChannelSeen elementsOf sentOf
   crs-answer e ey er c = rw e (rw (ey, er) at c)
 
@@ -262,7 +264,7 @@ module _ (w : List ℕ) (p : Plan) {g : List ℕ} (given : Given w p g) where
 
     pub channel-due : (ch : Channel) → TurnOf w p n ch → presentIn p ch ≡ true → ChannelSeen p ch sums g x → Compared (sendsOf p ch) (elementDue w p g) g x
     unfolding ChannelSeen BitsOf lentTo presentIn
-    channel-due (Crs s q) t h c = sent-due (Crs s q) t h tt c
+    channel-due (Crs s) t h c = sent-due (Crs s) t h tt c
     channel-due (Sync m) t h c = sent-due (Sync m) t h tt c
     channel-due Pbch t h c =
         same (λ e. sym (pbch-sends w p (given .answer) h e)) (λ e k. refl) (pbch-seen w p (given .answer) g (given .room) (eqb-true (p .frame .subframe) 0 h) x c)
@@ -310,7 +312,7 @@ module _ {w : List ℕ} {p : Plan} {g : List ℕ} {r : Registers} {sums masks : 
 
     module _ {ch : Channel} (is : ch ≡ channelAt w p (t .number)) where
       turn-is : TurnOf w p (t .number) ch
-      turn-is = subst (TurnOf w p (t .number)) (sym is) (turn-of w p (so .given .room .some) (t .number) less)
+      turn-is = subst (TurnOf w p (t .number)) (sym is) (turn-of w p (t .number) less)
 
       pub planned : presentIn p ch ≡ true → Planned w p g ch
       planned h = record { given = so .given; number = t .number; turn = turn-is; present = h }

@@ -51,7 +51,7 @@ abbrev pub SentSeen : Plan → Channel → List ℕ → List ℕ → Seen → Ty
 SentSeen p ch sums g r = Compared (elementsOf p ch) (sentOf p (lentTo ch sums []) (startPair p ch) ch) g r
 
 unfoldable pub ChannelSeen : Plan → Channel → List ℕ → List ℕ → Seen → Type 0
-ChannelSeen p (Crs s q) sums g r = SentSeen p (Crs s q) sums g r
+ChannelSeen p (Crs s) sums g r = SentSeen p (Crs s) sums g r
 ChannelSeen p (Sync m) sums g r = SentSeen p (Sync m) sums g r
 ChannelSeen p Pbch sums g r = AreaCompared (pbchArea (p .cell) (p .frame)) 2 2 g r
 ChannelSeen p Pcfich sums g r = SentSeen p Pcfich sums g r

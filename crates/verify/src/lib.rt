@@ -40,9 +40,9 @@ fn compare_channel(
     ensures { λ r. ⌜ ChannelSeen p ch (now (sums .entry)) (now (grid .entry)) r ⌝ }
 {
     match ch {
-        Channel::Crs(s, port) => {
+        Channel::Crs(s) => {
             let r = schedule::started(p, ch);
-            signals_compare::compare_crs(r, p.cell, base::wide(s), port, grid)
+            signals_compare::compare_crs(r, p.cell, base::wide(s), grid)
         }
         Channel::Sync(mark) => match mark {
             Mark::Primary => signals_compare::compare_pss(p.cell, grid),

@@ -136,13 +136,3 @@ form-even r f = pick (r .mask) f
 pub six-count : (r : Run) → r .mask ≡ 63 → 6 * r .halves ≡ runCount r
 unfolding runCount
 six-count r e = omega (arith, pair-count (r .mask) (r .halves) (six-pairs e))
-
-pub four-count : (r : Run) → PairForm (r .mask) → (r .mask ≡ 63 → ⊥) → 4 * r .halves ≡ runCount r
-unfolding runCount
-four-count r f n = pick (r .mask) f n
-  where
-    pick : (mask : ℕ) → PairForm mask → (mask ≡ 63 → ⊥) → 4 * r .halves ≡ r .halves * openCount mask
-    pick _ all-six n = absurd (n refl)
-    pick _ pairs-left n = omega (arith, pair-count 27 (r .halves) (left-pairs refl))
-    pick _ pairs-right n = omega (arith, pair-count 54 (r .halves) (right-pairs refl))
-    pick _ pairs-apart n = omega (arith, pair-count 45 (r .halves) (apart-pairs refl))

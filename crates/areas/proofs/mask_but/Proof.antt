@@ -30,6 +30,4 @@ returns c =
     (c .bit-if2 .ensures)
 
 pub mask-but-spec : {M : Type 1} → statement M
-mask-but-spec =
-    tie.close
-    (tie.spec bit-if-requires sub-result add-bit-if bit-if-requires-2 sub-result-2 returns)
+mask-but-spec = tie.close (tie.spec bit-if-requires sub-result add-bit-if bit-if-requires-2 sub-result-2 returns)

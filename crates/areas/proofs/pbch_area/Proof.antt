@@ -28,5 +28,4 @@ returns c =
     (c .wide .ensures)
 
 pub pbch-area-spec : {M : Type 1} → statement M
-pbch-area-spec =
-    tie.close (tie.spec slot-length-requires wide-requires add-t5 sub-t6 add-t7 returns)
+pbch-area-spec = tie.close (tie.spec slot-length-requires wide-requires add-t5 sub-t6 add-t7 returns)

@@ -32,5 +32,4 @@ returns-3 : tie.Need-returns-3
 returns-3 c = byte-none (c .before .row-mask .ensures) (c .before .before .args .frame) (c .before .before .args .leaves) (c .if1 .left)
 
 pub row-byte-spec : {M : Type 1} → statement M
-row-byte-spec =
-    tie.close (tie.spec row-mask-requires taken-requires add-result returns returns-2 returns-3)
+row-byte-spec = tie.close (tie.spec row-mask-requires taken-requires add-result returns returns-2 returns-3)

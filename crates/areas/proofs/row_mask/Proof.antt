@@ -46,14 +46,5 @@ returns-3 c =
 
 pub row-mask-spec : {M : Type 1} → statement M
 row-mask-spec =
-    tie.close
-    (tie.spec
-    crs-uses-requires
-    crs-first-requires
-    mask-but-requires
-    returns
-    crs-uses-requires-2
-    crs-first-requires-2
-    mask-but-requires-2
-    returns-2
+    tie.close (tie.spec crs-uses-requires crs-first-requires mask-but-requires returns crs-uses-requires-2 crs-first-requires-2 mask-but-requires-2 returns-2
     returns-3)

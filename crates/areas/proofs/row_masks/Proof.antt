@@ -34,15 +34,4 @@ returns : tie.Need-returns Inv-loop μ-loop
 returns c = masks-all (c .before .loop .inv) (omega (arith, c .loop-test .left))
 
 pub row-masks-spec : {M : Type 1} → statement M
-row-masks-spec =
-    tie.close
-    (tie.spec
-    Inv-loop
-    μ-loop
-    loop-holds
-    row-byte-requires
-    element-write-masks
-    add-s
-    loop-less
-    loop-again
-    returns)
+row-masks-spec = tie.close (tie.spec Inv-loop μ-loop loop-holds row-byte-requires element-write-masks add-s loop-less loop-again returns)

@@ -63,16 +63,4 @@ returns c =
 
 pub set-rows-spec : {M : Type 1} → statement M
 set-rows-spec =
-    tie.close
-    (tie.spec
-    Inv-loop
-    μ-loop
-    put-row-requires
-    loop-holds
-    element-copy-out-x
-    row-spans-requires
-    put-row-requires-2
-    add-s
-    loop-less
-    loop-again
-    returns)
+    tie.close (tie.spec Inv-loop μ-loop put-row-requires loop-holds element-copy-out-x row-spans-requires put-row-requires-2 add-s loop-less loop-again returns)

@@ -50,13 +50,4 @@ returns c =
 
 pub span-lists-spec : {M : Type 1} → statement M
 span-lists-spec =
-    tie.close
-    (tie.spec
-    put-span-requires
-    sub-smaller
-    smaller-requires
-    put-span-requires-2
-    add-greater
-    greater-requires
-    put-span-requires-3
-    returns)
+    tie.close (tie.spec put-span-requires sub-smaller smaller-requires put-span-requires-2 add-greater greater-requires put-span-requires-3 returns)

@@ -33,14 +33,4 @@ returns c =
     user-made (a .cell) (a .frame) (c .symbols .ensures .0) (a .u) _ _ _ (c .before .control-symbols .ensures) (c3 .wide .ensures) (c2 .wide2 .ensures)
 
 pub user-area-spec : {M : Type 1} → statement M
-user-area-spec =
-    tie.close
-    (tie.spec
-    wide-requires
-    wide-requires-2
-    control-symbols-requires
-    symbols-requires
-    mul-t8
-    add-t9
-    mul-t10
-    returns)
+user-area-spec = tie.close (tie.spec wide-requires wide-requires-2 control-symbols-requires symbols-requires mul-t8 add-t9 mul-t10 returns)

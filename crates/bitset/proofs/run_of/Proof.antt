@@ -30,6 +30,4 @@ returns c =
     ap₂ (λ (x y : ℕ). x ∷ y ∷ []) (ap₂ bitXor (at-ones .ones .ensures) (at-ones2 .ones2 .ensures)) (ap₂ bitXor (at-ones3 .ones3 .ensures) (c .ones4 .ensures))
 
 pub run-of-spec : {M : Type 1} → statement M
-run-of-spec =
-    tie.close
-    (tie.spec add-to ones-requires ones-requires-2 ones-requires-3 ones-requires-4 returns)
+run-of-spec = tie.close (tie.spec add-to ones-requires ones-requires-2 ones-requires-3 ones-requires-4 returns)

@@ -87,20 +87,5 @@ returns-5 c =
 
 pub build-spec : {M : Type 1} → statement M
 build-spec =
-    tie.close
-    (tie.spec
-    check-requires
-    enum-known-checked
-    enum-told
-    refusal-in-requires
-    returns
-    grid-length-requires
-    returns-2
-    payload-length-requires
-    returns-3
-    spare-clear-requires
-    returns-4
-    fill-requires
-    users-count-requires
-    same-length
-    returns-5)
+    tie.close (tie.spec check-requires enum-known-checked enum-told refusal-in-requires returns grid-length-requires returns-2 payload-length-requires returns-3
+    spare-clear-requires returns-4 fill-requires users-count-requires same-length returns-5)

@@ -40,13 +40,4 @@ returns c =
     filled-whole (b .pre) (a .silence .ensures) (c .before .before .fill-turns .ensures)
 
 pub fill-spec : {M : Type 1} → statement M
-fill-spec =
-    tie.close
-    (tie.spec
-    silence-requires
-    row-masks-requires
-    sum-units-requires
-    slice-aggregate-fill-turns
-    fill-turns-requires
-    same-length
-    returns)
+fill-spec = tie.close (tie.spec silence-requires row-masks-requires sum-units-requires slice-aggregate-fill-turns fill-turns-requires same-length returns)

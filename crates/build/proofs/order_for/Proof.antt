@@ -49,17 +49,4 @@ returns-6 c = sym (ap (orderFor (c .before .before .before .args .have)) (c .bef
 
 pub order-for-spec : {M : Type 1} → statement M
 order-for-spec =
-    tie.close
-    (tie.spec
-    enum-told
-    enum-told-2
-    enum-told-3
-    enum-told-4
-    enum-told-5
-    enum-known-ch
-    returns
-    returns-2
-    returns-3
-    returns-4
-    returns-5
-    returns-6)
+    tie.close (tie.spec enum-told enum-told-2 enum-told-3 enum-told-4 enum-told-5 enum-known-ch returns returns-2 returns-3 returns-4 returns-5 returns-6)

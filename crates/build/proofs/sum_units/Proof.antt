@@ -48,14 +48,5 @@ returns c =
 
 pub sum-units-spec : {M : Type 1} → statement M
 sum-units-spec =
-    tie.close
-    (tie.spec
-    pbch-bits-requires
-    section-bytes-requires
-    users-start-requires
-    spread-length-requires
-    sub-quad-sums
-    part-quad-sums-start
-    part-quad-sums-end
-    quad-sums-requires
-    returns)
+    tie.close (tie.spec pbch-bits-requires section-bytes-requires users-start-requires spread-length-requires sub-quad-sums part-quad-sums-start
+    part-quad-sums-end quad-sums-requires returns)

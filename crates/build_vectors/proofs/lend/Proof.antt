@@ -25,12 +25,4 @@ returns-2 : tie.Need-returns-2
 returns-2 c = search needs
 
 pub lend-spec : {M : Type 1} → statement M
-lend-spec =
-    tie.close
-    (tie.spec
-    slice-relend-prefix-call
-    slice-aggregate-call
-    call-requires
-    same-length
-    returns
-    returns-2)
+lend-spec = tie.close (tie.spec slice-relend-prefix-call slice-aggregate-call call-requires same-length returns returns-2)

@@ -15,7 +15,7 @@ wide-requires c κs = search needs
 fill-crs-requires : tie.Need-fill-crs-requires
 fill-crs-requires c κs =
     let a = c .before .before .before .before .before .before .before .before .before in
-    crs-in (a .pre .0) _ _ _ (c .before .before .before .ch .given .1) (c .before .wide .ensures)
+    crs-in (a .pre .0) _ _ (c .before .before .before .ch .given .1) (c .before .wide .ensures)
 
 enum-told : tie.Need-enum-told
 enum-told c = search needs
@@ -72,7 +72,7 @@ returns : tie.Need-returns
 returns c =
     let a = c .before .before .before .before .before .before in
     let b = a .before .before .before .before .before .before in
-    crs-filled (b .pre .0) _ _ _ _ (a .ch .given .1) (c .before .before .before .before .wide .ensures) (c .before .before .fill-crs .ensures)
+    crs-filled (b .pre .0) _ _ _ (a .ch .given .1) (c .before .before .before .before .wide .ensures) (c .before .before .fill-crs .ensures)
 
 returns-2 : tie.Need-returns-2
 returns-2 c = let a = c .before .before .before .before .before .before in no-mark (a .pre) (c .enum-told .given .1)
@@ -114,33 +114,6 @@ returns-6 c =
 
 pub filled-spec : {M : Type 1} → statement M
 filled-spec =
-    tie.close
-    (tie.spec
-    enum-known-ch
-    wide-requires
-    fill-crs-requires
-    enum-told
-    enum-told-2
-    row-masks-requires
-    pbch-area-requires
-    fill-by-tables-requires
-    enum-told-3
-    fill-pcfich-requires
-    enum-known-ch-2
-    wide-requires-2
-    fill-phich-requires
-    enum-known-ch-3
-    user-area-requires
-    cast-fill-by-tables
-    fill-by-tables-requires-2
-    same-length
-    returns
-    returns-2
-    same-length-2
-    returns-3
-    same-length-3
-    returns-4
-    same-length-4
-    returns-5
-    same-length-5
-    returns-6)
+    tie.close (tie.spec enum-known-ch wide-requires fill-crs-requires enum-told enum-told-2 row-masks-requires pbch-area-requires fill-by-tables-requires
+    enum-told-3 fill-pcfich-requires enum-known-ch-2 wide-requires-2 fill-phich-requires enum-known-ch-3 user-area-requires cast-fill-by-tables
+    fill-by-tables-requires-2 same-length returns returns-2 same-length-2 returns-3 same-length-3 returns-4 same-length-4 returns-5 same-length-5 returns-6)

@@ -31,14 +31,4 @@ returns-2 c =
     mark-put (a .args .p) (c .before .before .before .before .enum-told2 .given .1) (c .before .before .fill-sss .ensures)
 
 pub write-mark-spec : {M : Type 1} → statement M
-write-mark-spec =
-    tie.close
-    (tie.spec
-    enum-told
-    fill-pss-requires
-    enum-told-2
-    fill-sss-requires
-    same-length
-    returns
-    same-length-2
-    returns-2)
+write-mark-spec = tie.close (tie.spec enum-told fill-pss-requires enum-told-2 fill-sss-requires same-length returns same-length-2 returns-2)

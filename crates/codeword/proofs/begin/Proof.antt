@@ -27,12 +27,4 @@ returns c =
     (c .before .bits48 .ensures) (c .word48 .ensures)
 
 pub begin-spec : {M : Type 1} → statement M
-begin-spec =
-    tie.close
-    (tie.spec
-    widen-requires
-    last-at-requires
-    last-bits-requires
-    bits48-requires
-    word48-requires
-    returns)
+begin-spec = tie.close (tie.spec widen-requires last-at-requires last-bits-requires bits48-requires word48-requires returns)

@@ -51,19 +51,5 @@ returns c =
 
 pub bits32-spec : {M : Type 1} → statement M
 bits32-spec =
-    tie.close
-    (tie.spec
-    byte-within-requires
-    add-byte-within
-    byte-within-requires-2
-    add-byte-within-2
-    byte-within-requires-3
-    add-byte-within-3
-    byte-within-requires-4
-    mul-result
-    mul-result-2
-    add-result
-    mul-result-3
-    add-result-2
-    add-result-3
-    returns)
+    tie.close (tie.spec byte-within-requires add-byte-within byte-within-requires-2 add-byte-within-2 byte-within-requires-3 add-byte-within-3
+    byte-within-requires-4 mul-result mul-result-2 add-result mul-result-3 add-result-2 add-result-3 returns)

@@ -58,18 +58,5 @@ returns-3 c =
 
 pub bits48-spec : {M : Type 1} → statement M
 bits48-spec =
-    tie.close
-    (tie.spec
-    add-if1
-    bits32-requires
-    add-bits32
-    bits32-requires-2
-    mul-result
-    add-result
-    returns
-    add-if2
-    returns-2
-    byte-at-requires
-    cast-result
-    mul-result-2
-    returns-3)
+    tie.close (tie.spec add-if1 bits32-requires add-bits32 bits32-requires-2 mul-result add-result returns add-if2 returns-2 byte-at-requires cast-result
+    mul-result-2 returns-3)

@@ -46,15 +46,5 @@ returns-3 c =
 
 pub end-spec : {M : Type 1} → statement M
 end-spec =
-    tie.close
-    (tie.spec
-    element-copy-out-a
-    element-copy-out-b
-    element-copy-out-left
-    narrow-requires
-    sub-skip
-    skip-requires
-    returns
-    element-copy-out-if2
-    returns-2
-    returns-3)
+    tie.close (tie.spec element-copy-out-a element-copy-out-b element-copy-out-left narrow-requires sub-skip skip-requires returns element-copy-out-if2
+    returns-2 returns-3)

@@ -43,18 +43,4 @@ returns : tie.Need-returns Inv-loop μ-loop
 returns c = read-done (c .before .loop .inv) (c .loop-test .left)
 
 pub last-bits-spec : {M : Type 1} → statement M
-last-bits-spec =
-    tie.close
-    (tie.spec
-    Inv-loop
-    μ-loop
-    loop-holds
-    mul-w
-    add-byte-at
-    byte-at-requires
-    cast-w
-    add-w
-    add-i
-    loop-less
-    loop-again
-    returns)
+last-bits-spec = tie.close (tie.spec Inv-loop μ-loop loop-holds mul-w add-byte-at byte-at-requires cast-w add-w add-i loop-less loop-again returns)

@@ -44,17 +44,5 @@ returns c =
 
 pub next48-spec : {M : Type 1} → statement M
 next48-spec =
-    tie.close
-    (tie.spec
-    element-copy-out-a
-    element-copy-out-b
-    element-copy-out-at
-    element-copy-out-last
-    advance48-requires
-    element-write-st
-    element-write-st-2
-    add-st
-    element-write-st-3
-    bits48-requires
-    word48-requires
-    returns)
+    tie.close (tie.spec element-copy-out-a element-copy-out-b element-copy-out-at element-copy-out-last advance48-requires element-write-st element-write-st-2
+    add-st element-write-st-3 bits48-requires word48-requires returns)

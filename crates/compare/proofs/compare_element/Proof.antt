@@ -34,13 +34,4 @@ returns-2 c =
     (⊎-elim (λ x. other-i (c3 .args .a) (c3 .args .b) (x .0 .taken) (eqb-false _ _ (x .3 .left))) (λ x. other-unit (c3 .args .a) (c3 .args .b) (x .left))) (c .if1 .came)
 
 pub compare-element-spec : {M : Type 1} → statement M
-compare-element-spec =
-    tie.close
-    (tie.spec
-    nonzero-of-requires
-    nonzero-of-requires-2
-    add-t8
-    nonzero-of-requires-3
-    add-t10
-    returns
-    returns-2)
+compare-element-spec = tie.close (tie.spec nonzero-of-requires nonzero-of-requires-2 add-t8 nonzero-of-requires-3 add-t10 returns returns-2)

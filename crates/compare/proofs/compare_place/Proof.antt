@@ -86,22 +86,5 @@ returns-2 c =
 
 pub compare-place-spec : {M : Type 1} → statement M
 compare-place-spec =
-    tie.close
-    (tie.spec
-    unit-on-requires
-    own-port-requires
-    wide-requires
-    mul-own
-    add-own
-    element-of-requires
-    compare-at-requires
-    returns
-    other-port-requires
-    wide-requires-2
-    mul-other
-    add-other
-    partner-requires
-    element-of-requires-2
-    compare-at-requires-2
-    together-requires
-    returns-2)
+    tie.close (tie.spec unit-on-requires own-port-requires wide-requires mul-own add-own element-of-requires compare-at-requires returns other-port-requires
+    wide-requires-2 mul-other add-other partner-requires element-of-requires-2 compare-at-requires-2 together-requires returns-2)

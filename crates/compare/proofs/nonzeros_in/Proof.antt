@@ -39,15 +39,4 @@ returns : tie.Need-returns Inv-loop μ-loop
 returns c = count-all (c .before .loop .inv .1) (c .loop-test .left)
 
 pub nonzeros-in-spec : {M : Type 1} → statement M
-nonzeros-in-spec =
-    tie.close
-    (tie.spec
-    Inv-loop
-    μ-loop
-    loop-holds
-    shared-slice-read-if1
-    add-n
-    add-i
-    loop-less
-    loop-again
-    returns)
+nonzeros-in-spec = tie.close (tie.spec Inv-loop μ-loop loop-holds shared-slice-read-if1 add-n add-i loop-less loop-again returns)

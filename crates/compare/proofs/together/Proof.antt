@@ -32,6 +32,4 @@ returns-3 : tie.Need-returns-3
 returns-3 c = search needs
 
 pub together-spec : {M : Type 1} → statement M
-together-spec =
-    tie.close
-    (tie.spec enum-known-a enum-known-b add-t7 enum-told enum-told-2 returns returns-2 returns-3)
+together-spec = tie.close (tie.spec enum-known-a enum-known-b add-t7 enum-told enum-told-2 returns returns-2 returns-3)

@@ -84,25 +84,6 @@ returns c =
 
 pub weight-spec : {M : Type 1} → statement M
 weight-spec =
-    tie.close
-    (tie.spec
-    Inv-loop
-    μ-loop
-    loop-holds
-    sub-loop
-    add-end
-    sub-nonzeros-in
-    part-nonzeros-in-start
-    part-nonzeros-in-end
-    nonzeros-in-requires
-    wide-requires
-    add-n
-    loop-less
-    loop-again
-    sub-nonzeros-in-2
-    part-nonzeros-in-start-2
-    part-nonzeros-in-end-2
-    nonzeros-in-requires-2
-    wide-requires-2
-    add-result
+    tie.close (tie.spec Inv-loop μ-loop loop-holds sub-loop add-end sub-nonzeros-in part-nonzeros-in-start part-nonzeros-in-end nonzeros-in-requires
+    wide-requires add-n loop-less loop-again sub-nonzeros-in-2 part-nonzeros-in-start-2 part-nonzeros-in-end-2 nonzeros-in-requires-2 wide-requires-2 add-result
     returns)

@@ -57,18 +57,4 @@ returns c = part-end (c .before .loop .inv) (omega arith)
 
 pub axis-bits-spec : {M : Type 1} → statement M
 axis-bits-spec =
-    tie.close
-    (tie.spec
-    Inv-loop
-    μ-loop
-    loop-holds
-    sub-k
-    mul-m
-    add-m
-    power-requires
-    size-requires
-    less-requires
-    loop-less
-    loop-again
-    cast-result
-    returns)
+    tie.close (tie.spec Inv-loop μ-loop loop-holds sub-k mul-m add-m power-requires size-requires less-requires loop-less loop-again cast-result returns)

@@ -50,17 +50,4 @@ returns : tie.Need-returns Inv-loop μ-loop
 returns c = axis-all (c .before .loop .inv .0) (omega arith)
 
 pub set-axis-spec : {M : Type 1} → statement M
-set-axis-spec =
-    tie.close
-    (tie.spec
-    Inv-loop
-    μ-loop
-    loop-holds
-    cast-at
-    byte-from-requires
-    axis-bits-requires
-    element-write-d
-    add-x
-    loop-less
-    loop-again
-    returns)
+set-axis-spec = tie.close (tie.spec Inv-loop μ-loop loop-holds cast-at byte-from-requires axis-bits-requires element-write-d add-x loop-less loop-again returns)

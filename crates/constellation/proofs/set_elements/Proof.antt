@@ -57,19 +57,5 @@ returns c = entries-first (c .before .loop .inv .0) (omega arith)
 
 pub set-elements-spec : {M : Type 1} → statement M
 set-elements-spec =
-    tie.close
-    (tie.spec
-    Inv-loop
-    μ-loop
-    set-words-requires
-    power-requires
-    loop-holds
-    sub-t
-    mul-t
-    element-copy-out-t
-    mul-t-2
-    element-write-t
-    add-x
-    loop-less
-    loop-again
-    returns)
+    tie.close (tie.spec Inv-loop μ-loop set-words-requires power-requires loop-holds sub-t mul-t element-copy-out-t mul-t-2 element-write-t add-x loop-less
+    loop-again returns)

@@ -47,16 +47,4 @@ returns c =
     subst (λ (k : ℕ). Entries k (c3 .args .unit) (2 ^ k) (c .before .loop .t)) (omega arith) (c .before .loop .inv .0)
 
 pub set-words-spec : {M : Type 1} → statement M
-set-words-spec =
-    tie.close
-    (tie.spec
-    Inv-loop
-    μ-loop
-    word-requires
-    element-write-t
-    loop-holds
-    widen-all-requires
-    add-k
-    loop-less
-    loop-again
-    returns)
+set-words-spec = tie.close (tie.spec Inv-loop μ-loop word-requires element-write-t loop-holds widen-all-requires add-k loop-less loop-again returns)

@@ -77,20 +77,5 @@ returns c =
 
 pub widen-spec : {M : Type 1} → statement M
 widen-spec =
-    tie.close
-    (tie.spec
-    power-requires
-    power-requires-2
-    word-requires
-    mul-v
-    element-copy-out-v
-    less-requires
-    less-requires-2
-    less-requires-3
-    less-requires-4
-    three-requires
-    three-requires-2
-    three-requires-3
-    three-requires-4
-    set-four-requires
-    returns)
+    tie.close (tie.spec power-requires power-requires-2 word-requires mul-v element-copy-out-v less-requires less-requires-2 less-requires-3 less-requires-4
+    three-requires three-requires-2 three-requires-3 three-requires-4 set-four-requires returns)

@@ -40,15 +40,4 @@ returns c =
     widened-all (c .before .loop .inv .0) (omega (arith, c2 .power .ensures .0))
 
 pub widen-all-spec : {M : Type 1} → statement M
-widen-all-spec =
-    tie.close
-    (tie.spec
-    Inv-loop
-    μ-loop
-    power-requires
-    loop-holds
-    widen-requires
-    add-x
-    loop-less
-    loop-again
-    returns)
+widen-all-spec = tie.close (tie.spec Inv-loop μ-loop power-requires loop-holds widen-requires add-x loop-less loop-again returns)

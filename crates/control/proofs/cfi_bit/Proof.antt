@@ -26,6 +26,4 @@ returns : tie.Need-returns
 returns c = codeword-bit _ (c .before .before .args .cfi) (c .before .before .args .i) (c .before .wide .ensures)
 
 pub cfi-bit-spec : {M : Type 1} → statement M
-cfi-bit-spec =
-    tie.close
-    (tie.spec wide-requires sub-row mul-result mul-result-2 index-1-result index-2-result returns)
+cfi-bit-spec = tie.close (tie.spec wide-requires sub-row mul-result mul-result-2 index-1-result index-2-result returns)

@@ -52,19 +52,5 @@ returns c =
 
 pub cfi-word-spec : {M : Type 1} → statement M
 cfi-word-spec =
-    tie.close
-    (tie.spec
-    cfi-bit-requires
-    add-cfi-bit
-    cfi-bit-requires-2
-    add-cfi-bit-2
-    cfi-bit-requires-3
-    add-cfi-bit-3
-    cfi-bit-requires-4
-    mul-result
-    add-result
-    mul-result-2
-    add-result-2
-    mul-result-3
-    add-result-3
-    returns)
+    tie.close (tie.spec cfi-bit-requires add-cfi-bit cfi-bit-requires-2 add-cfi-bit-2 cfi-bit-requires-3 add-cfi-bit-3 cfi-bit-requires-4 mul-result add-result
+    mul-result-2 add-result-2 mul-result-3 add-result-3 returns)

@@ -34,14 +34,4 @@ returns c =
     (c .before .qpsk .ensures) (c .qpsk2 .ensures)
 
 pub pcfich-pair-spec : {M : Type 1} → statement M
-pcfich-pair-spec =
-    tie.close
-    (tie.spec
-    mul-cfi-word
-    cfi-word-requires
-    word-requires
-    cast-ports
-    format-group-requires
-    qpsk-requires
-    qpsk-requires-2
-    returns)
+pcfich-pair-spec = tie.close (tie.spec mul-cfi-word cfi-word-requires word-requires cast-ports format-group-requires qpsk-requires qpsk-requires-2 returns)

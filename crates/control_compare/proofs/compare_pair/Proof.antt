@@ -48,15 +48,5 @@ returns c =
 
 pub compare-pair-spec : {M : Type 1} → statement M
 compare-pair-spec =
-    tie.close
-    (tie.spec
-    places-requires
-    mul-quad-place
-    quad-place-requires
-    compare-place-requires
-    mul-quad-place-2
-    add-quad-place
-    quad-place-requires-2
-    compare-place-requires-2
-    together-requires
-    returns)
+    tie.close (tie.spec places-requires mul-quad-place quad-place-requires compare-place-requires mul-quad-place-2 add-quad-place quad-place-requires-2
+    compare-place-requires-2 together-requires returns)

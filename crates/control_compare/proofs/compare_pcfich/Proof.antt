@@ -55,16 +55,5 @@ returns c =
 
 pub compare-pcfich-spec : {M : Type 1} → statement M
 compare-pcfich-spec =
-    tie.close
-    (tie.spec
-    Inv-loop
-    μ-loop
-    loop-holds
-    pcfich-pair-requires
-    compare-pair-requires
-    together-requires
-    advance-requires
-    add-n
-    loop-less
-    loop-again
+    tie.close (tie.spec Inv-loop μ-loop loop-holds pcfich-pair-requires compare-pair-requires together-requires advance-requires add-n loop-less loop-again
     returns)

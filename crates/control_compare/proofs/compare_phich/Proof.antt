@@ -26,11 +26,4 @@ returns c =
     (comparing (entry .args .grid .now)) (c .compare-sums .ensures)
 
 pub compare-phich-spec : {M : Type 1} → statement M
-compare-phich-spec =
-    tie.close
-    (tie.spec
-    spread-length-requires
-    word-requires
-    unit-sums-requires
-    compare-sums-requires
-    returns)
+compare-phich-spec = tie.close (tie.spec spread-length-requires word-requires unit-sums-requires compare-sums-requires returns)

@@ -87,22 +87,5 @@ returns c =
 
 pub compare-sums-spec : {M : Type 1} → statement M
 compare-sums-spec =
-    tie.close
-    (tie.spec
-    Inv-loop
-    μ-loop
-    loop-holds
-    unit-group-requires
-    mul-unit-pair
-    unit-pair-requires
-    compare-pair-requires
-    together-requires
-    mul-unit-pair-2
-    add-unit-pair
-    unit-pair-requires-2
-    compare-pair-requires-2
-    together-requires-2
-    add-n
-    loop-less
-    loop-again
-    returns)
+    tie.close (tie.spec Inv-loop μ-loop loop-holds unit-group-requires mul-unit-pair unit-pair-requires compare-pair-requires together-requires mul-unit-pair-2
+    add-unit-pair unit-pair-requires-2 compare-pair-requires-2 together-requires-2 add-n loop-less loop-again returns)

@@ -27,6 +27,4 @@ returns c =
     (at-length .spread-length .ensures) (c .sums-again .ensures)
 
 pub sums-again-spec : {M : Type 1} → statement M
-sums-again-spec =
-    tie.close
-    (tie.spec spread-length-requires word-requires first-sums-requires sums-again-requires returns)
+sums-again-spec = tie.close (tie.spec spread-length-requires word-requires first-sums-requires sums-again-requires returns)

@@ -45,15 +45,4 @@ returns c =
     first-to _ (omega (arith, c .loop-test .left, at-units .units .ensures)) (c .before .loop .inv)
 
 pub first-sums-spec : {M : Type 1} → statement M
-first-sums-spec =
-    tie.close
-    (tie.spec
-    Inv-loop
-    μ-loop
-    units-requires
-    loop-holds
-    read-quad-requires
-    add-m
-    loop-less
-    loop-again
-    returns)
+first-sums-spec = tie.close (tie.spec Inv-loop μ-loop units-requires loop-holds read-quad-requires add-m loop-less loop-again returns)

@@ -53,17 +53,5 @@ returns-2 c =
 
 pub push-spec : {M : Type 1} → statement M
 push-spec =
-    tie.close
-    (tie.spec
-    cast-weight
-    shr-weight
-    mul-part
-    slice-write-part
-    same-length
-    returns
-    slice-read-part
-    mul-part-2
-    add-part
-    slice-write-part-2
-    same-length-2
-    returns-2)
+    tie.close (tie.spec cast-weight shr-weight mul-part slice-write-part same-length returns slice-read-part mul-part-2 add-part slice-write-part-2
+    same-length-2 returns-2)

@@ -95,23 +95,5 @@ returns c =
 
 pub read-his-spec : {M : Type 1} → statement M
 read-his-spec =
-    tie.close
-    (tie.spec
-    Inv-loop
-    μ-loop
-    word-requires
-    spread-length-requires
-    first-sums-requires
-    loop-holds
-    hi-at-requires
-    bit-of-requires
-    push-requires
-    next-at-requires
-    add-n
-    loop-less
-    loop-again
-    spread-length-requires-2
-    mul-skip
-    skip-requires
-    same-length
-    returns)
+    tie.close (tie.spec Inv-loop μ-loop word-requires spread-length-requires first-sums-requires loop-holds hi-at-requires bit-of-requires push-requires
+    next-at-requires add-n loop-less loop-again spread-length-requires-2 mul-skip skip-requires same-length returns)

@@ -118,27 +118,5 @@ returns c = first-to _ (omega (arith, c .loop-test .left, c .before .loop .inv .
 
 pub read-quad-spec : {M : Type 1} → statement M
 read-quad-spec =
-    tie.close
-    (tie.spec
-    Inv-loop
-    μ-loop
-    unit-group-requires
-    cast-own-port
-    own-port-requires
-    wide-requires
-    places-requires
-    mul-own
-    loop-holds
-    quad-place-requires
-    add-get
-    get-requires
-    mul-at
-    add-at
-    mul-at-2
-    element-write-first
-    add-first
-    element-write-first-2
-    add-i
-    loop-less
-    loop-again
-    returns)
+    tie.close (tie.spec Inv-loop μ-loop unit-group-requires cast-own-port own-port-requires wide-requires places-requires mul-own loop-holds quad-place-requires
+    add-get get-requires mul-at add-at mul-at-2 element-write-first add-first element-write-first-2 add-i loop-less loop-again returns)

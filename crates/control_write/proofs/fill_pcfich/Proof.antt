@@ -52,16 +52,4 @@ returns c =
 
 pub fill-pcfich-spec : {M : Type 1} → statement M
 fill-pcfich-spec =
-    tie.close
-    (tie.spec
-    Inv-loop
-    μ-loop
-    loop-holds
-    pcfich-pair-requires
-    put-pair-requires
-    advance-requires
-    add-n
-    loop-less
-    loop-again
-    same-length
-    returns)
+    tie.close (tie.spec Inv-loop μ-loop loop-holds pcfich-pair-requires put-pair-requires advance-requires add-n loop-less loop-again same-length returns)

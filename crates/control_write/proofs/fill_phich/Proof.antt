@@ -42,14 +42,4 @@ returns c =
     )
 
 pub fill-phich-spec : {M : Type 1} → statement M
-fill-phich-spec =
-    tie.close
-    (tie.spec
-    word-requires
-    spread-length-requires
-    unit-sums-requires
-    put-unit-requires
-    mul-skip
-    skip-requires
-    same-length
-    returns)
+fill-phich-spec = tie.close (tie.spec word-requires spread-length-requires unit-sums-requires put-unit-requires mul-skip skip-requires same-length returns)

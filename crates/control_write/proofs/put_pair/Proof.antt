@@ -48,15 +48,5 @@ returns c =
 
 pub put-pair-spec : {M : Type 1} → statement M
 put-pair-spec =
-    tie.close
-    (tie.spec
-    places-requires
-    mul-quad-place
-    quad-place-requires
-    put-place-requires
-    mul-quad-place-2
-    add-quad-place
-    quad-place-requires-2
-    put-place-requires-2
-    same-length
-    returns)
+    tie.close (tie.spec places-requires mul-quad-place quad-place-requires put-place-requires mul-quad-place-2 add-quad-place quad-place-requires-2
+    put-place-requires-2 same-length returns)

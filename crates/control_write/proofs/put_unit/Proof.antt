@@ -82,21 +82,5 @@ returns c =
 
 pub put-unit-spec : {M : Type 1} → statement M
 put-unit-spec =
-    tie.close
-    (tie.spec
-    Inv-loop
-    μ-loop
-    loop-holds
-    unit-group-requires
-    mul-unit-pair
-    unit-pair-requires
-    put-pair-requires
-    mul-unit-pair-2
-    add-unit-pair
-    unit-pair-requires-2
-    put-pair-requires-2
-    add-n
-    loop-less
-    loop-again
-    same-length
-    returns)
+    tie.close (tie.spec Inv-loop μ-loop loop-holds unit-group-requires mul-unit-pair unit-pair-requires put-pair-requires mul-unit-pair-2 add-unit-pair
+    unit-pair-requires-2 put-pair-requires-2 add-n loop-less loop-again same-length returns)

@@ -41,15 +41,5 @@ returns-2 c =
 
 pub gridcount-spec : {M : Type 1} → statement M
 gridcount-spec =
-    tie.close
-    (tie.spec
-    plan-end-requires
-    refused-requires
-    returns
-    part-with-plan-start
-    part-with-plan-end
-    sub-with-plan
-    part-with-plan-start-2
-    part-with-plan-end-2
-    with-plan-requires
-    returns-2)
+    tie.close (tie.spec plan-end-requires refused-requires returns part-with-plan-start part-with-plan-end sub-with-plan part-with-plan-start-2
+    part-with-plan-end-2 with-plan-requires returns-2)

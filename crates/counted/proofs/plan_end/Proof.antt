@@ -45,15 +45,4 @@ returns-3 c =
 
 pub plan-end-spec : {M : Type 1} → statement M
 plan-end-spec =
-    tie.close
-    (tie.spec
-    returns
-    shared-slice-read-wide
-    wide-requires
-    mul-end
-    shared-slice-read-wide-2
-    wide-requires-2
-    add-end
-    add-end-2
-    returns-2
-    returns-3)
+    tie.close (tie.spec returns shared-slice-read-wide wide-requires mul-end shared-slice-read-wide-2 wide-requires-2 add-end add-end-2 returns-2 returns-3)

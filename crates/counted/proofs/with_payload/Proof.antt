@@ -42,13 +42,4 @@ returns-3 c =
 
 pub with-payload-spec : {M : Type 1} → statement M
 with-payload-spec =
-    tie.close
-    (tie.spec
-    payload-length-requires
-    refused-requires
-    returns
-    spare-clear-requires
-    kind-counts-requires
-    returns-2
-    refused-requires-2
-    returns-3)
+    tie.close (tie.spec payload-length-requires refused-requires returns spare-clear-requires kind-counts-requires returns-2 refused-requires-2 returns-3)

@@ -32,13 +32,4 @@ returns-2 c =
     c .refused .ensures ∙ plan-refused (entry .args .plan .now) (entry .args .payload .now) _ _ (at-check .check .ensures) (at-r .r .given .1)
 
 pub with-plan-spec : {M : Type 1} → statement M
-with-plan-spec =
-    tie.close
-    (tie.spec
-    check-requires
-    enum-known-p
-    with-payload-requires
-    enum-known-r
-    refused-requires
-    returns
-    returns-2)
+with-plan-spec = tie.close (tie.spec check-requires enum-known-p with-payload-requires enum-known-r refused-requires returns returns-2)

@@ -44,16 +44,4 @@ returns-2 c =
 
 pub centre-halves-spec : {M : Type 1} → statement M
 centre-halves-spec =
-    tie.close
-    (tie.spec
-    cast-n
-    mul-start
-    add-start
-    larger-requires
-    mul-smaller
-    add-smaller
-    add-smaller-2
-    smaller-requires
-    sub-result
-    returns
-    returns-2)
+    tie.close (tie.spec cast-n mul-start add-start larger-requires mul-smaller add-smaller add-smaller-2 smaller-requires sub-result returns returns-2)

@@ -26,5 +26,4 @@ returns-3 : tie.Need-returns-3
 returns-3 c = crs-four (c .before .before .before .before .before .args .cell) (c .before .before .if1 .left) (c .if2 .left)
 
 pub crs-count-spec : {M : Type 1} → statement M
-crs-count-spec =
-    tie.close (tie.spec cast-n mul-result returns mul-result-2 returns-2 mul-result-3 returns-3)
+crs-count-spec = tie.close (tie.spec cast-n mul-result returns mul-result-2 returns-2 mul-result-3 returns-3)

@@ -43,13 +43,4 @@ returns-3 c =
 
 pub half-places-spec : {M : Type 1} → statement M
 half-places-spec =
-    tie.close
-    (tie.spec
-    wide-requires
-    crs-uses-requires
-    pair-places-requires
-    returns
-    crs-uses-requires-2
-    pair-places-requires-2
-    returns-2
-    returns-3)
+    tie.close (tie.spec wide-requires crs-uses-requires pair-places-requires returns crs-uses-requires-2 pair-places-requires-2 returns-2 returns-3)

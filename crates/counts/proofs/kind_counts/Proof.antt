@@ -123,22 +123,5 @@ returns c =
 
 pub kind-counts-spec : {M : Type 1} → statement M
 kind-counts-spec =
-    tie.close
-    (tie.spec
-    crs-count-requires
-    sync-count-requires
-    pbch-count-requires
-    units-requires
-    mul-phich
-    users-count-requires
-    held-count-requires
-    add-owned
-    add-owned-2
-    add-owned-3
-    add-owned-4
-    add-owned-5
-    add-owned-6
-    add-owned-7
-    places-requires
-    sub-idle
-    returns)
+    tie.close (tie.spec crs-count-requires sync-count-requires pbch-count-requires units-requires mul-phich users-count-requires held-count-requires add-owned
+    add-owned-2 add-owned-3 add-owned-4 add-owned-5 add-owned-6 add-owned-7 places-requires sub-idle returns)

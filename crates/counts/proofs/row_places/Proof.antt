@@ -22,5 +22,4 @@ returns-2 c =
     row-late (a .cell) (a .frame) (a .s) _ _ (c .before .before .control-symbols .ensures) (omega arith) (c .half-places .ensures)
 
 pub row-places-spec : {M : Type 1} → statement M
-row-places-spec =
-    tie.close (tie.spec control-symbols-requires returns half-places-requires returns-2)
+row-places-spec = tie.close (tie.spec control-symbols-requires returns half-places-requires returns-2)

@@ -22,5 +22,4 @@ returns c =
     shape-found (a .cell) (a .frame) _ _ _ (L .ensures) (c .before .before .slot-shape .ensures) (c .slot-shape2 .ensures)
 
 pub shape-of-spec : {M : Type 1} → statement M
-shape-of-spec =
-    tie.close (tie.spec slot-shape-requires slot-length-requires slot-shape-requires-2 returns)
+shape-of-spec = tie.close (tie.spec slot-shape-requires slot-length-requires slot-shape-requires-2 returns)

@@ -37,6 +37,4 @@ returns c =
     slot-found (a .cell) (a .slot) given (a .first) (a .count) (omega arith) _ (c .before .centre-halves .ensures)
 
 pub slot-count-spec : {M : Type 1} → statement M
-slot-count-spec =
-    tie.close
-    (tie.spec mul-result mul-result-2 centre-halves-requires mul-result-3 sub-result returns)
+slot-count-spec = tie.close (tie.spec mul-result mul-result-2 centre-halves-requires mul-result-3 sub-result returns)

@@ -77,19 +77,5 @@ returns c =
 
 pub slot-shape-spec : {M : Type 1} → statement M
 slot-shape-spec =
-    tie.close
-    (tie.spec
-    Inv-loop
-    μ-loop
-    slot-length-requires
-    loop-holds
-    add-row-places
-    row-places-requires
-    add-whole
-    add-centre-places
-    centre-places-requires
-    add-centre
-    add-l
-    loop-less
-    loop-again
-    returns)
+    tie.close (tie.spec Inv-loop μ-loop slot-length-requires loop-holds add-row-places row-places-requires add-whole add-centre-places centre-places-requires
+    add-centre add-l loop-less loop-again returns)

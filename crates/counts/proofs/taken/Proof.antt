@@ -41,14 +41,4 @@ returns-4 c =
     after-other (a .cell) (a .frame) (a .s) _ (c3 .slot-length .ensures) (omega arith) (c .if3 .left)
 
 pub taken-spec : {M : Type 1} → statement M
-taken-spec =
-    tie.close
-    (tie.spec
-    slot-length-requires
-    add-if2
-    returns
-    is-marked-requires
-    returns-2
-    add-result
-    returns-3
-    returns-4)
+taken-spec = tie.close (tie.spec slot-length-requires add-if2 returns is-marked-requires returns-2 add-result returns-3 returns-4)

@@ -77,17 +77,5 @@ returns c =
 
 pub users-count-spec : {M : Type 1} → statement M
 users-count-spec =
-    tie.close
-    (tie.spec
-    Inv-loop
-    μ-loop
-    shape-of-requires
-    loop-holds
-    user-at-requires
-    user-count-requires
-    add-n
-    next-at-requires
-    sub-left
-    loop-less
-    loop-again
+    tie.close (tie.spec Inv-loop μ-loop shape-of-requires loop-holds user-at-requires user-count-requires add-n next-at-requires sub-left loop-less loop-again
     returns)

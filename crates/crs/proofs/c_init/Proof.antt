@@ -55,17 +55,5 @@ returns c = ap (λ (b : ℕ). 1024 * (7 * (c .before .args .slot + 1) + c .befor
 
 pub c-init-spec : {M : Type 1} → statement M
 c-init-spec =
-    tie.close
-    (tie.spec
-    mul-twice
-    add-result
-    mul-result
-    add-result-2
-    add-result-3
-    mul-result-2
-    add-result-4
-    mul-result-3
-    add-result-5
-    n-cp-requires
-    add-result-6
+    tie.close (tie.spec mul-twice add-result mul-result add-result-2 add-result-3 mul-result-2 add-result-4 mul-result-3 add-result-5 n-cp-requires add-result-6
     returns)

@@ -38,17 +38,4 @@ returns : tie.Need-returns Inv-loop μ-loop
 returns c = search needs
 
 pub values-spec : {M : Type 1} → statement M
-values-spec =
-    tie.close
-    (tie.spec
-    Inv-loop
-    μ-loop
-    loop-holds
-    sub-left
-    mul-low
-    shr-value
-    value-requires
-    digit-requires
-    loop-less
-    loop-again
-    returns)
+values-spec = tie.close (tie.spec Inv-loop μ-loop loop-holds sub-left mul-low shr-value value-requires digit-requires loop-less loop-again returns)

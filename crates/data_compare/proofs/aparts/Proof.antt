@@ -57,5 +57,5 @@ returns c = pairs-end (c .before .before .loop .inv) (c .before .loop-test .left
 
 pub aparts-spec : {M : Type 1} → statement M
 aparts-spec =
-    tie.close (tie.spec Inv-loop μ-loop starts-of-requires loop-holds apart-at-requires add-apart-at apart-at-requires-2 with-pair-requires add-then add-i loop-less loop-again told-requires
-    returns)
+    tie.close (tie.spec Inv-loop μ-loop starts-of-requires loop-holds apart-at-requires add-apart-at apart-at-requires-2 with-pair-requires add-then add-i
+    loop-less loop-again told-requires returns)

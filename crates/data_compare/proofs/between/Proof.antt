@@ -54,4 +54,6 @@ returns : tie.Need-returns Inv-loop μ-loop
 returns c = all-seen (c .before .loop .inv .stretches .few) (c .loop-test .left) (c .before .loop .inv .done)
 
 pub between-spec : {M : Type 1} → statement M
-between-spec = tie.close (tie.spec Inv-loop μ-loop first-stretch-requires loop-holds sub-smaller smaller-requires singles-requires add-k add-at add-at-2 loop-less loop-again returns)
+between-spec =
+    tie.close (tie.spec Inv-loop μ-loop first-stretch-requires loop-holds sub-smaller smaller-requires singles-requires add-k add-at add-at-2 loop-less
+    loop-again returns)

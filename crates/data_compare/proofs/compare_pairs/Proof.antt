@@ -50,4 +50,6 @@ returns-4 c =
     run-seen (d .pre) (apart-run (d .args .run) (form-last (d .pre .form) (b .if1 .left) (a .if2 .left) (c .before .if3 .left))) (c .aparts .ensures)
 
 pub compare-pairs-spec : {M : Type 1} → statement M
-compare-pairs-spec = tie.close (tie.spec mul-sides sides-requires returns mul-sides-2 sides-requires-2 returns-2 add-sides mul-sides-3 sides-requires-3 returns-3 mul-aparts aparts-requires returns-4)
+compare-pairs-spec =
+    tie.close (tie.spec mul-sides sides-requires returns mul-sides-2 sides-requires-2 returns-2 add-sides mul-sides-3 sides-requires-3 returns-3 mul-aparts
+    aparts-requires returns-4)

@@ -59,5 +59,5 @@ returns c = pairs-end (c .before .before .loop .inv) (c .before .loop-test .left
 
 pub sides-spec : {M : Type 1} → statement M
 sides-spec =
-    tie.close (tie.spec Inv-loop μ-loop starts-of-requires loop-holds six-at-requires add-six-at six-at-requires-2 with-pair-requires mul-then add-then add-i loop-less loop-again
-    told-requires returns)
+    tie.close (tie.spec Inv-loop μ-loop starts-of-requires loop-holds six-at-requires add-six-at six-at-requires-2 with-pair-requires mul-then add-then add-i
+    loop-less loop-again told-requires returns)

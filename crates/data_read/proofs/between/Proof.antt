@@ -66,5 +66,5 @@ returns c = all-read (c .before .loop .inv .stretches .few) (c .loop-test .left)
 
 pub between-spec : {M : Type 1} → statement M
 between-spec =
-    tie.close (tie.spec Inv-loop μ-loop first-stretch-requires loop-holds sub-smaller smaller-requires add-singles singles-requires add-k add-at
-    add-at-2 loop-less loop-again same-length returns)
+    tie.close (tie.spec Inv-loop μ-loop first-stretch-requires loop-holds sub-smaller smaller-requires add-singles singles-requires add-k add-at add-at-2
+    loop-less loop-again same-length returns)

@@ -35,5 +35,4 @@ returns c =
     (l .0, l .1)
 
 pub four-spec : {M : Type 1} → statement M
-four-spec =
-    tie.close (tie.spec two-symbols-requires mul-result shl-result two-symbols-requires-2 add-result returns)
+four-spec = tie.close (tie.spec two-symbols-requires mul-result shl-result two-symbols-requires-2 add-result returns)

@@ -44,5 +44,4 @@ returns c =
     one-on (f .pre .0) (f .pre .1) (e .port-offsets .ensures) (d .six-at .ensures) (b .two-symbols .ensures .0) (a .give .ensures)
 
 pub pair-spec : {M : Type 1} → statement M
-pair-spec =
-    tie.close (tie.spec port-offsets-requires add-six-at mul-six-at six-at-requires mul-give two-symbols-requires give-requires same-length returns)
+pair-spec = tie.close (tie.spec port-offsets-requires add-six-at mul-six-at six-at-requires mul-give two-symbols-requires give-requires same-length returns)

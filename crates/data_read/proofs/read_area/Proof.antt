@@ -32,5 +32,4 @@ returns c =
     section-read (e .pre .0) (e .pre .1) (d .begin .ensures) (b .read-runs .ensures) (a .flush .ensures)
 
 pub read-area-spec : {M : Type 1} → statement M
-read-area-spec =
-    tie.close (tie.spec set-tables-requires begin-requires read-runs-requires flush-requires same-length returns)
+read-area-spec = tie.close (tie.spec set-tables-requires begin-requires read-runs-requires flush-requires same-length returns)

@@ -57,5 +57,4 @@ returns-2 c =
     (ap (λ (x : ℕ). d .args .j + x) (holes-total (d .args .run) (b .holes-of .ensures) (d .pre .0 .short) .0), a .read-pairs .ensures)
 
 pub read-run-spec : {M : Type 1} → statement M
-read-run-spec =
-    tie.close (tie.spec holes-of-requires mul-next add-next read-single-requires same-length returns read-pairs-requires same-length-2 returns-2)
+read-run-spec = tie.close (tie.spec holes-of-requires mul-next add-next read-single-requires same-length returns read-pairs-requires same-length-2 returns-2)

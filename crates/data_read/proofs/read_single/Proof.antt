@@ -48,5 +48,4 @@ returns-2 c =
     single-read _ (d .args .run) (holes-total (d .args .run) (d .pre .1) (d .pre .0 .short) .0) (holed-at (d .pre .0) (d .pre .1) (b .if1 .left)) (a .between .ensures)
 
 pub read-single-spec : {M : Type 1} → statement M
-read-single-spec =
-    tie.close (tie.spec mul-doubles doubles-requires same-length returns mul-total between-requires same-length-2 returns-2)
+read-single-spec = tie.close (tie.spec mul-doubles doubles-requires same-length returns mul-total between-requires same-length-2 returns-2)

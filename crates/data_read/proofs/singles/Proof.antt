@@ -65,5 +65,5 @@ returns c = all-read (c .before .loop .inv .1) (c .loop-test .left) (c .before .
 
 pub singles-spec : {M : Type 1} → statement M
 singles-spec =
-    tie.close (tie.spec Inv-loop μ-loop mul-at loop-holds three-at-requires symbol-of-requires give-requires add-at add-i loop-less loop-again
-    same-length returns)
+    tie.close (tie.spec Inv-loop μ-loop mul-at loop-holds three-at-requires symbol-of-requires give-requires add-at add-i loop-less loop-again same-length
+    returns)

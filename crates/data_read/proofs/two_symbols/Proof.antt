@@ -33,5 +33,4 @@ returns c =
     (l .0, l .1)
 
 pub two-symbols-spec : {M : Type 1} → statement M
-two-symbols-spec =
-    tie.close (tie.spec symbol-of-requires shl-result symbol-of-requires-2 add-result returns)
+two-symbols-spec = tie.close (tie.spec symbol-of-requires shl-result symbol-of-requires-2 add-result returns)

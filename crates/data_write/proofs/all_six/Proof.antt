@@ -56,5 +56,4 @@ returns-2 c =
 
 pub all-six-spec : {M : Type 1} → statement M
 all-six-spec =
-    tie.close (tie.spec mul-n sixes-requires mul-if1 mul-pair add-pair mul-pair-2 add-pair-2 pair-requires same-length returns same-length-2
-    returns-2)
+    tie.close (tie.spec mul-n sixes-requires mul-if1 mul-pair add-pair mul-pair-2 add-pair-2 pair-requires same-length returns same-length-2 returns-2)

@@ -73,5 +73,5 @@ returns c = doubles-end (c .before .loop .inv) (c .loop-test .left)
 
 pub doubles-spec : {M : Type 1} → statement M
 doubles-spec =
-    tie.close (tie.spec Inv-loop μ-loop mul-two mul-at loop-holds take-requires shr-number number-requires number-requires-2 joint-requires
-    put-six-requires add-at add-i loop-less loop-again same-length returns)
+    tie.close (tie.spec Inv-loop μ-loop mul-two mul-at loop-holds take-requires shr-number number-requires number-requires-2 joint-requires put-six-requires
+    add-at add-i loop-less loop-again same-length returns)

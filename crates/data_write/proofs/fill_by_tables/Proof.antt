@@ -30,5 +30,4 @@ returns c =
     area-filled (a .before .before .before .before .before .before .pre) (a .begin .ensures) (c .before .before .before .before .fill-runs .ensures) (c .end .ensures)
 
 pub fill-by-tables-spec : {M : Type 1} → statement M
-fill-by-tables-spec =
-    tie.close (tie.spec set-tables-requires begin-requires fill-runs-requires end-requires same-length returns)
+fill-by-tables-spec = tie.close (tie.spec set-tables-requires begin-requires fill-runs-requires end-requires same-length returns)

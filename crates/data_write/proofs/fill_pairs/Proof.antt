@@ -83,5 +83,5 @@ returns-4 c =
 
 pub fill-pairs-spec : {M : Type 1} → statement M
 fill-pairs-spec =
-    tie.close (tie.spec all-six-requires mul-result add-result same-length returns quads-requires mul-result-2 add-result-2 same-length-2 returns-2
-    add-quads quads-requires-2 mul-result-3 add-result-3 same-length-3 returns-3 quads-apart-requires mul-result-4 add-result-4 same-length-4 returns-4)
+    tie.close (tie.spec all-six-requires mul-result add-result same-length returns quads-requires mul-result-2 add-result-2 same-length-2 returns-2 add-quads
+    quads-requires-2 mul-result-3 add-result-3 same-length-3 returns-3 quads-apart-requires mul-result-4 add-result-4 same-length-4 returns-4)

@@ -28,6 +28,4 @@ returns-2 : tie.Need-returns-2
 returns-2 c = pairs-filled (c .before .before .before .before .before .if1 .left) (c .before .before .fill-pairs .ensures)
 
 pub fill-run-spec : {M : Type 1} → statement M
-fill-run-spec =
-    tie.close
-    (tie.spec fill-single-requires same-length returns fill-pairs-requires same-length-2 returns-2)
+fill-run-spec = tie.close (tie.spec fill-single-requires same-length returns fill-pairs-requires same-length-2 returns-2)

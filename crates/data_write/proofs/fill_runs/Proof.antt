@@ -1,7 +1,6 @@
 -- `data_write::fill_runs` meets its contract. Invariant: the runs before the cursor are filled. Assumes nothing.
 use native.Mathlib.Omega.{arith}
-use mathlib.Core.Path.{refl}
-use Rattle.areas.proofs.Runs.{extent, cursor-in}
+use Rattle.areas.proofs.Runs.{cursor-in}
 use Rattle.data_write.proofs.Areas.{area-begins, area-run, area-on, area-ends}
 use Rattle.data_write.specs.Areas.{Going}
 use Rattle.walk.proofs.Cursors.{less, measure}
@@ -14,83 +13,60 @@ Inv-loop st₀ q t bits grid₀ a rows spans symbols carriers places c₀ j₀ s
 abbrev μ-loop : tie.MeasureT-loop
 μ-loop st₀ q t bits grid₀ a rows spans symbols carriers places c₀ j₀ st grid c j = measure symbols c
 
-slot-length-requires : tie.Need-slot-length-requires Inv-loop μ-loop
-slot-length-requires c κs = tt
+symbols-requires : tie.Need-symbols-requires Inv-loop μ-loop
+symbols-requires c κs = tt
 
-mul-symbols : tie.Need-mul-symbols Inv-loop μ-loop
-mul-symbols c = omega (arith, extent (c .before .before .before .pre .runs) (c .slot-length .ensures) refl .0)
+carriers-requires : tie.Need-carriers-requires Inv-loop μ-loop
+carriers-requires c κs = tt
 
-wide-requires : tie.Need-wide-requires Inv-loop μ-loop
-wide-requires c κs = tt
-
-mul-carriers : tie.Need-mul-carriers Inv-loop μ-loop
-mul-carriers c = omega (arith, extent (c .before .before .before .before .pre .runs) (c .before .slot-length .ensures) (c .wide .ensures) .1)
-
-mul-places : tie.Need-mul-places Inv-loop μ-loop
-mul-places c = omega (arith, extent (c .before .before .before .before .pre .runs) (c .before .slot-length .ensures) (c .wide .ensures) .2)
+places-requires : tie.Need-places-requires Inv-loop μ-loop
+places-requires c κs = tt
 
 start-requires : tie.Need-start-requires Inv-loop μ-loop
 start-requires c κs = tt
 
 loop-holds : tie.Need-loop-holds Inv-loop μ-loop
-loop-holds c = area-begins (c .before .before .before .before .before .pre) (c .start .ensures)
+loop-holds c = area-begins (c .before .before .before .before .before .before .pre) (c .start .ensures)
 
 run-at-requires : tie.Need-run-at-requires Inv-loop μ-loop
 run-at-requires c κs =
-    let a = c .before .before in
-    let b = a .before .before in
-    let d = b .before in
-    let e = d .before .before .before in
-    cursor-in (e .pre .runs) (d .slot-length .ensures) (b .wide .ensures) (a .loop .inv .cursor) (c .if1 .taken)
+    let c2 = c .before .before in let c4 = c2 .before .before in let c5 = c4 .before in let c6 = c5 .before in let c9 = c6 .before .before .before in
+    cursor-in (c9 .pre .runs) (c6 .symbols .ensures .0) (c5 .carriers .ensures) (c4 .places .ensures) (c2 .loop .inv .cursor) (c .if1 .taken)
 
 fill-run-requires : tie.Need-fill-run-requires Inv-loop μ-loop
 fill-run-requires c κs =
-    let a = c .before .before in
-    let b = a .before in
-    let d = b .before .before in
-    let e = d .before .before in
-    let f = e .before in
-    let g = f .before .before .before in
-    area-run (g .pre) (f .slot-length .ensures) (e .wide .ensures) (d .loop .inv) (b .if1 .taken) (a .run-at .ensures .0) (a .run-at .ensures .1)
+    let c2 = c .before .before in let c3 = c2 .before in let c5 = c3 .before .before in let c7 = c5 .before .before in let c8 = c7 .before in
+    let c9 = c8 .before in let c12 = c9 .before .before .before in
+    area-run (c12 .pre) (c9 .symbols .ensures .0) (c8 .carriers .ensures) (c7 .places .ensures) (c5 .loop .inv) (c3 .if1 .taken) (c2 .run-at .ensures .0)
+    (c2 .run-at .ensures .1)
 
 next-requires : tie.Need-next-requires Inv-loop μ-loop
 next-requires c κs =
-    let a = c .before .before .before .before .before .before in
-    let b = a .before .before .before .before in
-    let d = b .before in
-    let e = d .before .before .before in
-    omega (arith, extent (e .pre .runs) (d .slot-length .ensures) (b .wide .ensures) .0, a .if1 .taken)
+    let c6 = c .before .before .before .before .before .before in let c12 = c6 .before .before .before .before .before .before in
+    omega (arith, c12 .symbols .ensures .1, c6 .if1 .taken)
 
 loop-less : tie.Need-loop-less Inv-loop μ-loop
 loop-less c =
-    let a = c .before .before .before .before .before .before .before in
-    let b = a .before .before in
-    let d = b .before .before .before .before .before .before in
-    less _ (d .args .rows .now) (b .loop .c) (c .next .ensures .0) (a .if1 .taken) (c .next .ensures .1)
+    let c7 = c .before .before .before .before .before .before .before in let c9 = c7 .before .before in
+    let c16 = c9 .before .before .before .before .before .before .before in
+    less _ (c16 .args .rows .now) (c9 .loop .c) (c .next .ensures .0) (c7 .if1 .taken) (c .next .ensures .1)
 
 loop-again : tie.Need-loop-again Inv-loop μ-loop
 loop-again c =
-    let a = c .before .before .before in
-    let b = a .before .before .before in
-    let d = b .before in
-    let e = d .before .before in
-    let f = e .before .before in
-    let g = f .before in
-    let h = g .before .before .before in
-    area-on (h .pre) (g .slot-length .ensures) (f .wide .ensures) (e .loop .inv) (d .if1 .taken) (b .run-at .ensures .0) (c .next .ensures .0) (a .fill-run .ensures)
+    let c3 = c .before .before .before in let c6 = c3 .before .before .before in let c7 = c6 .before in let c9 = c7 .before .before in
+    let c11 = c9 .before .before in let c12 = c11 .before in let c13 = c12 .before in let c16 = c13 .before .before .before in
+    area-on (c16 .pre) (c13 .symbols .ensures .0) (c12 .carriers .ensures) (c11 .places .ensures) (c9 .loop .inv) (c7 .if1 .taken) (c6 .run-at .ensures .0)
+    (c .next .ensures .0) (c3 .fill-run .ensures)
 
 same-length : tie.Need-same-length Inv-loop μ-loop
 same-length c = c .before .before .loop .inv .size
 
 returns : tie.Need-returns Inv-loop μ-loop
 returns c =
-    let a = c .before .before in
-    let b = a .before .before in
-    let d = b .before in
-    let e = d .before .before .before in
-    area-ends (e .pre) (d .slot-length .ensures) (b .wide .ensures) (a .loop .inv) (c .if1 .left)
+    let c2 = c .before .before in let c4 = c2 .before .before in let c5 = c4 .before in let c6 = c5 .before in let c9 = c6 .before .before .before in
+    area-ends (c9 .pre) (c6 .symbols .ensures .0) (c5 .carriers .ensures) (c4 .places .ensures) (c2 .loop .inv) (c .if1 .left)
 
 pub fill-runs-spec : {M : Type 1} → statement M
 fill-runs-spec =
-    tie.close (tie.spec Inv-loop μ-loop slot-length-requires mul-symbols wide-requires mul-carriers mul-places start-requires loop-holds
-    run-at-requires fill-run-requires next-requires loop-less loop-again same-length returns)
+    tie.close (tie.spec Inv-loop μ-loop symbols-requires carriers-requires places-requires start-requires loop-holds run-at-requires fill-run-requires
+    next-requires loop-less loop-again same-length returns)

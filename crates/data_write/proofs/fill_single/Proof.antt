@@ -69,5 +69,5 @@ returns-2 c =
 
 pub fill-single-spec : {M : Type 1} → statement M
 fill-single-spec =
-    tie.close (tie.spec holes-of-requires mul-total mul-doubles doubles-requires add-result same-length returns between-requires add-result-2
-    same-length-2 returns-2)
+    tie.close (tie.spec holes-of-requires mul-total mul-doubles doubles-requires add-result same-length returns between-requires add-result-2 same-length-2
+    returns-2)

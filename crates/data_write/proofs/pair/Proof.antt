@@ -64,5 +64,5 @@ returns c =
 
 pub pair-spec : {M : Type 1} → statement M
 pair-spec =
-    tie.close (tie.spec port-offsets-requires mul-take take-requires shr-number number-requires number-requires-2 add-put-pair mul-put-pair
-    mul-put-pair-2 joint-requires partners-requires put-pair-requires same-length returns)
+    tie.close (tie.spec port-offsets-requires mul-take take-requires shr-number number-requires number-requires-2 add-put-pair mul-put-pair mul-put-pair-2
+    joint-requires partners-requires put-pair-requires same-length returns)

@@ -67,5 +67,5 @@ returns c = let a = c .before .before in filled-end (a .before .loop .inv) (a .l
 
 pub quads-apart-spec : {M : Type 1} → statement M
 quads-apart-spec =
-    tie.close (tie.spec Inv-loop μ-loop first-round-requires rest-of-requires loop-holds mul-take-rest take-rest-requires shr-round-apart round-apart-requires add-at
-    add-next add-i loop-less loop-again put-rest-requires same-length returns)
+    tie.close (tie.spec Inv-loop μ-loop first-round-requires rest-of-requires loop-holds mul-take-rest take-rest-requires shr-round-apart round-apart-requires
+    add-at add-next add-i loop-less loop-again put-rest-requires same-length returns)

@@ -57,5 +57,5 @@ returns c =
 
 pub round-spec : {M : Type 1} → statement M
 round-spec =
-    tie.close (tie.spec shr-y shr-x shr-number number-requires number-requires-2 number-requires-3 number-requires-4
-    joint-requires partners-requires put-pair-requires joint-requires-2 partners-requires-2 put-pair-requires-2 same-length returns)
+    tie.close (tie.spec shr-y shr-x shr-number number-requires number-requires-2 number-requires-3 number-requires-4 joint-requires partners-requires
+    put-pair-requires joint-requires-2 partners-requires-2 put-pair-requires-2 same-length returns)

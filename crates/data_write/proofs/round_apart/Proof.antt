@@ -57,5 +57,5 @@ returns c =
 
 pub round-apart-spec : {M : Type 1} → statement M
 round-apart-spec =
-    tie.close (tie.spec shr-y shr-x shr-number number-requires number-requires-2 number-requires-3 number-requires-4
-    joint-requires partners-requires put-pair-apart-requires joint-requires-2 partners-requires-2 put-pair-apart-requires-2 same-length returns)
+    tie.close (tie.spec shr-y shr-x shr-number number-requires number-requires-2 number-requires-3 number-requires-4 joint-requires partners-requires
+    put-pair-apart-requires joint-requires-2 partners-requires-2 put-pair-apart-requires-2 same-length returns)

@@ -58,5 +58,4 @@ returns c = singles-end (c .before .loop .inv) (c .loop-test .left)
 
 pub singles-spec : {M : Type 1} → statement M
 singles-spec =
-    tie.close (tie.spec Inv-loop μ-loop mul-at loop-holds take-requires number-requires put-three-requires add-at add-i loop-less loop-again
-    same-length returns)
+    tie.close (tie.spec Inv-loop μ-loop mul-at loop-holds take-requires number-requires put-three-requires add-at add-i loop-less loop-again same-length returns)

@@ -23,6 +23,4 @@ returns : tie.Need-returns
 returns c = two-read (c .before .three-at .ensures) (c .three-at2 .ensures)
 
 pub apart-at-spec : {M : Type 1} → statement M
-apart-at-spec =
-    tie.close
-    (tie.spec three-at-requires add-three-at three-at-requires-2 mul-result add-result returns)
+apart-at-spec = tie.close (tie.spec three-at-requires add-three-at three-at-requires-2 mul-result add-result returns)

@@ -26,13 +26,4 @@ returns : tie.Need-returns
 returns c = two-apart (c .before .before .before .before .before .before .put-bytes .ensures) (c .before .before .put-bytes2 .ensures)
 
 pub put-apart-spec : {M : Type 1} → statement M
-put-apart-spec =
-    tie.close
-    (tie.spec
-    cast-put-bytes
-    put-bytes-requires
-    add-put-bytes
-    cast-put-bytes-2
-    put-bytes-requires-2
-    same-length
-    returns)
+put-apart-spec = tie.close (tie.spec cast-put-bytes put-bytes-requires add-put-bytes cast-put-bytes-2 put-bytes-requires-2 same-length returns)

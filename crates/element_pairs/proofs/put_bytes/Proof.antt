@@ -23,5 +23,4 @@ returns : tie.Need-returns
 returns c = three-bytes (c .before .before .before .before .before .pre) (c .before .before .put-two .ensures)
 
 pub put-bytes-spec : {M : Type 1} → statement M
-put-bytes-spec =
-    tie.close (tie.spec put-two-requires cast-grid add-grid slice-write-grid same-length returns)
+put-bytes-spec = tie.close (tie.spec put-two-requires cast-grid add-grid slice-write-grid same-length returns)

@@ -20,5 +20,4 @@ returns : tie.Need-returns
 returns c = four-bytes (c .before .before .before .before .before .before .put-two .ensures) (c .before .before .put-two2 .ensures)
 
 pub put-four-spec : {M : Type 1} → statement M
-put-four-spec =
-    tie.close (tie.spec put-two-requires add-put-two put-two-requires-2 same-length returns)
+put-four-spec = tie.close (tie.spec put-two-requires add-put-two put-two-requires-2 same-length returns)

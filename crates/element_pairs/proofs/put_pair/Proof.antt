@@ -22,5 +22,4 @@ returns c =
     record { size = c2 .put-six2 .kept .0 ∙ c6 .put-six .kept .0; middle = _; own = c6 .put-six .ensures; other = c2 .put-six2 .ensures }
 
 pub put-pair-spec : {M : Type 1} → statement M
-put-pair-spec =
-    tie.close (tie.spec put-six-requires add-put-six put-six-requires-2 same-length returns)
+put-pair-spec = tie.close (tie.spec put-six-requires add-put-six put-six-requires-2 same-length returns)

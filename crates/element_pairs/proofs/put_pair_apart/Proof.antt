@@ -22,5 +22,4 @@ returns c =
     record { size = c2 .put-apart2 .kept .0 ∙ c6 .put-apart .kept .0; middle = _; own = c6 .put-apart .ensures; other = c2 .put-apart2 .ensures }
 
 pub put-pair-apart-spec : {M : Type 1} → statement M
-put-pair-apart-spec =
-    tie.close (tie.spec put-apart-requires add-put-apart put-apart-requires-2 same-length returns)
+put-pair-apart-spec = tie.close (tie.spec put-apart-requires add-put-apart put-apart-requires-2 same-length returns)

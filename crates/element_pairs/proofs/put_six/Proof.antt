@@ -26,13 +26,4 @@ returns : tie.Need-returns
 returns c = two-beside (six-bytes (c .before .before .before .before .before .before .put-four .ensures) (c .before .before .put-two .ensures))
 
 pub put-six-spec : {M : Type 1} → statement M
-put-six-spec =
-    tie.close
-    (tie.spec
-    cast-put-four
-    put-four-requires
-    add-put-two
-    cast-put-two
-    put-two-requires
-    same-length
-    returns)
+put-six-spec = tie.close (tie.spec cast-put-four put-four-requires add-put-two cast-put-two put-two-requires same-length returns)

@@ -26,13 +26,4 @@ returns : tie.Need-returns
 returns c = two-bytes (c .args .at) (c .args .v) (c .args .grid .now) (c .pre)
 
 pub put-two-spec : {M : Type 1} → statement M
-put-two-spec =
-    tie.close
-    (tie.spec
-    cast-grid
-    slice-write-grid
-    cast-grid-2
-    add-grid
-    slice-write-grid-2
-    same-length
-    returns)
+put-two-spec = tie.close (tie.spec cast-grid slice-write-grid cast-grid-2 add-grid slice-write-grid-2 same-length returns)

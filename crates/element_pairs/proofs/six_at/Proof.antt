@@ -36,15 +36,4 @@ returns c = six-read (c .before .before .two-at .ensures) (c .before .two-at2 .e
 
 pub six-at-spec : {M : Type 1} → statement M
 six-at-spec =
-    tie.close
-    (tie.spec
-    two-at-requires
-    add-two-at
-    two-at-requires-2
-    mul-result
-    add-result
-    add-two-at-2
-    two-at-requires-3
-    mul-result-2
-    add-result-2
-    returns)
+    tie.close (tie.spec two-at-requires add-two-at two-at-requires-2 mul-result add-result add-two-at-2 two-at-requires-3 mul-result-2 add-result-2 returns)

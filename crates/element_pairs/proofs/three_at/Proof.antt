@@ -26,6 +26,4 @@ returns : tie.Need-returns
 returns c = one-read (c .before .before .two-at .ensures) (c .byte .ensures .0) (c .byte .ensures .1)
 
 pub three-at-spec : {M : Type 1} → statement M
-three-at-spec =
-    tie.close
-    (tie.spec two-at-requires add-byte shared-slice-read-byte byte-requires mul-result add-result returns)
+three-at-spec = tie.close (tie.spec two-at-requires add-byte shared-slice-read-byte byte-requires mul-result add-result returns)

@@ -31,13 +31,4 @@ returns c =
     (c .moved2 .ensures)
 
 pub advance-spec : {M : Type 1} → statement M
-advance-spec =
-    tie.close
-    (tie.spec
-    fed1-requires
-    windowed-requires
-    moved-requires
-    fed2-requires
-    windowed-requires-2
-    moved-requires-2
-    returns)
+advance-spec = tie.close (tie.spec fed1-requires windowed-requires moved-requires fed2-requires windowed-requires-2 moved-requires-2 returns)

@@ -36,6 +36,4 @@ returns : tie.Need-returns Inv-loop μ-loop
 returns c = mirrored-done (c .before .loop .inv) (c .loop-test .left)
 
 pub mirrored-spec : {M : Type 1} → statement M
-mirrored-spec =
-    tie.close
-    (tie.spec Inv-loop μ-loop loop-holds mul-x shr-x add-x add-k loop-less loop-again returns)
+mirrored-spec = tie.close (tie.spec Inv-loop μ-loop loop-holds mul-x shr-x add-x add-k loop-less loop-again returns)

@@ -42,17 +42,4 @@ returns-2 : tie.Need-returns-2 Inv-loop μ-loop
 returns-2 c = c .advance2 .ensures ∙ c .before .before .before .loop .inv
 
 pub skip-spec : {M : Type 1} → statement M
-skip-spec =
-    tie.close
-    (tie.spec
-    Inv-loop
-    μ-loop
-    loop-holds
-    advance-requires
-    sub-left
-    loop-less
-    loop-again
-    returns
-    cast-advance
-    advance-requires-2
-    returns-2)
+skip-spec = tie.close (tie.spec Inv-loop μ-loop loop-holds advance-requires sub-left loop-less loop-again returns cast-advance advance-requires-2 returns-2)

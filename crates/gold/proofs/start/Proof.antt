@@ -23,5 +23,4 @@ returns c =
     start-is _ (m .before .args .c-init) _ _ _ (m .mirrored .ensures) (c .before .fed2 .ensures) (c .windowed .ensures) refl refl
 
 pub start-spec : {M : Type 1} → statement M
-start-spec =
-    tie.close (tie.spec mirrored-requires fed2-requires windowed-requires cast-t6 returns)
+start-spec = tie.close (tie.spec mirrored-requires fed2-requires windowed-requires cast-t6 returns)

@@ -36,15 +36,4 @@ returns c =
     widen-is (s .args .r) _ _ _ _ _ (a .before .fed1 .ensures) (a .windowed .ensures) refl (c .before .fed2 .ensures) (c .windowed2 .ensures) refl
 
 pub widen-spec : {M : Type 1} → statement M
-widen-spec =
-    tie.close
-    (tie.spec
-    fed1-requires
-    windowed-requires
-    fed2-requires
-    windowed-requires-2
-    mul-t6
-    add-t11
-    mul-t13
-    add-t22
-    returns)
+widen-spec = tie.close (tie.spec fed1-requires windowed-requires fed2-requires windowed-requires-2 mul-t6 add-t11 mul-t13 add-t22 returns)

@@ -48,19 +48,5 @@ returns c = search needs
 
 pub parts-spec : {M : Type 1} → statement M
 parts-spec =
-    tie.close
-    (tie.spec
-    Inv-loop
-    μ-loop
-    pair-at-requires
-    loop-holds
-    part-requires
-    advance-requires
-    add-first
-    loop-less
-    loop-again
-    pair-at-requires-2
-    part-requires-2
-    pair-at-requires-3
-    part-requires-3
-    returns)
+    tie.close (tie.spec Inv-loop μ-loop pair-at-requires loop-holds part-requires advance-requires add-first loop-less loop-again pair-at-requires-2
+    part-requires-2 pair-at-requires-3 part-requires-3 returns)

@@ -29,6 +29,4 @@ returns : tie.Need-returns Inv-loop μ-loop
 returns c = search needs
 
 pub words-spec : {M : Type 1} → statement M
-words-spec =
-    tie.close
-    (tie.spec Inv-loop μ-loop loop-holds word-requires add-n loop-less loop-again returns)
+words-spec = tie.close (tie.spec Inv-loop μ-loop loop-holds word-requires add-n loop-less loop-again returns)

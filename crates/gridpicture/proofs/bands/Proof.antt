@@ -58,22 +58,5 @@ returns c = search needs
 
 pub bands-spec : {M : Type 1} → statement M
 bands-spec =
-    tie.close
-    (tie.spec
-    Inv-loop
-    μ-loop
-    slice-aggregate-text
-    text-requires
-    bands-requires
-    loop-holds
-    symbol-rows-requires
-    symbol-labels-requires
-    block-lines-requires
-    block-labels-requires
-    axis-titles-requires
-    add-band
-    loop-less
-    loop-again
-    slice-aggregate-text-2
-    text-requires-2
-    returns)
+    tie.close (tie.spec Inv-loop μ-loop slice-aggregate-text text-requires bands-requires loop-holds symbol-rows-requires symbol-labels-requires
+    block-lines-requires block-labels-requires axis-titles-requires add-band loop-less loop-again slice-aggregate-text-2 text-requires-2 returns)

@@ -94,34 +94,6 @@ returns c = search needs
 
 pub block-labels-spec : {M : Type 1} → statement M
 block-labels-spec =
-    tie.close
-    (tie.spec
-    Inv-loop
-    μ-loop
-    band-top-requires
-    sub-top
-    symbols-requires
-    row-top-requires
-    add-bottom
-    slice-aggregate-text
-    text-requires
-    band-blocks-requires
-    loop-holds
-    mul-column
-    add-column
-    column-requires
-    mul-number-at
-    add-number-at
-    number-at-requires
-    mul-column-2
-    column-requires-2
-    mul-number-at-2
-    mul-number-at-3
-    add-number-at-2
-    number-at-requires-2
-    add-b
-    loop-less
-    loop-again
-    slice-aggregate-text-2
-    text-requires-2
-    returns)
+    tie.close (tie.spec Inv-loop μ-loop band-top-requires sub-top symbols-requires row-top-requires add-bottom slice-aggregate-text text-requires
+    band-blocks-requires loop-holds mul-column add-column column-requires mul-number-at add-number-at number-at-requires mul-column-2 column-requires-2
+    mul-number-at-2 mul-number-at-3 add-number-at-2 number-at-requires-2 add-b loop-less loop-again slice-aggregate-text-2 text-requires-2 returns)

@@ -67,25 +67,5 @@ returns c = search needs
 
 pub block-lines-spec : {M : Type 1} → statement M
 block-lines-spec =
-    tie.close
-    (tie.spec
-    Inv-loop
-    μ-loop
-    band-top-requires
-    sub-top
-    symbols-requires
-    row-top-requires
-    add-bottom
-    slice-aggregate-text
-    text-requires
-    band-blocks-requires
-    loop-holds
-    mul-column
-    column-requires
-    block-line-requires
-    add-b
-    loop-less
-    loop-again
-    slice-aggregate-text-2
-    text-requires-2
-    returns)
+    tie.close (tie.spec Inv-loop μ-loop band-top-requires sub-top symbols-requires row-top-requires add-bottom slice-aggregate-text text-requires
+    band-blocks-requires loop-holds mul-column column-requires block-line-requires add-b loop-less loop-again slice-aggregate-text-2 text-requires-2 returns)

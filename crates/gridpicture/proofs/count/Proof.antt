@@ -36,16 +36,4 @@ returns : tie.Need-returns Inv-loop μ-loop
 returns c = search needs
 
 pub count-spec : {M : Type 1} → statement M
-count-spec =
-    tie.close
-    (tie.spec
-    Inv-loop
-    μ-loop
-    loop-holds
-    has-requires
-    one-if-requires
-    add-owners
-    add-n
-    loop-less
-    loop-again
-    returns)
+count-spec = tie.close (tie.spec Inv-loop μ-loop loop-holds has-requires one-if-requires add-owners add-n loop-less loop-again returns)

@@ -43,17 +43,5 @@ returns c = search needs
 
 pub entries-spec : {M : Type 1} → statement M
 entries-spec =
-    tie.close
-    (tie.spec
-    Inv-loop
-    μ-loop
-    slice-aggregate-text
-    text-requires
-    loop-holds
-    listed-requires
-    add-n
-    loop-less
-    loop-again
-    slice-aggregate-text-2
-    text-requires-2
-    returns)
+    tie.close (tie.spec Inv-loop μ-loop slice-aggregate-text text-requires loop-holds listed-requires add-n loop-less loop-again slice-aggregate-text-2
+    text-requires-2 returns)

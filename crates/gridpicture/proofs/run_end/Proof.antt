@@ -46,18 +46,5 @@ returns-2 c = search needs
 
 pub run-end-spec : {M : Type 1} → statement M
 run-end-spec =
-    tie.close
-    (tie.spec
-    Inv-loop
-    μ-loop
-    mul-owner
-    element-copy-out-owner
-    add-end
-    loop-holds
-    mul-if1
-    element-copy-out-if1
-    returns
-    add-end-2
-    loop-less
-    loop-again
+    tie.close (tie.spec Inv-loop μ-loop mul-owner element-copy-out-owner add-end loop-holds mul-if1 element-copy-out-if1 returns add-end-2 loop-less loop-again
     returns-2)

@@ -46,18 +46,5 @@ returns c = search needs
 
 pub runs-spec : {M : Type 1} → statement M
 runs-spec =
-    tie.close
-    (tie.spec
-    Inv-loop
-    μ-loop
-    loop-holds
-    run-end-requires
-    column-requires
-    sub-across
-    across-requires
-    mul-rect
-    element-copy-out-rect
-    rect-requires
-    loop-less
-    loop-again
-    returns)
+    tie.close (tie.spec Inv-loop μ-loop loop-holds run-end-requires column-requires sub-across across-requires mul-rect element-copy-out-rect rect-requires
+    loop-less loop-again returns)

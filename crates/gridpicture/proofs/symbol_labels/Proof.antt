@@ -52,20 +52,5 @@ returns c = search needs
 
 pub symbol-labels-spec : {M : Type 1} → statement M
 symbol-labels-spec =
-    tie.close
-    (tie.spec
-    Inv-loop
-    μ-loop
-    slice-aggregate-text
-    text-requires
-    symbols-requires
-    loop-holds
-    row-top-requires
-    add-number-at
-    number-at-requires
-    add-s
-    loop-less
-    loop-again
-    slice-aggregate-text-2
-    text-requires-2
-    returns)
+    tie.close (tie.spec Inv-loop μ-loop slice-aggregate-text text-requires symbols-requires loop-holds row-top-requires add-number-at number-at-requires add-s
+    loop-less loop-again slice-aggregate-text-2 text-requires-2 returns)

@@ -46,18 +46,5 @@ returns c = search needs
 
 pub symbol-rows-spec : {M : Type 1} → statement M
 symbol-rows-spec =
-    tie.close
-    (tie.spec
-    Inv-loop
-    μ-loop
-    slice-aggregate-text
-    text-requires
-    symbols-requires
-    loop-holds
-    symbol-row-requires
-    add-s
-    loop-less
-    loop-again
-    slice-aggregate-text-2
-    text-requires-2
-    returns)
+    tie.close (tie.spec Inv-loop μ-loop slice-aggregate-text text-requires symbols-requires loop-holds symbol-row-requires add-s loop-less loop-again
+    slice-aggregate-text-2 text-requires-2 returns)

@@ -49,19 +49,5 @@ returns c = search needs
 
 pub band-spec : {M : Type 1} → statement M
 band-spec =
-    tie.close
-    (tie.spec
-    Inv-loop
-    μ-loop
-    header-requires
-    slot-symbols-requires
-    mul-end
-    loop-holds
-    slice-aggregate-text
-    text-requires
-    symbol-line-requires
-    add-s
-    loop-less
-    loop-again
-    line-requires
-    returns)
+    tie.close (tie.spec Inv-loop μ-loop header-requires slot-symbols-requires mul-end loop-holds slice-aggregate-text text-requires symbol-line-requires add-s
+    loop-less loop-again line-requires returns)

@@ -43,17 +43,4 @@ returns c = search needs
 
 pub bands-spec : {M : Type 1} → statement M
 bands-spec =
-    tie.close
-    (tie.spec
-    Inv-loop
-    μ-loop
-    cast-end
-    mul-end
-    loop-holds
-    sub-at-most-36
-    at-most-36-requires
-    band-requires
-    add-first
-    loop-less
-    loop-again
-    returns)
+    tie.close (tie.spec Inv-loop μ-loop cast-end mul-end loop-holds sub-at-most-36 at-most-36-requires band-requires add-first loop-less loop-again returns)

@@ -33,15 +33,4 @@ returns : tie.Need-returns Inv-loop μ-loop
 returns c = search needs
 
 pub entries-spec : {M : Type 1} → statement M
-entries-spec =
-    tie.close
-    (tie.spec
-    Inv-loop
-    μ-loop
-    loop-holds
-    has-requires
-    entry-requires
-    add-n
-    loop-less
-    loop-again
-    returns)
+entries-spec = tie.close (tie.spec Inv-loop μ-loop loop-holds has-requires entry-requires add-n loop-less loop-again returns)

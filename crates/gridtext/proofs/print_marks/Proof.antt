@@ -40,16 +40,4 @@ returns c = search needs
 
 pub print-marks-spec : {M : Type 1} → statement M
 print-marks-spec =
-    tie.close
-    (tie.spec
-    Inv-loop
-    μ-loop
-    loop-holds
-    mul-mark-of
-    element-copy-out-mark-of
-    mark-of-requires
-    print-mark-requires
-    add-i
-    loop-less
-    loop-again
-    returns)
+    tie.close (tie.spec Inv-loop μ-loop loop-holds mul-mark-of element-copy-out-mark-of mark-of-requires print-mark-requires add-i loop-less loop-again returns)

@@ -27,6 +27,4 @@ unfolding blocksHave
 returns c = λ n. c .within .ensures
 
 pub blocks-have-spec : {M : Type 1} → statement M
-blocks-have-spec =
-    tie.close
-    (tie.spec cast-first cast-end add-end mul-within mul-within-2 within-requires returns)
+blocks-have-spec = tie.close (tie.spec cast-first cast-end add-end mul-within mul-within-2 within-requires returns)

@@ -56,17 +56,5 @@ returns-4 c =
 
 pub crs-shift-spec : {M : Type 1} → statement M
 crs-shift-spec =
-    tie.close
-    (tie.spec
-    in-slot-requires
-    mul-result
-    returns
-    sub-result
-    mul-result-2
-    returns-2
-    slot-length-requires
-    mul-result-3
-    sub-result-2
-    mul-result-4
-    returns-3
-    returns-4)
+    tie.close (tie.spec in-slot-requires mul-result returns sub-result mul-result-2 returns-2 slot-length-requires mul-result-3 sub-result-2 mul-result-4
+    returns-3 returns-4)

@@ -36,6 +36,4 @@ unfolding crsSymbol
 returns-3 c = rw (← c .before .in-slot .ensures, le-ltb _ _ (c .if1 .left)) refl
 
 pub crs-uses-spec : {M : Type 1} → statement M
-crs-uses-spec =
-    tie.close
-    (tie.spec in-slot-requires slot-length-requires sub-result returns returns-2 returns-3)
+crs-uses-spec = tie.close (tie.spec in-slot-requires slot-length-requires sub-result returns returns-2 returns-3)

@@ -80,20 +80,5 @@ returns-8 c =
 
 pub fixed-at-spec : {M : Type 1} → statement M
 fixed-at-spec =
-    tie.close
-    (tie.spec
-    pilot-at-requires
-    returns
-    control-at-requires
-    returns-2
-    in-sync-requires
-    in-middle-requires
-    add-if5
-    slot-length-requires
-    returns-3
-    returns-4
-    returns-5
-    in-broadcast-requires
-    returns-6
-    returns-7
-    returns-8)
+    tie.close (tie.spec pilot-at-requires returns control-at-requires returns-2 in-sync-requires in-middle-requires add-if5 slot-length-requires returns-3
+    returns-4 returns-5 in-broadcast-requires returns-6 returns-7 returns-8)

@@ -29,6 +29,4 @@ unfolding formatGroup
 returns c = refl
 
 pub format-group-spec : {M : Type 1} → statement M
-format-group-spec =
-    tie.close
-    (tie.spec cast-blocks cast-result mul-result add-result mul-result-2 rem-result returns)
+format-group-spec = tie.close (tie.spec cast-blocks cast-result mul-result add-result mul-result-2 rem-result returns)

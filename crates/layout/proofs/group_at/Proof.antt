@@ -106,23 +106,5 @@ returns-5 c =
 
 pub group-at-spec : {M : Type 1} → statement M
 group-at-spec =
-    tie.close
-    (tie.spec
-    format-group-requires
-    format-group-requires-2
-    format-group-requires-3
-    format-group-requires-4
-    returns
-    returns-2
-    returns-3
-    returns-4
-    formats-below-requires
-    sub-n
-    groups-left-requires
-    cast-far
-    rem-far
-    sub-far
-    add-far
-    rem-far-2
-    unit-in-requires
-    returns-5)
+    tie.close (tie.spec format-group-requires format-group-requires-2 format-group-requires-3 format-group-requires-4 returns returns-2 returns-3 returns-4
+    formats-below-requires sub-n groups-left-requires cast-far rem-far sub-far add-far rem-far-2 unit-in-requires returns-5)

@@ -36,13 +36,4 @@ returns-4 c =
     (c .if3 .left)
 
 pub in-broadcast-spec : {M : Type 1} → statement M
-in-broadcast-spec =
-    tie.close
-    (tie.spec
-    returns
-    slot-length-requires
-    returns-2
-    add-if3
-    in-middle-requires
-    returns-3
-    returns-4)
+in-broadcast-spec = tie.close (tie.spec returns slot-length-requires returns-2 add-if3 in-middle-requires returns-3 returns-4)

@@ -32,5 +32,4 @@ unfolding inGrid
 returns-3 c = rw (← c .before .symbols .ensures .0, le-ltb _ _ (c .if1 .left)) refl
 
 pub in-grid-spec : {M : Type 1} → statement M
-in-grid-spec =
-    tie.close (tie.spec symbols-requires carriers-requires cast-result returns returns-2 returns-3)
+in-grid-spec = tie.close (tie.spec symbols-requires carriers-requires cast-result returns returns-2 returns-3)

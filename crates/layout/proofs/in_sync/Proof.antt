@@ -51,15 +51,4 @@ returns-4 c =
 
 pub in-sync-spec : {M : Type 1} → statement M
 in-sync-spec =
-    tie.close
-    (tie.spec
-    slot-length-requires
-    is-marked-requires
-    add-if2
-    in-middle-requires
-    returns
-    add-if3
-    in-middle-requires-2
-    returns-2
-    returns-3
-    returns-4)
+    tie.close (tie.spec slot-length-requires is-marked-requires add-if2 in-middle-requires returns add-if3 in-middle-requires-2 returns-2 returns-3 returns-4)

@@ -55,13 +55,4 @@ returns-3 c =
     ∙ sym (owner-of (a .args .plan .now) (a .args .p) (a .pre .0) (a .args .s) (a .args .k) (a .pre .1 .0) (a .pre .1 .1))
 
 pub owner-at-spec : {M : Type 1} → statement M
-owner-at-spec =
-    tie.close
-    (tie.spec
-    fixed-at-requires
-    enum-told
-    control-symbols-requires
-    returns
-    user-from-requires
-    returns-2
-    returns-3)
+owner-at-spec = tie.close (tie.spec fixed-at-requires enum-told control-symbols-requires returns user-from-requires returns-2 returns-3)

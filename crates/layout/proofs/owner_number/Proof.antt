@@ -80,29 +80,5 @@ returns-9 c = search needs
 
 pub owner-number-spec : {M : Type 1} → statement M
 owner-number-spec =
-    tie.close
-    (tie.spec
-    enum-known-o
-    cast-result
-    enum-known-o-2
-    enum-told
-    enum-told-2
-    enum-told-3
-    enum-told-4
-    enum-known-o-3
-    cast-result-2
-    add-result
-    enum-known-o-4
-    cast-result-3
-    add-result-2
-    enum-told-5
-    enum-told-6
-    returns
-    returns-2
-    returns-3
-    returns-4
-    returns-5
-    returns-6
-    returns-7
-    returns-8
-    returns-9)
+    tie.close (tie.spec enum-known-o cast-result enum-known-o-2 enum-told enum-told-2 enum-told-3 enum-told-4 enum-known-o-3 cast-result-2 add-result
+    enum-known-o-4 cast-result-3 add-result-2 enum-told-5 enum-told-6 returns returns-2 returns-3 returns-4 returns-5 returns-6 returns-7 returns-8 returns-9)

@@ -50,14 +50,4 @@ returns-3 c =
 
 pub owner-query-spec : {M : Type 1} → statement M
 owner-query-spec =
-    tie.close
-    (tie.spec
-    check-requires
-    enum-known-checked
-    enum-told
-    refusal-in-requires
-    returns
-    in-grid-requires
-    owner-at-requires
-    returns-2
-    returns-3)
+    tie.close (tie.spec check-requires enum-known-checked enum-told refusal-in-requires returns in-grid-requires owner-at-requires returns-2 returns-3)

@@ -34,13 +34,4 @@ unfolding pilot
 returns-3 c = rw (← c .before .before .before .crs-uses .ensures, ← c .before .crs-uses2 .ensures, c .before .before .if1 .left, c .if2 .left) refl
 
 pub pilot-at-spec : {M : Type 1} → statement M
-pilot-at-spec =
-    tie.close
-    (tie.spec
-    crs-uses-requires
-    pilot-of-requires
-    returns
-    crs-uses-requires-2
-    pilot-of-requires-2
-    returns-2
-    returns-3)
+pilot-at-spec = tie.close (tie.spec crs-uses-requires pilot-of-requires returns crs-uses-requires-2 pilot-of-requires-2 returns-2 returns-3)

@@ -32,13 +32,4 @@ unfolding pilotOf standsAt
 returns-3 c = rw (← c .before .before .before .crs-first .ensures, ← c .before .crs-first2 .ensures, ne-eqb _ _ (c .before .before .if1 .left), ne-eqb _ _ (c .if2 .left)) refl
 
 pub pilot-of-spec : {M : Type 1} → statement M
-pilot-of-spec =
-    tie.close
-    (tie.spec
-    crs-first-requires
-    returns
-    add-crs-first
-    crs-first-requires-2
-    add-result
-    returns-2
-    returns-3)
+pilot-of-spec = tie.close (tie.spec crs-first-requires returns add-crs-first crs-first-requires-2 add-result returns-2 returns-3)

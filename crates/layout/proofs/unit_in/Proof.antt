@@ -106,21 +106,5 @@ returns-4 c =
 
 pub unit-in-spec : {M : Type 1} → statement M
 unit-in-spec =
-    tie.close
-    (tie.spec
-    units-requires
-    cast-t8
-    returns
-    groups-left-requires
-    add-within
-    within-requires
-    sub-t11
-    cast-t12
-    returns-2
-    mul-b
-    add-within-2
-    within-requires-2
-    sub-t14
-    cast-t15
-    returns-3
-    returns-4)
+    tie.close (tie.spec units-requires cast-t8 returns groups-left-requires add-within within-requires sub-t11 cast-t12 returns-2 mul-b add-within-2
+    within-requires-2 sub-t14 cast-t15 returns-3 returns-4)

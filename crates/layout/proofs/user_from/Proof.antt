@@ -65,18 +65,5 @@ returns-2 c =
 
 pub user-from-spec : {M : Type 1} → statement M
 user-from-spec =
-    tie.close
-    (tie.spec
-    Inv-loop
-    μ-loop
-    loop-holds
-    user-at-requires
-    blocks-have-requires
-    sub-t10
-    cast-t11
-    returns
-    next-at-requires
-    sub-left
-    loop-less
-    loop-again
+    tie.close (tie.spec Inv-loop μ-loop loop-holds user-at-requires blocks-have-requires sub-t10 cast-t11 returns next-at-requires sub-left loop-less loop-again
     returns-2)

@@ -38,13 +38,4 @@ returns-3 c =
     shown-late (c4 .args .plan .now) (c4 .args .p) (c4 .pre) (c4 .args .s) (c4 .args .k) (omega (arith, c .before .symbols .ensures, c .if1 .left))
 
 pub number-at-spec : {M : Type 1} → statement M
-number-at-spec =
-    tie.close
-    (tie.spec
-    symbols-requires
-    carriers-requires
-    owner-at-requires
-    owner-number-requires
-    returns
-    returns-2
-    returns-3)
+number-at-spec = tie.close (tie.spec symbols-requires carriers-requires owner-at-requires owner-number-requires returns returns-2 returns-3)

@@ -33,6 +33,4 @@ returns-2 c =
     row-left (entry .args .plan .now) (entry .args .s) (entry .args .first) (entry .args .row .now) _ (sym (at-check .check .ensures) ∙ c .enum-told .given .1)
 
 pub owner-row-spec : {M : Type 1} → statement M
-owner-row-spec =
-    tie.close
-    (tie.spec check-requires enum-known-p fill-requires enum-told same-length returns returns-2)
+owner-row-spec = tie.close (tie.spec check-requires enum-known-p fill-requires enum-told same-length returns returns-2)

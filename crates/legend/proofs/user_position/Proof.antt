@@ -30,6 +30,4 @@ returns : tie.Need-returns Inv-loop μ-loop
 returns c = search needs
 
 pub user-position-spec : {M : Type 1} → statement M
-user-position-spec =
-    tie.close
-    (tie.spec Inv-loop μ-loop loop-holds next-at-requires sub-left loop-less loop-again returns)
+user-position-spec = tie.close (tie.spec Inv-loop μ-loop loop-holds next-at-requires sub-left loop-less loop-again returns)

@@ -31,6 +31,4 @@ returns-2 c =
     number-refused (entry .args .plan .now) _ (at-check .check .ensures) _ (c .before .r .given .1) (kindElements (entry .args .plan .now) (entry .args .kind))
 
 pub count-spec : {M : Type 1} → statement M
-count-spec =
-    tie.close
-    (tie.spec check-requires enum-known-p count-of-requires enum-known-r returns returns-2)
+count-spec = tie.close (tie.spec check-requires enum-known-p count-of-requires enum-known-r returns returns-2)

@@ -20,5 +20,4 @@ returns-2 : tie.Need-returns-2
 returns-2 c = kind-beyond (c .before .before .args .plan .now) (c .before .before .args .p) (c .before .before .args .kind) (c .if1 .left)
 
 pub count-of-spec : {M : Type 1} → statement M
-count-of-spec =
-    tie.close (tie.spec kind-counts-requires mul-result array-read-result returns returns-2)
+count-of-spec = tie.close (tie.spec kind-counts-requires mul-result array-read-result returns returns-2)

@@ -29,6 +29,4 @@ unfolding gridLengthOf
 returns-2 c = number-refused (c .before .before .before .before .before .args .plan .now) _ (c .before .before .before .check .ensures) _ (c .before .r .given .1) gridLength
 
 pub grid-length-spec : {M : Type 1} → statement M
-grid-length-spec =
-    tie.close
-    (tie.spec check-requires enum-known-p grid-length-requires enum-known-r returns returns-2)
+grid-length-spec = tie.close (tie.spec check-requires enum-known-p grid-length-requires enum-known-r returns returns-2)

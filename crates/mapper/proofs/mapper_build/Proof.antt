@@ -42,15 +42,4 @@ returns-2 c =
     (minus-back _ _ (c .minus .result) (c .minus .ok) (c .minus .ensures) (sym (at-build .build .ensures .0) ∙ ap builtAnswer (at-r .r .given .1)), at-build .build .ensures .1)
 
 pub mapper-build-spec : {M : Type 1} → statement M
-mapper-build-spec =
-    tie.close
-    (tie.spec
-    build-requires
-    enum-known-n
-    plus-requires
-    enum-known-r
-    minus-requires
-    same-length
-    returns
-    same-length-2
-    returns-2)
+mapper-build-spec = tie.close (tie.spec build-requires enum-known-n plus-requires enum-known-r minus-requires same-length returns same-length-2 returns-2)

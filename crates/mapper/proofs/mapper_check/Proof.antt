@@ -27,5 +27,4 @@ returns-2 c =
     (sym (check-numbers (c .before .before .before .before .before .before .args .plan .now) _ (c .before .before .before .before .check .ensures)) ∙ ap checkedAnswer (c .before .before .r .given .1))
 
 pub mapper-check-spec : {M : Type 1} → statement M
-mapper-check-spec =
-    tie.close (tie.spec check-requires enum-told enum-known-r minus-requires returns returns-2)
+mapper-check-spec = tie.close (tie.spec check-requires enum-told enum-known-r minus-requires returns returns-2)

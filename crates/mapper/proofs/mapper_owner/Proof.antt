@@ -43,14 +43,4 @@ returns-2 c =
 
 pub mapper-owner-spec : {M : Type 1} → statement M
 mapper-owner-spec =
-    tie.close
-    (tie.spec
-    owner-query-requires
-    enum-known-o
-    owner-number-requires
-    cast-plus
-    plus-requires
-    enum-known-r
-    minus-requires
-    returns
-    returns-2)
+    tie.close (tie.spec owner-query-requires enum-known-o owner-number-requires cast-plus plus-requires enum-known-r minus-requires returns returns-2)

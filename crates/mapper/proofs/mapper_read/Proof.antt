@@ -42,15 +42,4 @@ returns-2 c =
     (minus-back _ _ (c .minus .result) (c .minus .ok) (c .minus .ensures) (sym (r .0) ∙ ap readAnswer (c .before .before .r .given .1)), r .1, reads-of (r .0) (r .2))
 
 pub mapper-read-spec : {M : Type 1} → statement M
-mapper-read-spec =
-    tie.close
-    (tie.spec
-    read-requires
-    enum-known-n
-    plus-requires
-    enum-known-r
-    minus-requires
-    same-length
-    returns
-    same-length-2
-    returns-2)
+mapper-read-spec = tie.close (tie.spec read-requires enum-known-n plus-requires enum-known-r minus-requires same-length returns same-length-2 returns-2)

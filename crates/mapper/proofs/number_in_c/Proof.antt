@@ -25,5 +25,4 @@ returns-2 : tie.Need-returns-2
 returns-2 c = minus-back _ (numberAnswer (c .before .before .before .before .args .n)) (c .minus .result) (c .minus .ok) (c .minus .ensures) (ap numberAnswer (c .before .before .n2 .given .1))
 
 pub number-in-c-spec : {M : Type 1} → statement M
-number-in-c-spec =
-    tie.close (tie.spec enum-known-n plus-requires enum-known-n-2 minus-requires returns returns-2)
+number-in-c-spec = tie.close (tie.spec enum-known-n plus-requires enum-known-n-2 minus-requires returns returns-2)

@@ -32,6 +32,4 @@ returns-2 c =
     number-refused (entry .args .plan .now) _ (at-check .check .ensures) _ (c .before .r .given .1) (payloadLength (entry .args .plan .now))
 
 pub payload-length-spec : {M : Type 1} → statement M
-payload-length-spec =
-    tie.close
-    (tie.spec check-requires enum-known-p payload-length-requires enum-known-r returns returns-2)
+payload-length-spec = tie.close (tie.spec check-requires enum-known-p payload-length-requires enum-known-r returns returns-2)

@@ -86,25 +86,5 @@ returns-4 c =
 
 pub sample-number-spec : {M : Type 1} → statement M
 sample-number-spec =
-    tie.close
-    (tie.spec
-    sample-at-requires
-    enum-known-s
-    enum-told
-    enum-known-s-2
-    cast-nth
-    nth-requires
-    cast-plus
-    plus-requires
-    enum-known-s-3
-    bits-requires
-    bits-requires-2
-    nth-requires-2
-    cast-plus-2
-    plus-requires-2
-    enum-told-2
-    minus-requires
-    returns
-    returns-2
-    returns-3
-    returns-4)
+    tie.close (tie.spec sample-at-requires enum-known-s enum-told enum-known-s-2 cast-nth nth-requires cast-plus plus-requires enum-known-s-3 bits-requires
+    bits-requires-2 nth-requires-2 cast-plus-2 plus-requires-2 enum-told-2 minus-requires returns returns-2 returns-3 returns-4)

@@ -44,17 +44,5 @@ returns c = search needs
 
 pub back-lines-spec : {M : Type 1} → statement M
 back-lines-spec =
-    tie.close
-    (tie.spec
-    Inv-loop
-    μ-loop
-    unit-requires
-    set-elements-requires
-    set-axis-requires
-    loop-holds
-    level-requires
-    back-row-requires
-    add-n
-    loop-less
-    loop-again
-    returns)
+    tie.close (tie.spec Inv-loop μ-loop unit-requires set-elements-requires set-axis-requires loop-holds level-requires back-row-requires add-n loop-less
+    loop-again returns)

@@ -51,20 +51,5 @@ returns c = search needs
 
 pub back-row-spec : {M : Type 1} → statement M
 back-row-spec =
-    tie.close
-    (tie.spec
-    Inv-loop
-    μ-loop
-    loop-holds
-    unit-requires
-    cast-back-line
-    mul-back-line
-    add-back-line
-    level-requires
-    mul-back-line-2
-    add-back-line-2
-    back-line-requires
-    add-n
-    loop-less
-    loop-again
-    returns)
+    tie.close (tie.spec Inv-loop μ-loop loop-holds unit-requires cast-back-line mul-back-line add-back-line level-requires mul-back-line-2 add-back-line-2
+    back-line-requires add-n loop-less loop-again returns)

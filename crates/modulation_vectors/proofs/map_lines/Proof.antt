@@ -37,16 +37,4 @@ returns : tie.Need-returns Inv-loop μ-loop
 returns c = search needs
 
 pub map-lines-spec : {M : Type 1} → statement M
-map-lines-spec =
-    tie.close
-    (tie.spec
-    Inv-loop
-    μ-loop
-    unit-requires
-    set-elements-requires
-    loop-holds
-    map-line-requires
-    add-w
-    loop-less
-    loop-again
-    returns)
+map-lines-spec = tie.close (tie.spec Inv-loop μ-loop unit-requires set-elements-requires loop-holds map-line-requires add-w loop-less loop-again returns)

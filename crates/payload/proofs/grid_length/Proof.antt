@@ -27,13 +27,4 @@ returns : tie.Need-returns
 returns c = grid-is (c .before .before .before .before .args .p) _ _ _ (c .before .before .wide .ensures) (c .before .symbols .ensures .0) (c .wide2 .ensures)
 
 pub grid-length-spec : {M : Type 1} → statement M
-grid-length-spec =
-    tie.close
-    (tie.spec
-    wide-requires
-    mul-result
-    symbols-requires
-    mul-result-2
-    wide-requires-2
-    mul-result-3
-    returns)
+grid-length-spec = tie.close (tie.spec wide-requires mul-result symbols-requires mul-result-2 wide-requires-2 mul-result-3 returns)

@@ -31,12 +31,4 @@ returns-2 c =
     first-set (a .p) (a .payload .now) (c .before .before .before .before .pre) _ (c .before .before .pbch-bits .ensures) _ (c .before .section-clear .ensures) (c .if1 .left)
 
 pub heads-clear-spec : {M : Type 1} → statement M
-heads-clear-spec =
-    tie.close
-    (tie.spec
-    pbch-bits-requires
-    section-clear-requires
-    section-bytes-requires
-    section-clear-requires-2
-    returns
-    returns-2)
+heads-clear-spec = tie.close (tie.spec pbch-bits-requires section-clear-requires section-bytes-requires section-clear-requires-2 returns returns-2)

@@ -33,13 +33,4 @@ returns-2 c =
     ap (λ (v : ℕ). eqb (v % (256 / 2 ^ (a .bits % 8))) 0) (c .wide .ensures) ∙ last-clear (a .payload .now) (a .at) (a .bits) (c .before .before .if1 .left)
 
 pub section-clear-spec : {M : Type 1} → statement M
-section-clear-spec =
-    tie.close
-    (tie.spec
-    returns
-    add-last
-    shared-slice-read-wide
-    wide-requires
-    shr-result
-    rem-result
-    returns-2)
+section-clear-spec = tie.close (tie.spec returns add-last shared-slice-read-wide wide-requires shr-result rem-result returns-2)

@@ -91,20 +91,5 @@ returns-2 c = clearing-end (c .before .loop .inv) (omega arith)
 
 pub users-clear-spec : {M : Type 1} → statement M
 users-clear-spec =
-    tie.close
-    (tie.spec
-    Inv-loop
-    μ-loop
-    shape-of-requires
-    loop-holds
-    user-at-requires
-    user-bits-requires
-    section-clear-requires
-    returns
-    section-bytes-requires
-    add-byte
-    next-at-requires
-    sub-rest
-    loop-less
-    loop-again
-    returns-2)
+    tie.close (tie.spec Inv-loop μ-loop shape-of-requires loop-holds user-at-requires user-bits-requires section-clear-requires returns section-bytes-requires
+    add-byte next-at-requires sub-rest loop-less loop-again returns-2)

@@ -70,18 +70,5 @@ returns c = going-end (c .before .loop .inv) (omega arith)
 
 pub users-length-spec : {M : Type 1} → statement M
 users-length-spec =
-    tie.close
-    (tie.spec
-    Inv-loop
-    μ-loop
-    shape-of-requires
-    loop-holds
-    user-at-requires
-    user-bits-requires
-    section-bytes-requires
-    add-bytes
-    next-at-requires
-    sub-left
-    loop-less
-    loop-again
-    returns)
+    tie.close (tie.spec Inv-loop μ-loop shape-of-requires loop-holds user-at-requires user-bits-requires section-bytes-requires add-bytes next-at-requires
+    sub-left loop-less loop-again returns)

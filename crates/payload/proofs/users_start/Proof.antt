@@ -20,11 +20,4 @@ returns : tie.Need-returns
 returns c = start-is (c .before .before .before .args .p) _ (c .before .before .pbch-bits .ensures) _ _ (c .before .section-bytes .ensures) (c .section-bytes2 .ensures)
 
 pub users-start-spec : {M : Type 1} → statement M
-users-start-spec =
-    tie.close
-    (tie.spec
-    pbch-bits-requires
-    section-bytes-requires
-    section-bytes-requires-2
-    add-result
-    returns)
+users-start-spec = tie.close (tie.spec pbch-bits-requires section-bytes-requires section-bytes-requires-2 add-result returns)

@@ -56,17 +56,5 @@ returns c = let s = c .before .before .before .before .before .before .before .b
 
 pub add-at-spec : {M : Type 1} → statement M
 add-at-spec =
-    tie.close
-    (tie.spec
-    mul-at
-    byte-of-requires
-    byte-of-requires-2
-    element-copy-out-wrapping-add-u8
-    wrapping-add-u8-requires
-    element-write-sums
-    add-wrapping-add-u8
-    element-copy-out-wrapping-add-u8-2
-    wrapping-add-u8-requires-2
-    add-sums
-    element-write-sums-2
-    returns)
+    tie.close (tie.spec mul-at byte-of-requires byte-of-requires-2 element-copy-out-wrapping-add-u8 wrapping-add-u8-requires element-write-sums
+    add-wrapping-add-u8 element-copy-out-wrapping-add-u8-2 wrapping-add-u8-requires-2 add-sums element-write-sums-2 returns)

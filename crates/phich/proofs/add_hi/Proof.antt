@@ -82,22 +82,5 @@ returns c =
 
 pub add-hi-spec : {M : Type 1} → statement M
 add-hi-spec =
-    tie.close
-    (tie.spec
-    Inv-loop
-    μ-loop
-    wide-requires
-    sequence-requires
-    loop-holds
-    mul-plain-chip
-    array-copy-out-plain-chip
-    plain-chip-requires
-    wide-requires-2
-    mul-add-at
-    add-add-at
-    flipped-requires
-    add-at-requires
-    add-n
-    loop-less
-    loop-again
-    returns)
+    tie.close (tie.spec Inv-loop μ-loop wide-requires sequence-requires loop-holds mul-plain-chip array-copy-out-plain-chip plain-chip-requires wide-requires-2
+    mul-add-at add-add-at flipped-requires add-at-requires add-n loop-less loop-again returns)

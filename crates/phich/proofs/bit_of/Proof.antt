@@ -99,26 +99,5 @@ returns-2 c =
 
 pub bit-of-spec : {M : Type 1} → statement M
 bit-of-spec =
-    tie.close
-    (tie.spec
-    Inv-loop
-    μ-loop
-    wide-requires
-    sequence-requires
-    loop-holds
-    mul-plain-chip
-    array-copy-out-plain-chip
-    plain-chip-requires
-    wide-requires-2
-    mul-levels-at
-    add-levels-at
-    levels-at-requires
-    scrambling-requires
-    dot-requires
-    flipped-by-requires
-    add-t
-    add-n
-    loop-less
-    loop-again
-    returns
-    returns-2)
+    tie.close (tie.spec Inv-loop μ-loop wide-requires sequence-requires loop-holds mul-plain-chip array-copy-out-plain-chip plain-chip-requires wide-requires-2
+    mul-levels-at add-levels-at levels-at-requires scrambling-requires dot-requires flipped-by-requires add-t add-n loop-less loop-again returns returns-2)

@@ -31,13 +31,4 @@ returns c =
     .ensures) (toZ-ofZ {w = w8} {z = c .signed2 .result} (record { sfits = c .signed2 .ok }) ∙ c .signed2 .ensures)
 
 pub levels-at-spec : {M : Type 1} → statement M
-levels-at-spec =
-    tie.close
-    (tie.spec
-    mul-at
-    shared-slice-read-signed
-    signed-requires
-    add-signed
-    shared-slice-read-signed-2
-    signed-requires-2
-    returns)
+levels-at-spec = tie.close (tie.spec mul-at shared-slice-read-signed signed-requires add-signed shared-slice-read-signed-2 signed-requires-2 returns)

@@ -55,16 +55,4 @@ returns c = finish (c .before .loop .inv) (c .loop-test .left)
 
 pub quad-sums-spec : {M : Type 1} → statement M
 quad-sums-spec =
-    tie.close
-    (tie.spec
-    Inv-loop
-    μ-loop
-    loop-holds
-    hi-at-requires
-    bit-at-requires
-    add-hi-requires
-    next-at-requires
-    add-k
-    loop-less
-    loop-again
-    returns)
+    tie.close (tie.spec Inv-loop μ-loop loop-holds hi-at-requires bit-at-requires add-hi-requires next-at-requires add-k loop-less loop-again returns)

@@ -32,6 +32,4 @@ unfolding extended
 returns-2 c = extended-row (c .before .before .before .before .args .l) (c .before .before .before .before .args .q) (c .before .before .before .before .pre .0) (c .before .before .before .if1 .left)
 
 pub sequence-spec : {M : Type 1} → statement M
-sequence-spec =
-    tie.close
-    (tie.spec mul-result array-copy-out-result returns mul-row array-copy-out-row array-copy-out-a array-copy-out-b returns-2)
+sequence-spec = tie.close (tie.spec mul-result array-copy-out-result returns mul-row array-copy-out-row array-copy-out-a array-copy-out-b returns-2)

@@ -65,16 +65,4 @@ returns c = finish (c .before .loop .inv) (c .loop-test .left)
 
 pub sums-again-spec : {M : Type 1} → statement M
 sums-again-spec =
-    tie.close
-    (tie.spec
-    Inv-loop
-    μ-loop
-    loop-holds
-    hi-at-requires
-    bit-of-requires
-    add-hi-requires
-    next-at-requires
-    add-k
-    loop-less
-    loop-again
-    returns)
+    tie.close (tie.spec Inv-loop μ-loop loop-holds hi-at-requires bit-of-requires add-hi-requires next-at-requires add-k loop-less loop-again returns)

@@ -51,18 +51,5 @@ returns c = finish (c .before .loop .inv) (c .loop-test .left)
 
 pub unit-sums-spec : {M : Type 1} → statement M
 unit-sums-spec =
-    tie.close
-    (tie.spec
-    Inv-loop
-    μ-loop
-    loop-holds
-    chip-of-requires
-    scrambling-requires
-    levels-at-requires
-    flipped-requires
-    mul-sums
-    array-set-from-sums
-    add-i
-    loop-less
-    loop-again
-    returns)
+    tie.close (tie.spec Inv-loop μ-loop loop-holds chip-of-requires scrambling-requires levels-at-requires flipped-requires mul-sums array-set-from-sums add-i
+    loop-less loop-again returns)

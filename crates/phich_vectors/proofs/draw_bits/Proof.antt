@@ -38,17 +38,4 @@ returns : tie.Need-returns Inv-loop μ-loop
 returns c = search needs
 
 pub draw-bits-spec : {M : Type 1} → statement M
-draw-bits-spec =
-    tie.close
-    (tie.spec
-    Inv-loop
-    μ-loop
-    loop-holds
-    mul-word
-    next-requires
-    value-requires
-    add-word
-    add-n
-    loop-less
-    loop-again
-    returns)
+draw-bits-spec = tie.close (tie.spec Inv-loop μ-loop loop-holds mul-word next-requires value-requires add-word add-n loop-less loop-again returns)

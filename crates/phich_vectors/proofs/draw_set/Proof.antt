@@ -44,17 +44,4 @@ returns c = search needs
 
 pub draw-set-spec : {M : Type 1} → statement M
 draw-set-spec =
-    tie.close
-    (tie.spec
-    Inv-loop
-    μ-loop
-    loop-holds
-    next-requires
-    value-requires
-    hi-of-requires
-    put-requires
-    add-count
-    add-n
-    loop-less
-    loop-again
-    returns)
+    tie.close (tie.spec Inv-loop μ-loop loop-holds next-requires value-requires hi-of-requires put-requires add-count add-n loop-less loop-again returns)

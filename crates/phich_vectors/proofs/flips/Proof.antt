@@ -44,16 +44,4 @@ returns-3 : tie.Need-returns-3 Inv-loop μ-loop
 returns-3 c = λ e. flips-all (c .before .loop .inv) (c .loop-test .left)
 
 pub flips-spec : {M : Type 1} → statement M
-flips-spec =
-    tie.close
-    (tie.spec
-    Inv-loop
-    μ-loop
-    returns
-    loop-holds
-    shared-slice-read-if2
-    returns-2
-    add-i
-    loop-less
-    loop-again
-    returns-3)
+flips-spec = tie.close (tie.spec Inv-loop μ-loop returns loop-holds shared-slice-read-if2 returns-2 add-i loop-less loop-again returns-3)

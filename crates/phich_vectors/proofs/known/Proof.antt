@@ -35,5 +35,4 @@ returns-2 c =
     (ltb-true _ _ e)
 
 pub known-spec : {M : Type 1} → statement M
-known-spec =
-    tie.close (tie.spec wide-requires mul-if1 returns wide-requires-2 mul-result returns-2)
+known-spec = tie.close (tie.spec wide-requires mul-if1 returns wide-requires-2 mul-result returns-2)

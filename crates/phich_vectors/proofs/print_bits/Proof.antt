@@ -54,21 +54,5 @@ returns c = search needs
 
 pub print-bits-spec : {M : Type 1} → statement M
 print-bits-spec =
-    tie.close
-    (tie.spec
-    Inv-loop
-    μ-loop
-    slice-aggregate-text
-    text-requires
-    loop-holds
-    hi-at-requires
-    space-requires
-    bit-requires
-    cast-number
-    number-requires
-    next-at-requires
-    add-k
-    loop-less
-    loop-again
-    line-requires
-    returns)
+    tie.close (tie.spec Inv-loop μ-loop slice-aggregate-text text-requires loop-holds hi-at-requires space-requires bit-requires cast-number number-requires
+    next-at-requires add-k loop-less loop-again line-requires returns)

@@ -66,24 +66,6 @@ returns c = search needs
 
 pub print-set-spec : {M : Type 1} → statement M
 print-set-spec =
-    tie.close
-    (tie.spec
-    sum-requires
-    sub-unit
-    part-unit-start
-    part-unit-end
-    unit-requires
-    slice-aggregate-text
-    text-requires
-    print-sums-requires
-    put-quad-requires
-    sub-unit-2
-    part-unit-start-2
-    part-unit-end-2
-    unit-requires-2
-    slice-aggregate-text-2
-    text-requires-2
-    print-sums-requires-2
-    put-quad-requires-2
-    print-bits-requires
-    returns)
+    tie.close (tie.spec sum-requires sub-unit part-unit-start part-unit-end unit-requires slice-aggregate-text text-requires print-sums-requires
+    put-quad-requires sub-unit-2 part-unit-start-2 part-unit-end-2 unit-requires-2 slice-aggregate-text-2 text-requires-2 print-sums-requires-2
+    put-quad-requires-2 print-bits-requires returns)

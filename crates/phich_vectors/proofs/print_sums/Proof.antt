@@ -42,17 +42,4 @@ returns c = search needs
 
 pub print-sums-spec : {M : Type 1} → statement M
 print-sums-spec =
-    tie.close
-    (tie.spec
-    Inv-loop
-    μ-loop
-    loop-holds
-    mul-d
-    array-copy-out-d
-    space-requires
-    pair-requires
-    add-i
-    loop-less
-    loop-again
-    line-requires
-    returns)
+    tie.close (tie.spec Inv-loop μ-loop loop-holds mul-d array-copy-out-d space-requires pair-requires add-i loop-less loop-again line-requires returns)

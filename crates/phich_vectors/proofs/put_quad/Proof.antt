@@ -62,22 +62,5 @@ returns c = search needs
 
 pub put-quad-spec : {M : Type 1} → statement M
 put-quad-spec =
-    tie.close
-    (tie.spec
-    Inv-loop
-    μ-loop
-    loop-holds
-    mul-d
-    array-copy-out-d
-    mul-at
-    mul-at-2
-    add-at
-    byte-of-requires
-    element-write-first
-    byte-of-requires-2
-    add-first
-    element-write-first-2
-    add-i
-    loop-less
-    loop-again
-    returns)
+    tie.close (tie.spec Inv-loop μ-loop loop-holds mul-d array-copy-out-d mul-at mul-at-2 add-at byte-of-requires element-write-first byte-of-requires-2
+    add-first element-write-first-2 add-i loop-less loop-again returns)

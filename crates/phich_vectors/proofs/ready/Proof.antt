@@ -44,17 +44,4 @@ returns-2 : tie.Need-returns-2 Inv-loop μ-loop
 returns-2 c = λ e. finish (c .before .loop .inv) (c .loop-test .left)
 
 pub ready-spec : {M : Type 1} → statement M
-ready-spec =
-    tie.close
-    (tie.spec
-    Inv-loop
-    μ-loop
-    loop-holds
-    hi-at-requires
-    known-requires
-    returns
-    next-at-requires
-    add-k
-    loop-less
-    loop-again
-    returns-2)
+ready-spec = tie.close (tie.spec Inv-loop μ-loop loop-holds hi-at-requires known-requires returns next-at-requires add-k loop-less loop-again returns-2)

@@ -33,15 +33,4 @@ returns : tie.Need-returns
 returns c = place-sum (c .before .before .args .cell) (c .before .before .args .g) (c .before .before .args .j) (omega arith) (omega arith) (c .one-below .ensures .0)
 
 pub quad-place-spec : {M : Type 1} → statement M
-quad-place-spec =
-    tie.close
-    (tie.spec
-    cast-rest
-    mul-result
-    mul-result-2
-    add-result
-    add-one-below
-    one-below-requires
-    add-result-2
-    add-result-3
-    returns)
+quad-place-spec = tie.close (tie.spec cast-rest mul-result mul-result-2 add-result add-one-below one-below-requires add-result-2 add-result-3 returns)

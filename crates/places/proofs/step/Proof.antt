@@ -22,6 +22,4 @@ returns c =
     (step-sum (a .a) (a .b) (a .c) (a .d) (a .n) (a .t) (c .before .formats-below .ensures .0) (c .one-below .ensures .0), c .one-below .ensures .1)
 
 pub step-spec : {M : Type 1} → statement M
-step-spec =
-    tie.close
-    (tie.spec add-one-below formats-below-requires add-one-below-2 one-below-requires returns)
+step-spec = tie.close (tie.spec add-one-below formats-below-requires add-one-below-2 one-below-requires returns)

@@ -55,19 +55,5 @@ returns c =
 
 pub unit-group-spec : {M : Type 1} → statement M
 unit-group-spec =
-    tie.close
-    (tie.spec
-    format-group-requires
-    format-group-requires-2
-    format-group-requires-3
-    format-group-requires-4
-    unit-number-requires
-    step-requires
-    step-requires-2
-    add-result
-    step-requires-3
-    add-result-2
-    step-requires-4
-    add-result-3
-    add-result-4
-    returns)
+    tie.close (tie.spec format-group-requires format-group-requires-2 format-group-requires-3 format-group-requires-4 unit-number-requires step-requires
+    step-requires-2 add-result step-requires-3 add-result-2 step-requires-4 add-result-3 add-result-4 returns)

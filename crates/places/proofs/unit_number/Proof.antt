@@ -36,13 +36,4 @@ returns c =
     number-in (a .cell) (at-left .groups-left .ensures) (a .m) (a .i) (omega arith) (omega arith)
 
 pub unit-number-spec : {M : Type 1} → statement M
-unit-number-spec =
-    tie.close
-    (tie.spec
-    groups-left-requires
-    cast-result
-    add-result
-    mul-result
-    add-result-2
-    rem-result
-    returns)
+unit-number-spec = tie.close (tie.spec groups-left-requires cast-result add-result mul-result add-result-2 rem-result returns)

@@ -73,18 +73,5 @@ returns-3 c =
 
 pub after-cell-spec : {M : Type 1} → statement M
 after-cell-spec =
-    tie.close
-    (tie.spec
-    command-at-requires
-    enum-known-f
-    frame-cause-requires
-    enum-told
-    add-body
-    body-requires
-    enum-known-cause
-    found-requires
-    late-cause-requires
-    found-requires-2
-    returns
-    returns-2
-    returns-3)
+    tie.close (tie.spec command-at-requires enum-known-f frame-cause-requires enum-told add-body body-requires enum-known-cause found-requires
+    late-cause-requires found-requires-2 returns returns-2 returns-3)

@@ -37,6 +37,4 @@ returns-2 c =
     (subst (HisRead (at-args .args .plan .now) (at-args .args .cell) (at-args .args .start)) (at-f .f .given .1) (at-his-from .his-from .ensures)) (at-args .args .frame)
 
 pub body-spec : {M : Type 1} → statement M
-body-spec =
-    tie.close
-    (tie.spec his-from-requires enum-known-his users-from-requires enum-known-f returns returns-2)
+body-spec = tie.close (tie.spec his-from-requires enum-known-his users-from-requires enum-known-f returns returns-2)

@@ -29,5 +29,4 @@ returns-2 c =
     rw (← at-byte-at .byte-at .ensures, ← at-one-of .one-of .ensures, c .if1 .left) refl
 
 pub broken-cause-spec : {M : Type 1} → statement M
-broken-cause-spec =
-    tie.close (tie.spec byte-at-requires slice-aggregate-one-of one-of-requires returns returns-2)
+broken-cause-spec = tie.close (tie.spec byte-at-requires slice-aggregate-one-of one-of-requires returns returns-2)

@@ -25,5 +25,4 @@ returns-3 c =
     byte-there (at-args .args .plan .now) (at-args .args .at) (at-args .args .i)
 
 pub byte-at-spec : {M : Type 1} → statement M
-byte-at-spec =
-    tie.close (tie.spec returns sub-if2 returns-2 add-result shared-slice-read-result returns-3)
+byte-at-spec = tie.close (tie.spec returns sub-if2 returns-2 add-result shared-slice-read-result returns-3)

@@ -40,13 +40,4 @@ returns c =
 
 pub cell-at-spec : {M : Type 1} → statement M
 cell-at-spec =
-    tie.close
-    (tie.spec
-    byte-at-requires
-    byte-at-requires-2
-    word-requires
-    byte-at-requires-3
-    byte-at-requires-4
-    byte-at-requires-5
-    byte-at-requires-6
-    returns)
+    tie.close (tie.spec byte-at-requires byte-at-requires-2 word-requires byte-at-requires-3 byte-at-requires-4 byte-at-requires-5 byte-at-requires-6 returns)

@@ -52,17 +52,5 @@ returns c =
 
 pub cell-cause-spec : {M : Type 1} → statement M
 cell-cause-spec =
-    tie.close
-    (tie.spec
-    slice-aggregate-one-of
-    one-of-requires
-    demand-requires
-    slice-aggregate-one-of-2
-    one-of-requires-2
-    demand-requires-2
-    demand-requires-3
-    slice-aggregate-one-of-3
-    one-of-requires-3
-    demand-requires-4
-    demand-requires-5
-    returns)
+    tie.close (tie.spec slice-aggregate-one-of one-of-requires demand-requires slice-aggregate-one-of-2 one-of-requires-2 demand-requires-2 demand-requires-3
+    slice-aggregate-one-of-3 one-of-requires-3 demand-requires-4 demand-requires-5 returns)

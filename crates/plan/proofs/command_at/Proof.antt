@@ -94,20 +94,5 @@ returns-8 c =
 
 pub command-at-spec : {M : Type 1} → statement M
 command-at-spec =
-    tie.close
-    (tie.spec
-    returns
-    byte-at-requires
-    sub-if2
-    size-of-requires
-    returns-2
-    cell-at-requires
-    returns-3
-    frame-at-requires
-    returns-4
-    hi-at-requires
-    returns-5
-    user-at-requires
-    returns-6
-    returns-7
-    returns-8)
+    tie.close (tie.spec returns byte-at-requires sub-if2 size-of-requires returns-2 cell-at-requires returns-3 frame-at-requires returns-4 hi-at-requires
+    returns-5 user-at-requires returns-6 returns-7 returns-8)

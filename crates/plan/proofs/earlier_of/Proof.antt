@@ -76,19 +76,5 @@ returns-3 c =
 
 pub earlier-of-spec : {M : Type 1} → statement M
 earlier-of-spec =
-    tie.close
-    (tie.spec
-    Inv-loop
-    μ-loop
-    enum-told
-    returns
-    byte-at-requires
-    loop-holds
-    byte-at-requires-2
-    in-common-requires
-    returns-2
-    add-number
-    next-at-requires
-    loop-less
-    loop-again
-    returns-3)
+    tie.close (tie.spec Inv-loop μ-loop enum-told returns byte-at-requires loop-holds byte-at-requires-2 in-common-requires returns-2 add-number
+    next-at-requires loop-less loop-again returns-3)

@@ -35,6 +35,4 @@ returns-2 c =
     ap Refused (c .finding-at .ensures) ∙ ap explained (sym (at-s .s .given .1) ∙ at-walk .walk .ensures)
 
 pub explain-spec : {M : Type 1} → statement M
-explain-spec =
-    tie.close
-    (tie.spec walk-requires enum-known-p enum-known-s finding-at-requires returns returns-2)
+explain-spec = tie.close (tie.spec walk-requires enum-known-p enum-known-s finding-at-requires returns returns-2)

@@ -26,5 +26,4 @@ returns c =
     (c .earlier-of .ensures ∙ ap (earlierOf (a .plan .now) (s .command) (s .offset)) (at-shared .shared-by .ensures))
 
 pub finding-at-spec : {M : Type 1} → statement M
-finding-at-spec =
-    tie.close (tie.spec refusal-of-requires shared-by-requires earlier-of-requires returns)
+finding-at-spec = tie.close (tie.spec refusal-of-requires shared-by-requires earlier-of-requires returns)

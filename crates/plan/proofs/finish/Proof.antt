@@ -58,18 +58,5 @@ returns-3 c =
 
 pub finish-spec : {M : Type 1} → statement M
 finish-spec =
-    tie.close
-    (tie.spec
-    add-number
-    add-number-2
-    command-at-requires
-    enum-told
-    add-if1
-    add-found
-    add-found-2
-    found-requires
-    returns
-    late-cause-requires
-    found-requires-2
-    returns-2
-    returns-3)
+    tie.close (tie.spec add-number add-number-2 command-at-requires enum-told add-if1 add-found add-found-2 found-requires returns late-cause-requires
+    found-requires-2 returns-2 returns-3)

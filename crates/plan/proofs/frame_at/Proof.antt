@@ -31,12 +31,4 @@ returns c =
     (at-byte-at3 .byte-at3 .ensures) (c .byte-at4 .ensures)
 
 pub frame-at-spec : {M : Type 1} → statement M
-frame-at-spec =
-    tie.close
-    (tie.spec
-    byte-at-requires
-    byte-at-requires-2
-    word-requires
-    byte-at-requires-3
-    byte-at-requires-4
-    returns)
+frame-at-spec = tie.close (tie.spec byte-at-requires byte-at-requires-2 word-requires byte-at-requires-3 byte-at-requires-4 returns)

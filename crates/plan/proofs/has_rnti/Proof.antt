@@ -42,15 +42,4 @@ returns c =
     looked-last (at-args .args .rnti) (at-args .args .table .now) (at-loop .loop .i) (at-loop .loop .found) (c .loop-test .left) (at-loop .loop .inv)
 
 pub has-rnti-spec : {M : Type 1} → statement M
-has-rnti-spec =
-    tie.close
-    (tie.spec
-    Inv-loop
-    μ-loop
-    loop-holds
-    mul-found
-    shared-slice-read-found
-    add-i
-    loop-less
-    loop-again
-    returns)
+has-rnti-spec = tie.close (tie.spec Inv-loop μ-loop loop-holds mul-found shared-slice-read-found add-i loop-less loop-again returns)

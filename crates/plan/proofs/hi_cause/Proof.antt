@@ -53,15 +53,4 @@ returns-3 c =
     (at-pair-of .pair-of .ensures) (at-has .has .ensures) (c .demand .ensures)
 
 pub hi-cause-spec : {M : Type 1} → statement M
-hi-cause-spec =
-    tie.close
-    (tie.spec
-    groups-requires
-    cast-if1
-    returns
-    sequences-requires
-    returns-2
-    pair-of-requires
-    has-requires
-    demand-requires
-    returns-3)
+hi-cause-spec = tie.close (tie.spec groups-requires cast-if1 returns sequences-requires returns-2 pair-of-requires has-requires demand-requires returns-3)

@@ -93,24 +93,5 @@ returns-2 c = his-done (c .before .before .loop .inv) (c .before .stands .ensure
 
 pub his-from-spec : {M : Type 1} → statement M
 his-from-spec =
-    tie.close
-    (tie.spec
-    Inv-loop
-    μ-loop
-    loop-holds
-    stands-requires
-    hi-at-requires
-    hi-cause-requires
-    enum-told
-    slice-aggregate-add
-    pair-of-requires
-    add-requires
-    add-count
-    next-at-requires
-    loop-less
-    loop-again
-    enum-known-cause
-    add-found
-    found-requires
-    returns
-    returns-2)
+    tie.close (tie.spec Inv-loop μ-loop loop-holds stands-requires hi-at-requires hi-cause-requires enum-told slice-aggregate-add pair-of-requires add-requires
+    add-count next-at-requires loop-less loop-again enum-known-cause add-found found-requires returns returns-2)

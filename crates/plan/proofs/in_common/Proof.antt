@@ -73,22 +73,5 @@ returns-4 c =
 
 pub in-common-spec : {M : Type 1} → statement M
 in-common-spec =
-    tie.close
-    (tie.spec
-    enum-told
-    enum-told-2
-    hi-at-requires
-    hi-at-requires-2
-    same-pair-requires
-    enum-told-3
-    user-at-requires
-    user-at-requires-2
-    same-rnti-requires
-    enum-told-4
-    user-at-requires-3
-    user-at-requires-4
-    shares-block-requires
-    returns
-    returns-2
-    returns-3
-    returns-4)
+    tie.close (tie.spec enum-told enum-told-2 hi-at-requires hi-at-requires-2 same-pair-requires enum-told-3 user-at-requires user-at-requires-2
+    same-rnti-requires enum-told-4 user-at-requires-3 user-at-requires-4 shares-block-requires returns returns-2 returns-3 returns-4)

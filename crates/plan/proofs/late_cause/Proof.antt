@@ -33,6 +33,4 @@ returns-3 c =
     late-order (at-args .args .plan .now) (at-args .args .at) (at-if1 .if1 .left) (sym (at-command-at .command-at .ensures)) (c .match .keys2)
 
 pub late-cause-spec : {M : Type 1} → statement M
-late-cause-spec =
-    tie.close
-    (tie.spec returns command-at-requires enum-told broken-cause-requires returns-2 returns-3)
+late-cause-spec = tie.close (tie.spec returns command-at-requires enum-told broken-cause-requires returns-2 returns-3)

@@ -43,6 +43,4 @@ returns-3 c =
     (at-size-of .size-of .ensures)) (omega arith)
 
 pub next-at-spec : {M : Type 1} → statement M
-next-at-spec =
-    tie.close
-    (tie.spec byte-at-requires size-of-requires returns sub-if2 returns-2 add-result returns-3)
+next-at-spec = tie.close (tie.spec byte-at-requires size-of-requires returns sub-if2 returns-2 add-result returns-3)

@@ -47,15 +47,4 @@ returns-2 c =
     sym (one-left (at-args .args .n) (at-args .args .list .now) (at-loop .loop .i) (c .loop-test .left)) ∙ at-loop .loop .inv
 
 pub one-of-spec : {M : Type 1} → statement M
-one-of-spec =
-    tie.close
-    (tie.spec
-    Inv-loop
-    μ-loop
-    loop-holds
-    shared-slice-read-if1
-    returns
-    add-i
-    loop-less
-    loop-again
-    returns-2)
+one-of-spec = tie.close (tie.spec Inv-loop μ-loop loop-holds shared-slice-read-if1 returns add-i loop-less loop-again returns-2)

@@ -29,5 +29,4 @@ returns-7 : tie.Need-returns-7
 returns-7 c = cause-among causeRefusal (c .before .args .c) Used (20 ∷ 21 ∷ []) (refl, (refl, tt)) (c .match .keys7)
 
 pub refusal-of-spec : {M : Type 1} → statement M
-refusal-of-spec =
-    tie.close (tie.spec returns returns-2 returns-3 returns-4 returns-5 returns-6 returns-7)
+refusal-of-spec = tie.close (tie.spec returns returns-2 returns-3 returns-4 returns-5 returns-6 returns-7)

@@ -33,5 +33,4 @@ returns-4 c =
     (c .match .keys4)
 
 pub shared-by-spec : {M : Type 1} → statement M
-shared-by-spec =
-    tie.close (tie.spec enum-told enum-told-2 enum-told-3 returns returns-2 returns-3 returns-4)
+shared-by-spec = tie.close (tie.spec enum-told enum-told-2 enum-told-3 returns returns-2 returns-3 returns-4)

@@ -34,15 +34,4 @@ unfolding sharesBlock
 returns c = refl
 
 pub shares-block-spec : {M : Type 1} → statement M
-shares-block-spec =
-    tie.close
-    (tie.spec
-    cast-u-end
-    cast-u-end-2
-    add-u-end
-    cast-v-end
-    cast-v-end-2
-    add-v-end
-    cast-result
-    cast-result-2
-    returns)
+shares-block-spec = tie.close (tie.spec cast-u-end cast-u-end-2 add-u-end cast-v-end cast-v-end-2 add-v-end cast-result cast-result-2 returns)

@@ -35,13 +35,4 @@ returns c =
     (at-byte-at3 .byte-at3 .ensures) (at-byte-at4 .byte-at4 .ensures) (c .byte-at5 .ensures)
 
 pub user-at-spec : {M : Type 1} → statement M
-user-at-spec =
-    tie.close
-    (tie.spec
-    byte-at-requires
-    byte-at-requires-2
-    word-requires
-    byte-at-requires-3
-    byte-at-requires-4
-    byte-at-requires-5
-    returns)
+user-at-spec = tie.close (tie.spec byte-at-requires byte-at-requires-2 word-requires byte-at-requires-3 byte-at-requires-4 byte-at-requires-5 returns)

@@ -91,21 +91,5 @@ returns-6 c us s =
 
 pub user-cause-spec : {M : Type 1} → statement M
 user-cause-spec =
-    tie.close
-    (tie.spec
-    returns
-    slice-aggregate-one-of
-    one-of-requires
-    returns-2
-    returns-3
-    cast-if4
-    cast-if4-2
-    cast-if4-3
-    add-if4
-    returns-4
-    has-rnti-requires
-    returns-5
-    blocks-of-requires
-    meets-requires
-    demand-requires
-    returns-6)
+    tie.close (tie.spec returns slice-aggregate-one-of one-of-requires returns-2 returns-3 cast-if4 cast-if4-2 cast-if4-3 add-if4 returns-4 has-rnti-requires
+    returns-5 blocks-of-requires meets-requires demand-requires returns-6)

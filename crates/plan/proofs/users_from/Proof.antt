@@ -121,29 +121,6 @@ returns-2 c = c .finish .ensures ∙ c .before .before .before .loop .inv .same
 
 pub users-from-spec : {M : Type 1} → statement M
 users-from-spec =
-    tie.close
-    (tie.spec
-    Inv-loop
-    μ-loop
-    mul-mid
-    add-mid
-    loop-holds
-    stands-requires
-    user-at-requires
-    user-cause-requires
-    enum-told
-    blocks-of-requires
-    mul-rntis
-    array-write-rntis
-    join-requires
-    add-users
-    next-at-requires
-    loop-less
-    loop-again
-    enum-known-cause
-    add-found
-    add-found-2
-    found-requires
-    returns
-    finish-requires
-    returns-2)
+    tie.close (tie.spec Inv-loop μ-loop mul-mid add-mid loop-holds stands-requires user-at-requires user-cause-requires enum-told blocks-of-requires mul-rntis
+    array-write-rntis join-requires add-users next-at-requires loop-less loop-again enum-known-cause add-found add-found-2 found-requires returns
+    finish-requires returns-2)

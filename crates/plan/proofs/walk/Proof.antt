@@ -62,17 +62,5 @@ returns-3 c =
 
 pub walk-spec : {M : Type 1} → statement M
 walk-spec =
-    tie.close
-    (tie.spec
-    command-at-requires
-    enum-known-c
-    cell-cause-requires
-    enum-told
-    after-cell-requires
-    enum-known-cause
-    found-requires
-    late-cause-requires
-    found-requires-2
-    returns
-    returns-2
-    returns-3)
+    tie.close (tie.spec command-at-requires enum-known-c cell-cause-requires enum-told after-cell-requires enum-known-cause found-requires late-cause-requires
+    found-requires-2 returns returns-2 returns-3)

@@ -34,16 +34,4 @@ returns : tie.Need-returns Inv-loop μ-loop
 returns c = search needs
 
 pub his-spec : {M : Type 1} → statement M
-his-spec =
-    tie.close
-    (tie.spec
-    Inv-loop
-    μ-loop
-    loop-holds
-    hi-at-requires
-    hi-requires
-    next-at-requires
-    sub-left
-    loop-less
-    loop-again
-    returns)
+his-spec = tie.close (tie.spec Inv-loop μ-loop loop-holds hi-at-requires hi-requires next-at-requires sub-left loop-less loop-again returns)

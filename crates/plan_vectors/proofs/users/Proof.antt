@@ -34,16 +34,4 @@ returns : tie.Need-returns Inv-loop μ-loop
 returns c = search needs
 
 pub users-spec : {M : Type 1} → statement M
-users-spec =
-    tie.close
-    (tie.spec
-    Inv-loop
-    μ-loop
-    loop-holds
-    user-at-requires
-    user-requires
-    next-at-requires
-    sub-left
-    loop-less
-    loop-again
-    returns)
+users-spec = tie.close (tie.spec Inv-loop μ-loop loop-holds user-at-requires user-requires next-at-requires sub-left loop-less loop-again returns)

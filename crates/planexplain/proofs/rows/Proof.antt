@@ -48,17 +48,4 @@ returns-2 : tie.Need-returns-2 Inv-loop μ-loop
 returns-2 c = tt
 
 pub rows-spec : {M : Type 1} → statement M
-rows-spec =
-    tie.close
-    (tie.spec
-    Inv-loop
-    μ-loop
-    loop-holds
-    returns
-    add-row
-    row-requires
-    add-before
-    next-at-requires
-    loop-less
-    loop-again
-    returns-2)
+rows-spec = tie.close (tie.spec Inv-loop μ-loop loop-holds returns add-row row-requires add-before next-at-requires loop-less loop-again returns-2)

@@ -62,20 +62,5 @@ returns c = c .before .loop .inv .0
 
 pub fill-spec : {M : Type 1} → statement M
 fill-spec =
-    tie.close
-    (tie.spec
-    Inv-loop
-    μ-loop
-    silence-requires
-    loop-holds
-    cast-odd
-    symbol-requires
-    beside-requires
-    symbol-requires-2
-    pair-requires
-    put-place-requires
-    add-j
-    loop-less
-    loop-again
-    same-length
-    returns)
+    tie.close (tie.spec Inv-loop μ-loop silence-requires loop-holds cast-odd symbol-requires beside-requires symbol-requires-2 pair-requires put-place-requires
+    add-j loop-less loop-again same-length returns)

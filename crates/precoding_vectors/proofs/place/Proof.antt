@@ -65,20 +65,5 @@ returns c = search needs
 
 pub place-spec : {M : Type 1} → statement M
 place-spec =
-    tie.close
-    (tie.spec
-    Inv-loop
-    μ-loop
-    loop-holds
-    name-requires
-    wide-requires
-    field-requires
-    wide-requires-2
-    mul-get
-    add-get
-    get-requires
-    element-requires
-    add-port
-    loop-less
-    loop-again
-    returns)
+    tie.close (tie.spec Inv-loop μ-loop loop-holds name-requires wide-requires field-requires wide-requires-2 mul-get add-get get-requires element-requires
+    add-port loop-less loop-again returns)

@@ -17,5 +17,4 @@ returns-2 : tie.Need-returns-2
 returns-2 c = search needs
 
 pub axis-for-spec : {M : Type 1} → statement M
-axis-for-spec =
-    tie.close (tie.spec returns set-axis-requires returns-2)
+axis-for-spec = tie.close (tie.spec returns set-axis-requires returns-2)

@@ -88,20 +88,5 @@ returns-5 c =
 
 pub read-spec : {M : Type 1} → statement M
 read-spec =
-    tie.close
-    (tie.spec
-    check-requires
-    enum-known-checked
-    enum-told
-    refusal-in-requires
-    returns
-    grid-length-requires
-    returns-2
-    payload-length-requires
-    returns-3
-    has-payload-requires
-    returns-4
-    read-sections-requires
-    users-count-requires
-    same-length
-    returns-5)
+    tie.close (tie.spec check-requires enum-known-checked enum-told refusal-in-requires returns grid-length-requires returns-2 payload-length-requires returns-3
+    has-payload-requires returns-4 read-sections-requires users-count-requires same-length returns-5)

@@ -80,5 +80,5 @@ returns-4 c =
 
 pub read-channel-spec : {M : Type 1} → statement M
 read-channel-spec =
-    tie.close (tie.spec present-requires returns enum-told read-pbch-requires enum-known-ch axis-for-requires user-area-requires started-requires
-    cast-read-area read-area-requires same-length returns-2 same-length-2 returns-3 returns-4)
+    tie.close (tie.spec present-requires returns enum-told read-pbch-requires enum-known-ch axis-for-requires user-area-requires started-requires cast-read-area
+    read-area-requires same-length returns-2 same-length-2 returns-3 returns-4)

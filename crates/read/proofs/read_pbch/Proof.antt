@@ -37,5 +37,4 @@ returns c =
     area-read (entry .args .p) Pbch _ 2 (entry .args .grid .now) _ (at-pbch-area .pbch-area .ensures) _ (at-started .started .ensures) (at-read-area .read-area .ensures)
 
 pub read-pbch-spec : {M : Type 1} → statement M
-read-pbch-spec =
-    tie.close (tie.spec pbch-area-requires row-masks-requires set-axis-requires started-requires read-area-requires same-length returns)
+read-pbch-spec = tie.close (tie.spec pbch-area-requires row-masks-requires set-axis-requires started-requires read-area-requires same-length returns)

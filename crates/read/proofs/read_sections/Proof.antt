@@ -50,14 +50,14 @@ count-requires c κs =
     let entry = c .before .before .before .before .before .before .before .before .before .before .before .before in
     count-in (entry .pre)
 
-first-requires : tie.Need-first-requires Inv-loop μ-loop
-first-requires c κs = tt
+after-signals-requires : tie.Need-after-signals-requires Inv-loop μ-loop
+after-signals-requires c κs = tt
 
 loop-holds : tie.Need-loop-holds Inv-loop μ-loop
 loop-holds c =
     let at-read-his = c .before .before .before .before .before .before in let at-started = at-read-his .before .before in
     let at-section-of = at-started .before in let entry = at-section-of .before .before .before .before .before in
-    let so = acks-read (entry .pre) _ (at-section-of .section-of .ensures) _ (at-started .started .ensures) _ (at-read-his .read-his .ensures .0) _ (c .first .ensures) in
+    let so = acks-read (entry .pre) _ (at-section-of .section-of .ensures) _ (at-started .started .ensures) _ (at-read-his .read-his .ensures .0) _ (c .after-signals .ensures) in
     (so .0, so .1, (refl, λ z. absurd (z refl)))
 
 channel-at-requires : tie.Need-channel-at-requires Inv-loop μ-loop
@@ -141,5 +141,5 @@ returns c =
 pub read-sections-spec : {M : Type 1} → statement M
 read-sections-spec =
     tie.close (tie.spec Inv-loop μ-loop shape-of-requires section-of-requires started-requires sub-read-his part-read-his-start part-read-his-end
-    read-his-requires row-masks-requires count-requires first-requires loop-holds channel-at-requires section-of-requires-2 sub-read-channel
+    read-his-requires row-masks-requires count-requires after-signals-requires loop-holds channel-at-requires section-of-requires-2 sub-read-channel
     part-read-channel-start part-read-channel-end read-channel-requires next-requires loop-less loop-again same-length returns)

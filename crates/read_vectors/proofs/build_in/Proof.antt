@@ -25,12 +25,4 @@ returns-2 : tie.Need-returns-2
 returns-2 c = search needs
 
 pub build-in-spec : {M : Type 1} → statement M
-build-in-spec =
-    tie.close
-    (tie.spec
-    slice-relend-prefix-build
-    slice-aggregate-build
-    build-requires
-    same-length
-    returns
-    returns-2)
+build-in-spec = tie.close (tie.spec slice-relend-prefix-build slice-aggregate-build build-requires same-length returns returns-2)

@@ -22,11 +22,4 @@ returns-2 : tie.Need-returns-2
 returns-2 c = search needs
 
 pub call-on-spec : {M : Type 1} → statement M
-call-on-spec =
-    tie.close
-    (tie.spec
-    slice-aggregate-call
-    call-requires
-    same-length
-    returns
-    returns-2)
+call-on-spec = tie.close (tie.spec slice-aggregate-call call-requires same-length returns returns-2)

@@ -72,26 +72,5 @@ returns-2 c = search needs
 
 pub calls-spec : {M : Type 1} → statement M
 calls-spec =
-    tie.close
-    (tie.spec
-    Inv-loop
-    μ-loop
-    loop-holds
-    add-end
-    shared-slice-read-wide
-    wide-requires
-    mul-end
-    add-end-2
-    same-length
-    same-length-2
-    returns
-    add-once
-    sub-once
-    part-once-start
-    part-once-end
-    once-requires
-    loop-less
-    loop-again
-    same-length-3
-    same-length-4
-    returns-2)
+    tie.close (tie.spec Inv-loop μ-loop loop-holds add-end shared-slice-read-wide wide-requires mul-end add-end-2 same-length same-length-2 returns add-once
+    sub-once part-once-start part-once-end once-requires loop-less loop-again same-length-3 same-length-4 returns-2)

@@ -65,24 +65,5 @@ returns-2 c = search needs
 
 pub change-spec : {M : Type 1} → statement M
 change-spec =
-    tie.close
-    (tie.spec
-    Inv-loop
-    μ-loop
-    loop-holds
-    sub-if1
-    same-length
-    returns
-    add-value
-    sub-value
-    part-value-start
-    part-value-end
-    value-requires
-    add-put
-    shared-slice-read-put
-    put-requires
-    add-at
-    loop-less
-    loop-again
-    same-length-2
-    returns-2)
+    tie.close (tie.spec Inv-loop μ-loop loop-holds sub-if1 same-length returns add-value sub-value part-value-start part-value-end value-requires add-put
+    shared-slice-read-put put-requires add-at loop-less loop-again same-length-2 returns-2)

@@ -40,17 +40,4 @@ returns : tie.Need-returns Inv-loop μ-loop
 returns c = search needs
 
 pub changes-of-spec : {M : Type 1} → statement M
-changes-of-spec =
-    tie.close
-    (tie.spec
-    Inv-loop
-    μ-loop
-    loop-holds
-    changed-requires
-    add-k
-    loop-less
-    loop-again
-    same-length
-    same-length-2
-    same-length-3
-    returns)
+changes-of-spec = tie.close (tie.spec Inv-loop μ-loop loop-holds changed-requires add-k loop-less loop-again same-length same-length-2 same-length-3 returns)

@@ -36,16 +36,4 @@ returns-2 : tie.Need-returns-2 Inv-loop μ-loop
 returns-2 c = search needs
 
 pub equal-spec : {M : Type 1} → statement M
-equal-spec =
-    tie.close
-    (tie.spec
-    Inv-loop
-    μ-loop
-    returns
-    loop-holds
-    shared-slice-read-if3
-    shared-slice-read-if3-2
-    add-i
-    loop-less
-    loop-again
-    returns-2)
+equal-spec = tie.close (tie.spec Inv-loop μ-loop returns loop-holds shared-slice-read-if3 shared-slice-read-if3-2 add-i loop-less loop-again returns-2)

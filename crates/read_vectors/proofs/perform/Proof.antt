@@ -70,24 +70,6 @@ returns-3 c = search needs
 
 pub perform-spec : {M : Type 1} → statement M
 perform-spec =
-    tie.close
-    (tie.spec
-    wanted-requires
-    lent-requires
-    lent-requires-2
-    returns
-    slice-aggregate-build-in
-    build-in-requires
-    slice-aggregate-sweep-in
-    slice-aggregate-sweep-in-2
-    slice-relend-prefix-sweep-in
-    slice-aggregate-sweep-in-3
-    sweep-in-requires
-    same-length
-    returns-2
-    slice-aggregate-calls
-    slice-relend-prefix-calls
-    slice-aggregate-calls-2
-    calls-requires
-    same-length-2
-    returns-3)
+    tie.close (tie.spec wanted-requires lent-requires lent-requires-2 returns slice-aggregate-build-in build-in-requires slice-aggregate-sweep-in
+    slice-aggregate-sweep-in-2 slice-relend-prefix-sweep-in slice-aggregate-sweep-in-3 sweep-in-requires same-length returns-2 slice-aggregate-calls
+    slice-relend-prefix-calls slice-aggregate-calls-2 calls-requires same-length-2 returns-3)

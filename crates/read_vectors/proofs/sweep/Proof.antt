@@ -44,17 +44,4 @@ returns c = search needs
 
 pub sweep-spec : {M : Type 1} → statement M
 sweep-spec =
-    tie.close
-    (tie.spec
-    Inv-loop
-    μ-loop
-    empty-requires
-    loop-holds
-    changes-of-requires
-    add-i
-    loop-less
-    loop-again
-    same-length
-    same-length-2
-    same-length-3
-    returns)
+    tie.close (tie.spec Inv-loop μ-loop empty-requires loop-holds changes-of-requires add-i loop-less loop-again same-length same-length-2 same-length-3 returns)

@@ -48,17 +48,5 @@ returns-3 c = search needs
 
 pub sweep-in-spec : {M : Type 1} → statement M
 sweep-in-spec =
-    tie.close
-    (tie.spec
-    returns
-    returns-2
-    slice-relend-prefix-sweep
-    slice-aggregate-sweep
-    slice-relend-prefix-sweep-2
-    slice-aggregate-sweep-2
-    sweep-requires
-    tell-requires
-    same-length
-    same-length-2
-    same-length-3
-    returns-3)
+    tie.close (tie.spec returns returns-2 slice-relend-prefix-sweep slice-aggregate-sweep slice-relend-prefix-sweep-2 slice-aggregate-sweep-2 sweep-requires
+    tell-requires same-length same-length-2 same-length-3 returns-3)

@@ -54,20 +54,5 @@ returns c = search needs
 
 pub added-spec : {M : Type 1} → statement M
 added-spec =
-    tie.close
-    (tie.spec
-    Inv-loop
-    μ-loop
-    loop-holds
-    shared-slice-read-wide
-    wide-requires
-    mul-a
-    add-a
-    add-a-2
-    mul-b
-    add-b
-    add-b-2
-    add-i
-    loop-less
-    loop-again
+    tie.close (tie.spec Inv-loop μ-loop loop-holds shared-slice-read-wide wide-requires mul-a add-a add-a-2 mul-b add-b add-b-2 add-i loop-less loop-again
     returns)

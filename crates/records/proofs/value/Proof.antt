@@ -40,17 +40,4 @@ returns : tie.Need-returns Inv-loop μ-loop
 returns c = search needs
 
 pub value-spec : {M : Type 1} → statement M
-value-spec =
-    tie.close
-    (tie.spec
-    Inv-loop
-    μ-loop
-    loop-holds
-    mul-v
-    shared-slice-read-wide
-    wide-requires
-    add-v
-    add-i
-    loop-less
-    loop-again
-    returns)
+value-spec = tie.close (tie.spec Inv-loop μ-loop loop-holds mul-v shared-slice-read-wide wide-requires add-v add-i loop-less loop-again returns)

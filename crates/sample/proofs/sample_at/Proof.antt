@@ -34,13 +34,4 @@ returns-3 c =
     ))
 
 pub sample-at-spec : {M : Type 1} → statement M
-sample-at-spec =
-    tie.close
-    (tie.spec
-    silent-requires
-    returns
-    phase-requires
-    returns-2
-    scale-of-requires
-    scaled-requires
-    returns-3)
+sample-at-spec = tie.close (tie.spec silent-requires returns phase-requires returns-2 scale-of-requires scaled-requires returns-3)

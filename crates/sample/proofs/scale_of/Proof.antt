@@ -51,16 +51,4 @@ returns-2 c =
     sym (c .before .loop .inv .1 ∙ ap (λ (n : ℕ). seek (c .before .before .args .unit) (drop n unitRows)) last)
 
 pub scale-of-spec : {M : Type 1} → statement M
-scale-of-spec =
-    tie.close
-    (tie.spec
-    Inv-loop
-    μ-loop
-    loop-holds
-    mul-row
-    array-copy-out-row
-    returns
-    add-k
-    loop-less
-    loop-again
-    returns-2)
+scale-of-spec = tie.close (tie.spec Inv-loop μ-loop loop-holds mul-row array-copy-out-row returns add-k loop-less loop-again returns-2)

@@ -50,15 +50,4 @@ returns-4 : tie.Need-returns-4
 returns-4 c = search needs
 
 pub scaled-spec : {M : Type 1} → statement M
-scaled-spec =
-    tie.close
-    (tie.spec
-    enum-known-s
-    size-requires
-    returns
-    size-requires-2
-    returns-2
-    point-of-requires
-    enum-told
-    returns-3
-    returns-4)
+scaled-spec = tie.close (tie.spec enum-known-s size-requires returns size-requires-2 returns-2 point-of-requires enum-told returns-3 returns-4)

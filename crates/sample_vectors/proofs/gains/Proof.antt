@@ -32,15 +32,4 @@ returns : tie.Need-returns Inv-loop μ-loop
 returns c = search needs
 
 pub gains-spec : {M : Type 1} → statement M
-gains-spec =
-    tie.close
-    (tie.spec
-    Inv-loop
-    μ-loop
-    loop-holds
-    array-read-gain-line
-    gain-line-requires
-    add-k
-    loop-less
-    loop-again
-    returns)
+gains-spec = tie.close (tie.spec Inv-loop μ-loop loop-holds array-read-gain-line gain-line-requires add-k loop-less loop-again returns)

@@ -35,16 +35,4 @@ returns : tie.Need-returns Inv-loop μ-loop
 returns c = search needs
 
 pub levels-spec : {M : Type 1} → statement M
-levels-spec =
-    tie.close
-    (tie.spec
-    Inv-loop
-    μ-loop
-    loop-holds
-    array-read-level-line
-    byte-at-requires
-    level-line-requires
-    add-k
-    loop-less
-    loop-again
-    returns)
+levels-spec = tie.close (tie.spec Inv-loop μ-loop loop-holds array-read-level-line byte-at-requires level-line-requires add-k loop-less loop-again returns)

@@ -39,16 +39,4 @@ returns c = search needs
 
 pub tally-spec : {M : Type 1} → statement M
 tally-spec =
-    tie.close
-    (tie.spec
-    Inv-loop
-    μ-loop
-    loop-holds
-    cast-sample-at
-    cast-sample-at-2
-    sample-at-requires
-    counted-requires
-    add-n
-    loop-less
-    loop-again
-    returns)
+    tie.close (tie.spec Inv-loop μ-loop loop-holds cast-sample-at cast-sample-at-2 sample-at-requires counted-requires add-n loop-less loop-again returns)

@@ -32,15 +32,4 @@ returns : tie.Need-returns Inv-loop μ-loop
 returns c = search needs
 
 pub units-spec : {M : Type 1} → statement M
-units-spec =
-    tie.close
-    (tie.spec
-    Inv-loop
-    μ-loop
-    loop-holds
-    cast-unit-line
-    unit-line-requires
-    add-u
-    loop-less
-    loop-again
-    returns)
+units-spec = tie.close (tie.spec Inv-loop μ-loop loop-holds cast-unit-line unit-line-requires add-u loop-less loop-again returns)

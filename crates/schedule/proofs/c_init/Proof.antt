@@ -1,6 +1,5 @@
 -- `schedule::c_init` meets its contract: a case for each channel. Assumes nothing.
 use mathlib.Core.Path.{sym, ap, subst, _∙_}
-use mathlib.Core.Path.{sym, ap, subst, _∙_}
 use Rattle.schedule.specs.Schedule.{initOf, Among}
 use borrow.Author.Needs.{needs}
 use Rattle.schedule.proofs.c_init.Statement.{statement}
@@ -11,7 +10,7 @@ enum-known-ch c = search needs
 
 crs-init-requires : tie.Need-crs-init-requires
 unfolding Among
-crs-init-requires c κs = let a = c .before .before .before .before .before in (a .pre .0, a .pre .1, subst (Among (a .args .p)) (c .before .ch .given .1) (a .pre .2) .0)
+crs-init-requires c κs = let a = c .before .before .before .before .before in (a .pre .0, a .pre .1, subst (Among (a .args .p)) (c .before .ch .given .1) (a .pre .2))
 
 enum-told : tie.Need-enum-told
 enum-told c = search needs
@@ -66,22 +65,5 @@ returns-6 c = c .user-init .ensures ∙ sym (ap (initOf (c .before .before .befo
 
 pub c-init-spec : {M : Type 1} → statement M
 c-init-spec =
-    tie.close
-    (tie.spec
-    enum-known-ch
-    crs-init-requires
-    enum-told
-    enum-told-2
-    cast-result
-    enum-told-3
-    control-init-requires
-    enum-told-4
-    control-init-requires-2
-    enum-known-ch-2
-    user-init-requires
-    returns
-    returns-2
-    returns-3
-    returns-4
-    returns-5
-    returns-6)
+    tie.close (tie.spec enum-known-ch crs-init-requires enum-told enum-told-2 cast-result enum-told-3 control-init-requires enum-told-4 control-init-requires-2
+    enum-known-ch-2 user-init-requires returns returns-2 returns-3 returns-4 returns-5 returns-6)

@@ -36,15 +36,4 @@ unfolding controlInit
 returns c = refl
 
 pub control-init-spec : {M : Type 1} → statement M
-control-init-spec =
-    tie.close
-    (tie.spec
-    cast-identity
-    cast-result
-    add-result
-    mul-result
-    add-result-2
-    mul-result-2
-    mul-result-3
-    add-result-3
-    returns)
+control-init-spec = tie.close (tie.spec cast-identity cast-result add-result mul-result add-result-2 mul-result-2 mul-result-3 add-result-3 returns)

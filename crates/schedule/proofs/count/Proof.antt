@@ -6,26 +6,24 @@ use borrow.Author.Needs.{needs}
 use Rattle.schedule.proofs.count.Statement.{statement}
 use Rattle.schedule.proofs.count.Tie as tie
 
-signal-turns-requires : tie.Need-signal-turns-requires
-signal-turns-requires c κs = search needs
+symbols-requires : tie.Need-symbols-requires
+symbols-requires c κs = search needs
 
 add-result : tie.Need-add-result
-add-result c = omega (arith, c .signal-turns .ensures)
+add-result c = omega (arith, c .symbols .ensures)
 
 units-requires : tie.Need-units-requires
 units-requires c κs = search needs
 
 add-result-2 : tie.Need-add-result-2
-add-result-2 c = omega (arith, c .before .signal-turns .ensures, c .units .ensures, units-most (c .before .before .args .p .cell) (c .before .before .pre .0))
+add-result-2 c = omega (arith, c .before .symbols .ensures, c .units .ensures, units-most (c .before .before .args .p .cell) (c .before .before .pre .0))
 
 add-result-3 : tie.Need-add-result-3
-add-result-3 c = let a = c .before .before .before in omega (arith, c .before .before .signal-turns .ensures, c .before .units .ensures, units-most (a .args .p .cell) (a .pre .0), a .pre .1)
+add-result-3 c = let a = c .before .before .before in omega (arith, c .before .before .symbols .ensures, c .before .units .ensures, units-most (a .args .p .cell) (a .pre .0), a .pre .1)
 
 returns : tie.Need-returns
 unfolding channelCount
-returns c = omega (arith, c .before .before .signal-turns .ensures, c .before .units .ensures)
+returns c = omega (arith, c .before .before .symbols .ensures, c .before .units .ensures)
 
 pub count-spec : {M : Type 1} → statement M
-count-spec =
-    tie.close
-    (tie.spec signal-turns-requires add-result units-requires add-result-2 add-result-3 returns)
+count-spec = tie.close (tie.spec symbols-requires add-result units-requires add-result-2 add-result-3 returns)

@@ -47,14 +47,4 @@ returns-2 c =
     ∙ late (a .cell) (2 * a .frame .subframe) (a .frame .subframe) (a .s) refl (omega (arith, c .before .if1 .left, e))
 
 pub crs-init-spec : {M : Type 1} → statement M
-crs-init-spec =
-    tie.close
-    (tie.spec
-    slot-length-requires
-    cast-slot
-    mul-n
-    c-init-requires
-    returns
-    add-c-init
-    c-init-requires-2
-    returns-2)
+crs-init-spec = tie.close (tie.spec slot-length-requires cast-slot mul-n c-init-requires returns add-c-init c-init-requires-2 returns-2)

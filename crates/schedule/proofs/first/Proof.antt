@@ -1,8 +1,6 @@
 -- `schedule::first` meets its contract: from its callee. Assumes nothing.
 use mathlib.Core.Path.{ap}
 use Prim.Native.Nat.{ℕ}
-use mathlib.Core.Path.{ap}
-use Prim.Native.Nat.{ℕ}
 use Rattle.schedule.specs.Cursor.{firstTurn}
 use Rattle.schedule.specs.declared.Turn.{Turn}
 use borrow.Author.Needs.{needs}

@@ -1,8 +1,6 @@
 -- `schedule::first_bit` meets its contract: a case for each channel. Assumes nothing.
 use mathlib.Core.Path.{sym, ap, _∙_}
 use Prim.Native.Nat.{ℕ, _-_, _*_}
-use mathlib.Core.Path.{sym, ap, _∙_}
-use Prim.Native.Nat.{ℕ, _-_, _*_}
 use native.Mathlib.Omega.{arith}
 use Rattle.plan.proofs.Counts.{blocks-most}
 use Rattle.schedule.specs.Schedule.{firstBit}
@@ -66,21 +64,5 @@ returns-6 c = sym (ap (firstBit (c .before .before .before .before .args .p)) (c
 
 pub first-bit-spec : {M : Type 1} → statement M
 first-bit-spec =
-    tie.close
-    (tie.spec
-    enum-told
-    wide-requires
-    sub-result
-    mul-result
-    enum-told-2
-    enum-told-3
-    pbch-first-requires
-    enum-told-4
-    enum-told-5
-    enum-told-6
-    returns
-    returns-2
-    returns-3
-    returns-4
-    returns-5
-    returns-6)
+    tie.close (tie.spec enum-told wide-requires sub-result mul-result enum-told-2 enum-told-3 pbch-first-requires enum-told-4 enum-told-5 enum-told-6 returns
+    returns-2 returns-3 returns-4 returns-5 returns-6)

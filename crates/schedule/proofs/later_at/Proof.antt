@@ -1,6 +1,5 @@
 -- `schedule::later_at` meets its contract: a case for each channel. Assumes nothing.
 use mathlib.Core.Path.{sym, ap}
-use mathlib.Core.Path.{sym, ap}
 use native.Mathlib.Omega.{arith}
 use Rattle.schedule.specs.Schedule.{laterAt}
 use Rattle.schedule.proofs.Steps.{unit-few, unit-found, user-found}
@@ -48,17 +47,4 @@ returns-6 c =
     user-found (a .pre .0) (a .args .n) (a .pre .1) _ (c .before .before .units .ensures) (omega (arith, c .before .before .before .match .rest)) (c .before .if1 .left) (c .user-at .ensures)
 
 pub later-at-spec : {M : Type 1} → statement M
-later-at-spec =
-    tie.close
-    (tie.spec
-    sub-if1
-    units-requires
-    sub-t11
-    cast-t12
-    returns
-    user-at-requires
-    returns-2
-    returns-3
-    returns-4
-    returns-5
-    returns-6)
+later-at-spec = tie.close (tie.spec sub-if1 units-requires sub-t11 cast-t12 returns user-at-requires returns-2 returns-3 returns-4 returns-5 returns-6)

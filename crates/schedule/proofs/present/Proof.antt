@@ -1,7 +1,6 @@
 -- `schedule::present` meets its contract: a case for each channel. Assumes nothing.
 use mathlib.Core.Path.{sym, ap, _∙_}
-use mathlib.Core.Path.{sym, ap, _∙_}
-use Rattle.layout.specs.Rules.{crsSymbol}
+use Rattle.signals.specs.Signals.{signalled}
 use Rattle.schedule.specs.Schedule.{presentIn}
 use borrow.Author.Needs.{needs}
 use Rattle.schedule.proofs.present.Statement.{statement}
@@ -13,8 +12,8 @@ enum-known-ch c = search needs
 wide-requires : tie.Need-wide-requires
 wide-requires c κs = search needs
 
-crs-uses-requires : tie.Need-crs-uses-requires
-crs-uses-requires c κs = search needs
+is-signalled-requires : tie.Need-is-signalled-requires
+is-signalled-requires c κs = search needs
 
 enum-told : tie.Need-enum-told
 enum-told c = search needs
@@ -38,7 +37,7 @@ returns : tie.Need-returns
 unfolding presentIn
 returns c =
     let a = c .before .before .before .before .before in
-    c .crs-uses .ensures ∙ ap (crsSymbol (a .args .p .cell) _) (c .before .wide .ensures) ∙ sym (ap (presentIn (a .args .p)) (c .before .before .before .ch .given .1))
+    c .is-signalled .ensures ∙ ap (signalled (a .args .p .cell)) (c .before .wide .ensures) ∙ sym (ap (presentIn (a .args .p)) (c .before .before .before .ch .given .1))
 
 returns-2 : tie.Need-returns-2
 unfolding presentIn
@@ -62,20 +61,5 @@ returns-6 c = sym (ap (presentIn (c .before .before .args .p)) (c .enum-told5 .g
 
 pub present-spec : {M : Type 1} → statement M
 present-spec =
-    tie.close
-    (tie.spec
-    enum-known-ch
-    wide-requires
-    crs-uses-requires
-    enum-told
-    is-marked-requires
-    enum-told-2
-    enum-told-3
-    enum-told-4
-    enum-told-5
-    returns
-    returns-2
-    returns-3
-    returns-4
-    returns-5
-    returns-6)
+    tie.close (tie.spec enum-known-ch wide-requires is-signalled-requires enum-told is-marked-requires enum-told-2 enum-told-3 enum-told-4 enum-told-5 returns
+    returns-2 returns-3 returns-4 returns-5 returns-6)

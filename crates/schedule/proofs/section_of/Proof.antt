@@ -2,10 +2,7 @@
 use mathlib.Core.Path.{sym, ap, ap₂, _∙_}
 use Prim.Native.Nat.{ℕ, _+_}
 use Rattle.payload.proofs.Lengths.{bits-are}
-use mathlib.Core.Path.{sym, ap, ap₂, _∙_}
-use Prim.Native.Nat.{ℕ, _+_}
 use Rattle.payload.specs.Sections.{sectionBytes}
-use Rattle.payload.proofs.Lengths.{bits-are}
 use Rattle.counts.proofs.Shapes.{shape-in}
 use Rattle.schedule.specs.Schedule.{sectionOf}
 use Rattle.schedule.specs.declared.Section.{Section}
@@ -91,25 +88,6 @@ returns-6 c =
 
 pub section-of-spec : {M : Type 1} → statement M
 section-of-spec =
-    tie.close
-    (tie.spec
-    enum-told
-    enum-told-2
-    enum-told-3
-    pbch-bits-requires
-    section-bytes-requires
-    enum-told-4
-    enum-told-5
-    pbch-bits-requires-2
-    section-bytes-requires-2
-    users-start-requires
-    enum-known-ch
-    user-bits-requires
-    section-bytes-requires-3
-    add-t14
-    returns
-    returns-2
-    returns-3
-    returns-4
-    returns-5
-    returns-6)
+    tie.close (tie.spec enum-told enum-told-2 enum-told-3 pbch-bits-requires section-bytes-requires enum-told-4 enum-told-5 pbch-bits-requires-2
+    section-bytes-requires-2 users-start-requires enum-known-ch user-bits-requires section-bytes-requires-3 add-t14 returns returns-2 returns-3 returns-4
+    returns-5 returns-6)

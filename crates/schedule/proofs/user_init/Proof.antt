@@ -31,14 +31,4 @@ unfolding userInit
 returns c = refl
 
 pub user-init-spec : {M : Type 1} → statement M
-user-init-spec =
-    tie.close
-    (tie.spec
-    cast-result
-    mul-result
-    cast-result-2
-    mul-result-2
-    add-result
-    cast-result-3
-    add-result-2
-    returns)
+user-init-spec = tie.close (tie.spec cast-result mul-result cast-result-2 mul-result-2 add-result cast-result-3 add-result-2 returns)

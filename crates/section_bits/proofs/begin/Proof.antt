@@ -11,5 +11,4 @@ returns : tie.Need-returns
 returns c = begun (c .before .args .r) (c .widen .ensures)
 
 pub begin-spec : {M : Type 1} → statement M
-begin-spec =
-    tie.close (tie.spec widen-requires returns)
+begin-spec = tie.close (tie.spec widen-requires returns)

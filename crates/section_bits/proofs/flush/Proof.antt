@@ -64,5 +64,5 @@ returns-2 c =
 
 pub flush-spec : {M : Type 1} → statement M
 flush-spec =
-    tie.close (tie.spec element-copy-out-got returns element-copy-out-a element-copy-out-b word48-requires sub-sequence shr-sequence
-    element-copy-out-at element-copy-out-bits power-requires rem-bits sub-put-last shl-put-last put-last-requires same-length returns-2)
+    tie.close (tie.spec element-copy-out-got returns element-copy-out-a element-copy-out-b word48-requires sub-sequence shr-sequence element-copy-out-at
+    element-copy-out-bits power-requires rem-bits sub-put-last shl-put-last put-last-requires same-length returns-2)

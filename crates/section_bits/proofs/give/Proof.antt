@@ -58,5 +58,5 @@ returns-2 c =
 
 pub give-spec : {M : Type 1} → statement M
 give-spec =
-    tie.close (tie.spec element-copy-out-word shl-word add-word element-copy-out-got add-got element-write-st element-write-st-2 returns
-    element-write-st-3 shr-put48 put48-requires same-length returns-2)
+    tie.close (tie.spec element-copy-out-word shl-word add-word element-copy-out-got add-got element-write-st element-write-st-2 returns element-write-st-3
+    shr-put48 put48-requires same-length returns-2)

@@ -14,5 +14,4 @@ returns : tie.Need-returns
 returns c = power-is (c .args .n) (c .pre)
 
 pub power-spec : {M : Type 1} → statement M
-power-spec =
-    tie.close (tie.spec sub-result shr-result returns)
+power-spec = tie.close (tie.spec sub-result shr-result returns)

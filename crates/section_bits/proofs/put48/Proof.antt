@@ -61,5 +61,5 @@ returns c =
 
 pub put48-spec : {M : Type 1} → statement M
 put48-spec =
-    tie.close (tie.spec element-copy-out-a element-copy-out-b element-copy-out-at word48-requires advance48-requires cast-put-four put-four-requires
-    add-st element-write-st add-put-two cast-put-two put-two-requires element-write-st-2 element-write-st-3 same-length returns)
+    tie.close (tie.spec element-copy-out-a element-copy-out-b element-copy-out-at word48-requires advance48-requires cast-put-four put-four-requires add-st
+    element-write-st add-put-two cast-put-two put-two-requires element-write-st-2 element-write-st-3 same-length returns)

@@ -26,5 +26,4 @@ returns c =
     a .put-two2 .ensures ∙ ap (withTwo (d .args .v) (d .args .at + 2)) (b .put-two .ensures)
 
 pub put-four-spec : {M : Type 1} → statement M
-put-four-spec =
-    tie.close (tie.spec put-two-requires add-put-two put-two-requires-2 same-length returns)
+put-four-spec = tie.close (tie.spec put-two-requires add-put-two put-two-requires-2 same-length returns)

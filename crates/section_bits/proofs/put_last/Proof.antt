@@ -42,5 +42,4 @@ returns : tie.Need-returns Inv-loop μ-loop
 returns c = last-end (c .before .loop .inv) (c .loop-test .left)
 
 pub put-last-spec : {M : Type 1} → statement M
-put-last-spec =
-    tie.close (tie.spec Inv-loop μ-loop loop-holds cast-part slice-write-part mul-v add-at loop-less loop-again same-length returns)
+put-last-spec = tie.close (tie.spec Inv-loop μ-loop loop-holds cast-part slice-write-part mul-v add-at loop-less loop-again same-length returns)

@@ -40,14 +40,4 @@ returns : tie.Need-returns
 returns c = mark-first (c .before .before .before .args .cell) (c .before .before .before .args .y) (c .before .before .slot-length .ensures) (c .before .row-at .ensures) (c .wide .ensures)
 
 pub mark-at-spec : {M : Type 1} → statement M
-mark-at-spec =
-    tie.close
-    (tie.spec
-    slot-length-requires
-    sub-s
-    row-at-requires
-    wide-requires
-    mul-result
-    sub-result
-    add-result
-    returns)
+mark-at-spec = tie.close (tie.spec slot-length-requires sub-s row-at-requires wide-requires mul-result sub-result add-result returns)

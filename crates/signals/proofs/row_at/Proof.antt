@@ -36,13 +36,4 @@ returns c =
     row-is (c3 .args .cell) (c3 .args .s) (c3 .args .port) (c2 .wide .ensures) (c .before .symbols .ensures .0) (c .carriers .ensures)
 
 pub row-at-spec : {M : Type 1} → statement M
-row-at-spec =
-    tie.close
-    (tie.spec
-    wide-requires
-    symbols-requires
-    mul-rows
-    add-rows
-    carriers-requires
-    mul-result
-    returns)
+row-at-spec = tie.close (tie.spec wide-requires symbols-requires mul-rows add-rows carriers-requires mul-result returns)

@@ -55,16 +55,5 @@ returns c =
 
 pub compare-levels-spec : {M : Type 1} → statement M
 compare-levels-spec =
-    tie.close
-    (tie.spec
-    Inv-loop
-    μ-loop
-    loop-holds
-    level-element-requires
-    add-compare-at
-    compare-at-requires
-    together-requires
-    add-i
-    loop-less
-    loop-again
+    tie.close (tie.spec Inv-loop μ-loop loop-holds level-element-requires add-compare-at compare-at-requires together-requires add-i loop-less loop-again
     returns)

@@ -55,16 +55,5 @@ returns c =
 
 pub compare-phases-spec : {M : Type 1} → statement M
 compare-phases-spec =
-    tie.close
-    (tie.spec
-    Inv-loop
-    μ-loop
-    loop-holds
-    phase-element-requires
-    add-compare-at
-    compare-at-requires
-    together-requires
-    add-i
-    loop-less
-    loop-again
+    tie.close (tie.spec Inv-loop μ-loop loop-holds phase-element-requires add-compare-at compare-at-requires together-requires add-i loop-less loop-again
     returns)

@@ -25,5 +25,4 @@ returns c =
     (entry .args .frame) _ (at-sss-for .sss-for .ensures) (c .compare-levels .ensures)
 
 pub compare-sss-spec : {M : Type 1} → statement M
-compare-sss-spec =
-    tie.close (tie.spec sss-for-requires mark-at-requires compare-levels-requires returns)
+compare-sss-spec = tie.close (tie.spec sss-for-requires mark-at-requires compare-levels-requires returns)

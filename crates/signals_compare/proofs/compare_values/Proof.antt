@@ -1,9 +1,9 @@
 -- `signals_compare::compare_values` meets its contract. The loop: the first m values are compared, and the pair has given their bits.
 -- Assumes nothing.
-use Prim.Native.Nat.{_-_}
+use Prim.Native.Nat.{_-_, _*_}
 use native.Mathlib.Omega.{arith}
 use Rattle.signals.proofs.ValueByValue.{ValuesDone, values-first, values-step, values-last}
-use Rattle.signals_compare.proofs.Differing.{DifferingIn, differing, also-differing, values-same, values-differ}
+use Rattle.signals_compare.proofs.Differing.{DifferingIn, differing, also-differing, sixth-weight, pair-weight, all-same, some-differ}
 use Rattle.signals_compare.proofs.compare_values.Statement.{statement}
 use Rattle.signals_compare.proofs.compare_values.Tie as tie
 
@@ -67,33 +67,15 @@ mul-weight c = omega arith
 
 returns : tie.Need-returns Inv-loop μ-loop
 returns c =
-    let at-loop = c .before .before in let entry = at-loop .before .before in
-    values-same (entry .args .r) (entry .args .n) (entry .args .first) (values-last (differing (entry .args .grid .now)) (at-loop .loop .inv) (omega arith) .0) (entry .pre) (c .if1 .taken)
+    let at-loop = c .before .before in let entry = at-loop .before .before in let g = entry .args .grid .now in let first = entry .args .first in let n = entry .args .n in
+    all-same (values-last (differing g) (at-loop .loop .inv) (omega arith) .0) (3 * n) (pair-weight (entry .args .r) first) (sixth-weight g first n (entry .pre)) (c .if1 .taken)
 
 returns-2 : tie.Need-returns-2 Inv-loop μ-loop
 returns-2 c =
     let at-loop = c .before .before in let entry = at-loop .before .before in
-    values-differ (entry .args .r) (entry .args .n) (entry .args .first) (values-last (differing (entry .args .grid .now)) (at-loop .loop .inv) (omega arith) .0) (c .if1 .left)
+    some-differ (values-last (differing (entry .args .grid .now)) (at-loop .loop .inv) (omega arith) .0) (c .if1 .left)
 
 pub compare-values-spec : {M : Type 1} → statement M
 compare-values-spec =
-    tie.close
-    (tie.spec
-    Inv-loop
-    μ-loop
-    loop-holds
-    sub-at-once
-    at-once-requires
-    mul-bits
-    cast-bits
-    word-requires
-    mul-compare-word
-    add-compare-word
-    compare-word-requires
-    advance-requires
-    add-m
-    loop-less
-    loop-again
-    mul-weight
-    returns
-    returns-2)
+    tie.close (tie.spec Inv-loop μ-loop loop-holds sub-at-once at-once-requires mul-bits cast-bits word-requires mul-compare-word add-compare-word
+    compare-word-requires advance-requires add-m loop-less loop-again mul-weight returns returns-2)

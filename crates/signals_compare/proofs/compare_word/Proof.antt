@@ -65,22 +65,5 @@ returns c =
 
 pub compare-word-spec : {M : Type 1} → statement M
 compare-word-spec =
-    tie.close
-    (tie.spec
-    Inv-loop
-    μ-loop
-    loop-holds
-    sub-low
-    sub-low-2
-    mul-low
-    mul-three-at
-    add-three-at
-    mul-three-at-2
-    three-at-requires
-    cast-number-of
-    shr-number-of
-    number-of-requires
-    add-i
-    loop-less
-    loop-again
-    returns)
+    tie.close (tie.spec Inv-loop μ-loop loop-holds sub-low sub-low-2 mul-low mul-three-at add-three-at mul-three-at-2 three-at-requires cast-number-of
+    shr-number-of number-of-requires add-i loop-less loop-again returns)

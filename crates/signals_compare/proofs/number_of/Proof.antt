@@ -24,5 +24,4 @@ returns : tie.Need-returns
 returns c = (number-is (c .args .two), omega arith)
 
 pub number-of-spec : {M : Type 1} → statement M
-number-of-spec =
-    tie.close (tie.spec mul-result add-result mul-result-2 add-result-2 cast-result returns)
+number-of-spec = tie.close (tie.spec mul-result add-result mul-result-2 add-result-2 cast-result returns)

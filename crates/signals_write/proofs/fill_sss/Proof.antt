@@ -28,5 +28,4 @@ returns c =
     (entry .args .frame) _ (at-sss-for .sss-for .ensures) (at-fill-levels .fill-levels .ensures)
 
 pub fill-sss-spec : {M : Type 1} → statement M
-fill-sss-spec =
-    tie.close (tie.spec sss-for-requires mark-at-requires fill-levels-requires same-length returns)
+fill-sss-spec = tie.close (tie.spec sss-for-requires mark-at-requires fill-levels-requires same-length returns)

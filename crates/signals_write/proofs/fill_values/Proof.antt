@@ -77,22 +77,5 @@ returns c =
 
 pub fill-values-spec : {M : Type 1} → statement M
 fill-values-spec =
-    tie.close
-    (tie.spec
-    Inv-loop
-    μ-loop
-    loop-holds
-    sub-at-once
-    at-once-requires
-    mul-bits
-    cast-bits
-    word-requires
-    mul-fill-word
-    add-fill-word
-    fill-word-requires
-    advance-requires
-    add-m
-    loop-less
-    loop-again
-    same-length
-    returns)
+    tie.close (tie.spec Inv-loop μ-loop loop-holds sub-at-once at-once-requires mul-bits cast-bits word-requires mul-fill-word add-fill-word fill-word-requires
+    advance-requires add-m loop-less loop-again same-length returns)

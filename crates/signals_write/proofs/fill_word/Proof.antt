@@ -73,23 +73,5 @@ returns c =
 
 pub fill-word-spec : {M : Type 1} → statement M
 fill-word-spec =
-    tie.close
-    (tie.spec
-    Inv-loop
-    μ-loop
-    loop-holds
-    sub-low
-    sub-low-2
-    mul-low
-    cast-value
-    shr-value
-    value-requires
-    mul-put
-    add-put
-    element-of-requires
-    put-requires
-    add-i
-    loop-less
-    loop-again
-    same-length
-    returns)
+    tie.close (tie.spec Inv-loop μ-loop loop-holds sub-low sub-low-2 mul-low cast-value shr-value value-requires mul-put add-put element-of-requires
+    put-requires add-i loop-less loop-again same-length returns)

@@ -20,5 +20,4 @@ returns-2 : tie.Need-returns-2
 returns-2 c = t-second (c .before .before .args .i) (c .triangle2 .result) (c .before .if1 .left) (c .triangle2 .ensures)
 
 pub pss-t-spec : {M : Type 1} → statement M
-pss-t-spec =
-    tie.close (tie.spec triangle-requires add-triangle triangle-requires-2 returns returns-2)
+pss-t-spec = tie.close (tie.spec triangle-requires add-triangle triangle-requires-2 returns returns-2)

@@ -59,20 +59,5 @@ returns c = let l = c .before .loop in filled-all (l .i) (l .s) (l .c) (l .z) (c
 
 pub sequences-spec : {M : Type 1} → statement M
 sequences-spec =
-    tie.close
-    (tie.spec
-    Inv-loop
-    μ-loop
-    loop-holds
-    add-pushed
-    pushed-requires
-    add-pushed-2
-    pushed-requires-2
-    add-pushed-3
-    add-pushed-4
-    add-pushed-5
-    pushed-requires-3
-    add-i
-    loop-less
-    loop-again
-    returns)
+    tie.close (tie.spec Inv-loop μ-loop loop-holds add-pushed pushed-requires add-pushed-2 pushed-requires-2 add-pushed-3 add-pushed-4 add-pushed-5
+    pushed-requires-3 add-i loop-less loop-again returns)

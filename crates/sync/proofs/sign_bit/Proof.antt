@@ -23,5 +23,4 @@ returns-2 : tie.Need-returns-2
 returns-2 c = bit-odd (c .before .before .args .s) (c .before .before .args .i) (c .before .if1 .left)
 
 pub sign-bit-spec : {M : Type 1} → statement M
-sign-bit-spec =
-    tie.close (tie.spec cast-result shr-result cast-result-2 shr-result-2 returns returns-2)
+sign-bit-spec = tie.close (tie.spec cast-result shr-result cast-result-2 shr-result-2 returns returns-2)

@@ -39,14 +39,4 @@ returns c =
     (c .around5 .ensures)
 
 pub signs-spec : {M : Type 1} → statement M
-signs-spec =
-    tie.close
-    (tie.spec
-    sequences-requires
-    around-requires
-    around-requires-2
-    around-requires-3
-    add-around
-    around-requires-4
-    around-requires-5
-    returns)
+signs-spec = tie.close (tie.spec sequences-requires around-requires around-requires-2 around-requires-3 add-around around-requires-4 around-requires-5 returns)

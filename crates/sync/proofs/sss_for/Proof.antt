@@ -39,6 +39,4 @@ returns-2 c =
     c .signs2 .ensures ∙ signal-zero (a .cell) (a .subframe) (p .result) (p .ensures) (c .before .if1 .left)
 
 pub sss-for-spec : {M : Type 1} → statement M
-sss-for-spec =
-    tie.close
-    (tie.spec sss-pair-requires cast-n2 signs-requires signs-requires-2 returns returns-2)
+sss-for-spec = tie.close (tie.spec sss-pair-requires cast-n2 signs-requires signs-requires-2 returns returns-2)

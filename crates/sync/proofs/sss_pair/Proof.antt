@@ -38,15 +38,4 @@ returns c =
     indices-are (c .before .before .args .d) (t .result) (c .triangle2 .result) (t .ensures) (c .triangle2 .ensures)
 
 pub sss-pair-spec : {M : Type 1} → statement M
-sss-pair-spec =
-    tie.close
-    (tie.spec
-    triangle-requires
-    add-q
-    triangle-requires-2
-    add-e
-    cast-t9
-    add-t6
-    add-t7
-    cast-t11
-    returns)
+sss-pair-spec = tie.close (tie.spec triangle-requires add-q triangle-requires-2 add-e cast-t9 add-t6 add-t7 cast-t11 returns)

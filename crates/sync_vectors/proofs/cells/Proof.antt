@@ -32,6 +32,4 @@ returns : tie.Need-returns Inv-loop μ-loop
 returns c = search needs
 
 pub cells-spec : {M : Type 1} → statement M
-cells-spec =
-    tie.close
-    (tie.spec Inv-loop μ-loop loop-holds mul-both both-requires add-k loop-less loop-again returns)
+cells-spec = tie.close (tie.spec Inv-loop μ-loop loop-holds mul-both both-requires add-k loop-less loop-again returns)

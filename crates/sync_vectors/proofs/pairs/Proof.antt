@@ -29,6 +29,4 @@ returns : tie.Need-returns Inv-loop μ-loop
 returns c = search needs
 
 pub pairs-spec : {M : Type 1} → statement M
-pairs-spec =
-    tie.close
-    (tie.spec Inv-loop μ-loop loop-holds pair-requires add-d loop-less loop-again returns)
+pairs-spec = tie.close (tie.spec Inv-loop μ-loop loop-holds pair-requires add-d loop-less loop-again returns)

@@ -38,17 +38,4 @@ returns : tie.Need-returns Inv-loop μ-loop
 returns c = search needs
 
 pub phases-spec : {M : Type 1} → statement M
-phases-spec =
-    tie.close
-    (tie.spec
-    Inv-loop
-    μ-loop
-    loop-holds
-    space-requires
-    pss-phase-requires
-    cast-number
-    number-requires
-    add-i
-    loop-less
-    loop-again
-    returns)
+phases-spec = tie.close (tie.spec Inv-loop μ-loop loop-holds space-requires pss-phase-requires cast-number number-requires add-i loop-less loop-again returns)

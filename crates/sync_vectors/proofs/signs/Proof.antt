@@ -32,15 +32,4 @@ returns : tie.Need-returns Inv-loop μ-loop
 returns c = search needs
 
 pub signs-spec : {M : Type 1} → statement M
-signs-spec =
-    tie.close
-    (tie.spec
-    Inv-loop
-    μ-loop
-    loop-holds
-    sss-level-requires
-    sign-requires
-    add-i
-    loop-less
-    loop-again
-    returns)
+signs-spec = tie.close (tie.spec Inv-loop μ-loop loop-holds sss-level-requires sign-requires add-i loop-less loop-again returns)

@@ -196,26 +196,6 @@ returns-8 c =
 
 pub build-both-spec : {M : Type 1} → statement M
 build-both-spec =
-    tie.close
-    (tie.spec
-    check-requires
-    enum-known-checked
-    enum-told
-    refusal-in-requires
-    returns
-    grid-length-requires
-    returns-2
-    returns-3
-    payload-length-requires
-    returns-4
-    returns-5
-    spare-clear-requires
-    returns-6
-    spare-clear-requires-2
-    returns-7
-    fill-requires
-    fill-requires-2
-    users-count-requires
-    same-length
-    same-length-2
-    returns-8)
+    tie.close (tie.spec check-requires enum-known-checked enum-told refusal-in-requires returns grid-length-requires returns-2 returns-3 payload-length-requires
+    returns-4 returns-5 spare-clear-requires returns-6 spare-clear-requires-2 returns-7 fill-requires fill-requires-2 users-count-requires same-length
+    same-length-2 returns-8)

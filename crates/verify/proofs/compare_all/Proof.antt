@@ -90,23 +90,5 @@ returns c = going-end (c .before .before .loop .inv) (c .if1 .left)
 
 pub compare-all-spec : {M : Type 1} → statement M
 compare-all-spec =
-    tie.close
-    (tie.spec
-    Inv-loop
-    μ-loop
-    started-requires
-    sums-again-requires
-    row-masks-requires
-    shape-of-requires
-    count-requires
-    first-requires
-    loop-holds
-    channel-at-requires
-    section-of-requires
-    present-requires
-    compare-channel-requires
-    together-requires
-    next-requires
-    loop-less
-    loop-again
-    returns)
+    tie.close (tie.spec Inv-loop μ-loop started-requires sums-again-requires row-masks-requires shape-of-requires count-requires first-requires loop-holds
+    channel-at-requires section-of-requires present-requires compare-channel-requires together-requires next-requires loop-less loop-again returns)

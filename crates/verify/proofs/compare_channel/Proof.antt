@@ -153,39 +153,7 @@ returns-7 c =
 
 pub compare-channel-spec : {M : Type 1} → statement M
 compare-channel-spec =
-    tie.close
-    (tie.spec
-    enum-known-ch
-    started-requires
-    wide-requires
-    compare-crs-requires
-    enum-known-ch-2
-    enum-told
-    compare-pss-requires
-    enum-told-2
-    compare-sss-requires
-    enum-told-3
-    compare-pbch-requires
-    enum-told-4
-    compare-pcfich-requires
-    enum-known-ch-3
-    wide-requires-2
-    mul-from
-    mul-to
-    add-to
-    sub-compare-phich
-    part-compare-phich-start
-    part-compare-phich-end
-    compare-phich-requires
-    enum-known-ch-4
-    user-area-requires
-    cast-order
-    unit-requires
-    compare-area-requires
-    returns
-    returns-2
-    returns-3
-    returns-4
-    returns-5
-    returns-6
-    returns-7)
+    tie.close (tie.spec enum-known-ch started-requires wide-requires compare-crs-requires enum-known-ch-2 enum-told compare-pss-requires enum-told-2
+    compare-sss-requires enum-told-3 compare-pbch-requires enum-told-4 compare-pcfich-requires enum-known-ch-3 wide-requires-2 mul-from mul-to add-to
+    sub-compare-phich part-compare-phich-start part-compare-phich-end compare-phich-requires enum-known-ch-4 user-area-requires cast-order unit-requires
+    compare-area-requires returns returns-2 returns-3 returns-4 returns-5 returns-6 returns-7)

@@ -19,5 +19,4 @@ returns : tie.Need-returns
 returns c = rw (c .before .before .before .before .pbch-area .ensures) at (c .compare-area .ensures)
 
 pub compare-pbch-spec : {M : Type 1} → statement M
-compare-pbch-spec =
-    tie.close (tie.spec pbch-area-requires row-masks-requires compare-area-requires returns)
+compare-pbch-spec = tie.close (tie.spec pbch-area-requires row-masks-requires compare-area-requires returns)

@@ -27,5 +27,4 @@ returns-2 c =
     answer-differs (entry .args .plan .now) (entry .args .p) (entry .args .grid .now) (entry .pre) (c .enum-told .given .1) (at-compare-all .compare-all .ensures)
 
 pub has-payload-spec : {M : Type 1} → statement M
-has-payload-spec =
-    tie.close (tie.spec compare-all-requires enum-known-n weight-requires enum-told returns returns-2)
+has-payload-spec = tie.close (tie.spec compare-all-requires enum-known-n weight-requires enum-told returns returns-2)

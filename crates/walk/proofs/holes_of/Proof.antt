@@ -87,24 +87,5 @@ returns-10 c =
 
 pub holes-of-spec : {M : Type 1} → statement M
 holes-of-spec =
-    tie.close
-    (tie.spec
-    returns
-    two-holes-requires
-    returns-2
-    two-holes-requires-2
-    returns-3
-    two-holes-requires-3
-    returns-4
-    one-hole-requires
-    returns-5
-    one-hole-requires-2
-    returns-6
-    one-hole-requires-3
-    returns-7
-    one-hole-requires-4
-    returns-8
-    one-hole-requires-5
-    returns-9
-    one-hole-requires-6
-    returns-10)
+    tie.close (tie.spec returns two-holes-requires returns-2 two-holes-requires-2 returns-3 two-holes-requires-3 returns-4 one-hole-requires returns-5
+    one-hole-requires-2 returns-6 one-hole-requires-3 returns-7 one-hole-requires-4 returns-8 one-hole-requires-5 returns-9 one-hole-requires-6 returns-10)

@@ -52,17 +52,5 @@ returns-2 c =
 
 pub next-spec : {M : Type 1} → statement M
 next-spec =
-    tie.close
-    (tie.spec
-    mul-byte
-    add-byte
-    element-copy-out-byte
-    byte-requires
-    add-after
-    returns
-    add-t7
-    mul-byte-2
-    add-byte-2
-    element-copy-out-byte-2
-    byte-requires-2
-    returns-2)
+    tie.close (tie.spec mul-byte add-byte element-copy-out-byte byte-requires add-after returns add-t7 mul-byte-2 add-byte-2 element-copy-out-byte-2
+    byte-requires-2 returns-2)

@@ -56,16 +56,5 @@ returns c =
 
 pub port-offsets-spec : {M : Type 1} → statement M
 port-offsets-spec =
-    tie.close
-    (tie.spec
-    cast-pair
-    own-port-requires
-    wide-requires
-    mul-t6
-    add-own-port
-    own-port-requires-2
-    wide-requires-2
-    mul-t11
-    wide-requires-3
-    mul-t14
+    tie.close (tie.spec cast-pair own-port-requires wide-requires mul-t6 add-own-port own-port-requires-2 wide-requires-2 mul-t11 wide-requires-3 mul-t14
     returns)

@@ -39,16 +39,5 @@ returns c = row-put (c .args .s) (c .args .mask) (c .args .first) (c .args .end)
 
 pub put-row-spec : {M : Type 1} → statement M
 put-row-spec =
-    tie.close
-    (tie.spec
-    mul-rows
-    element-write-rows
-    cast-rows
-    mul-rows-2
-    add-rows
-    element-write-rows-2
-    cast-rows-2
-    mul-rows-3
-    add-rows-2
-    element-write-rows-3
+    tie.close (tie.spec mul-rows element-write-rows cast-rows mul-rows-2 add-rows element-write-rows-2 cast-rows-2 mul-rows-3 add-rows-2 element-write-rows-3
     returns)

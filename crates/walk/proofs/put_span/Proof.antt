@@ -39,15 +39,4 @@ returns-2 c = span-none (c .before .args .n) (c .before .args .from) (c .before 
 
 pub put-span-spec : {M : Type 1} → statement M
 put-span-spec =
-    tie.close
-    (tie.spec
-    cast-spans
-    mul-spans
-    element-write-spans
-    cast-spans-2
-    mul-spans-2
-    add-spans
-    element-write-spans-2
-    add-result
-    returns
-    returns-2)
+    tie.close (tie.spec cast-spans mul-spans element-write-spans cast-spans-2 mul-spans-2 add-spans element-write-spans-2 add-result returns returns-2)

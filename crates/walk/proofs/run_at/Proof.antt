@@ -82,25 +82,5 @@ returns-2 c =
 
 pub run-at-spec : {M : Type 1} → statement M
 run-at-spec =
-    tie.close
-    (tie.spec
-    mul-row
-    mul-byte
-    element-copy-out-byte
-    byte-requires
-    mul-byte-2
-    add-byte
-    element-copy-out-byte-2
-    byte-requires-2
-    mul-byte-3
-    element-copy-out-byte-3
-    byte-requires-3
-    mul-byte-4
-    add-byte-2
-    element-copy-out-byte-4
-    byte-requires-4
-    mul-t20
-    add-t24
-    sub-t27
-    returns
-    returns-2)
+    tie.close (tie.spec mul-row mul-byte element-copy-out-byte byte-requires mul-byte-2 add-byte element-copy-out-byte-2 byte-requires-2 mul-byte-3
+    element-copy-out-byte-3 byte-requires-3 mul-byte-4 add-byte-2 element-copy-out-byte-4 byte-requires-4 mul-t20 add-t24 sub-t27 returns returns-2)
