@@ -21,7 +21,7 @@ use Rattle.gold.proofs.Binary.{binary-digit}
 use Rattle.gold.proofs.Laws.{after-after, output-lt}
 use Rattle.codeword.specs.Streams.{outputs}
 use Rattle.crs.specs.Crs.{wordValue}
-use Rattle.crs.proofs.Values.{held}
+use Rattle.base.proofs.Fits.{level-held}
 use Rattle.sync.specs.declared.Sss.{Sss}
 use Rattle.sync.specs.Pss.{pssPhase}
 use Rattle.sync.specs.Inner.{bitIn, levelIn}
@@ -102,7 +102,7 @@ phase-value C first i e = e ∙ ap (phaseElement C) (past-first first i)
 pub level-made :
     (d : Sss) (i : ℕ) {level : ℤ} {el : Element} → level ≡ levelIn d i → el ≡ elementOf 1 (record { re = toZ w8 (ofZ w8 level); im = pos 0 }) → el ≡ levelElement d i
 unfolding levelElement levelIn
-level-made d i e ee = ee ∙ ap (λ (x : ℤ). elementOf 1 (record { re = x; im = pos 0 })) (held (bitIn d i) e)
+level-made d i e ee = ee ∙ ap (λ (x : ℤ). elementOf 1 (record { re = x; im = pos 0 })) (level-held (bitIn d i) e)
 
 pub level-value : (d : Sss) (first i : ℕ) {el : Element} → el ≡ levelElement d i → el ≡ levelSent d first (first + i)
 unfolding levelSent
