@@ -1,13 +1,12 @@
--- The 168 pairs of indices (m0, m1) are all different, and each has m0 below m1. Assumes nothing.
+-- The 168 pairs of indices (m0, m1) are all different, and each has m0 below m1 (document 02, #106), said of the definitions that the SSS elements
+-- cite. Assumes nothing.
 use Prim.Native.Nat.{ℕ, _+_, _-_, _*_, _/_, _<_}
-use mathlib.Core.Path.{_≡_, sym, ap, _∙_}
+use mathlib.Core.Path.{_≡_, sym, ap₂, _∙_}
 use mathlib.Core.Bool.{Bool, _&&_}
 use lib.Dec.{T, ltb, eqb, eqb→eq, ltb→lt}
 use lib.Ieee.Fits.{and-l, and-r}
 use Rattle.base.proofs.Computed.{below-at}
 use Rattle.sync.specs.Sss.{qPrime, qOf, eOf, m0Of, m1Of}
-use Rattle.sync.specs.Inner.{indicesOf}
-use Rattle.sync.specs.declared.Indices.{Indices}
 
 -- D from its indices a < b: m' = 31q + a and D = m' - q(q+1)/2, where q = b - a - 1
 unfoldable pub groupIdentity : ℕ → ℕ → ℕ
@@ -29,7 +28,5 @@ pub group-back : (D : ℕ) → D < 168 → groupIdentity (m0Of D) (m1Of D) ≡ D
 unfolding right
 group-back D h = eqb→eq _ _ (and-r (ltb (m0Of D) (m1Of D)) _ (tested D h))
 
-pub indices-differ : (D E : ℕ) → D < 168 → E < 168 → indicesOf D ≡ indicesOf E → D ≡ E
-unfolding indicesOf
-indices-differ D E h k e =
-    sym (group-back D h) ∙ ap (λ (p : Indices). groupIdentity (p .m0) (p .m1)) e ∙ group-back E k
+pub indices-differ : (D E : ℕ) → D < 168 → E < 168 → m0Of D ≡ m0Of E → m1Of D ≡ m1Of E → D ≡ E
+indices-differ D E h k a b = sym (group-back D h) ∙ ap₂ groupIdentity a b ∙ group-back E k
