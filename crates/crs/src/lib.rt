@@ -21,10 +21,11 @@ pub fn c_init(prefix: u8, cell: u16, slot: u8, l: u8) -> u32
 
 // The value of two bits of the sequence, the first more significant.
 pub fn value(word: u32) -> Pair
+    requires { ⌜ word < 4 ⌝ }
     ensures { λ r. ⌜ r ≡ wordValue word ⌝ }
 {
     Pair {
         re: base::level_of(word / 2),
-        im: base::level_of(word % 2),
+        im: base::level_of(word),
     }
 }

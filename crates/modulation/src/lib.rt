@@ -9,8 +9,8 @@ pub fn qpsk(w: u32) -> Pair
     ensures { λ r. ⌜ r ≡ modulationSymbol 2 w ⌝ }
 {
     Pair {
-        re: base::level_of(w / 2 % 2),
-        im: base::level_of(w % 2),
+        re: base::level_of(w / 2),
+        im: base::level_of(w),
     }
 }
 
