@@ -31,15 +31,15 @@ count-none l = record { inside = omega arith; is = omega arith }
 
 module _ {l : List ℕ} {i n : ℕ} (c : Count l i n) where
   -- one byte more
-  portPair : i < length l → nonzeros (drop i l) ≡ nonzero (getD l i 0) + nonzeros (drop (i + 1) l)
+  next-byte : i < length l → nonzeros (drop i l) ≡ nonzero (getD l i 0) + nonzeros (drop (i + 1) l)
   unfolding nonzeros
-  portPair h = let e : i + 1 ≡ suc i = omega arith in rw (e, drop-cons l i 0 h) refl
+  next-byte h = let e : i + 1 ≡ suc i = omega arith in rw (e, drop-cons l i 0 h) refl
 
   pub count-one : i < length l → (getD l i 0 ≡ 0 → ⊥) → Count l (i + 1) (n + 1)
-  count-one h z = record { inside = omega arith; is = omega (arith, portPair h, nonzero-one (getD l i 0) z) }
+  count-one h z = record { inside = omega arith; is = omega (arith, next-byte h, nonzero-one (getD l i 0) z) }
 
   pub count-zero : i < length l → getD l i 0 ≡ 0 → Count l (i + 1) n
-  count-zero h z = record { inside = omega arith; is = omega (arith, portPair h, nonzero-none (getD l i 0) z) }
+  count-zero h z = record { inside = omega arith; is = omega (arith, next-byte h, nonzero-none (getD l i 0) z) }
 
   -- the bytes up to e, p by a u8 and w by a usize
   pub count-part : (e : ℕ) {p w : ℕ} → i ≤ e → e ≤ length l → p ≡ nonzeros (take (e - i) (drop i l)) → w ≡ p → Count l e (n + w)

@@ -63,7 +63,7 @@ module _
 
 -- ---- pair after pair
 pub pairs-start : {P T gap j start step m : ℕ} {f : Form} {g : List ℕ} {p : Starts} → Starting P T j start step p → Pairs P T gap j start step m f g noSums (p .at) (p .next) 0
-pairs-start b = record { few = omega arith; portPair = b .first; done = record { seen = λ q u o. tells-none } }
+pairs-start b = record { few = omega arith; round = b .first; done = record { seen = λ q u o. tells-none } }
 
 module _
     {P T gap j start step m : ℕ} {f : Form} {g : List ℕ} (h : PairsIn P T gap j start step m g) {p : Starts} (b : Starting P T j start step p)
@@ -72,13 +72,13 @@ module _
   tn = (j + 2 * i) / 2 % 2
 
   other-at : at + p .across ≡ 3 * (otherPort P tn * T + (start + step * i))
-  other-at = omega (arith, d .portPair .at-pair, b .across tn)
+  other-at = omega (arith, d .round .at-pair, b .across tn)
 
   pub pair-fits : (at + 3 * gap + 2 < length g) × (at + p .across + 3 * gap + 2 < length g) × (at ≤ 100800)
   pair-fits = (
-    omega (arith, d .portPair .at-pair, own-inside h tn i l),
+    omega (arith, d .round .at-pair, own-inside h tn i l),
     omega (arith, other-at, other-inside h tn i l),
-    omega (arith, d .portPair .at-pair, own-most h tn, h .inside i l, h .room .fits),
+    omega (arith, d .round .at-pair, own-most h tn, h .inside i l, h .room .fits),
   )
 
   pub pairs-on :
@@ -89,13 +89,13 @@ module _
       let same : ownPort P ((j + 2 * (i + 1 + 1)) / 2 % 2) * T ≡ ownPort P tn * T = ap (λ (k : ℕ). k * T) (own-pair P ((j + 2 * (i + 1 + 1)) / 2 % 2) tn (omega arith)) in
       record {
         few = omega arith;
-        portPair = record { at-pair = d .portPair .next-pair; next-pair = omega (arith, d .portPair .at-pair, same, two) };
+        round = record { at-pair = d .round .next-pair; next-pair = omega (arith, d .round .at-pair, same, two) };
         done = rw es
             (record {
               seen = λ q u o.
                   tells-more
-                  (λ e. let z = sums-right o x y (rx .few) (ry .few) s e in (z .0, pair-right P T tn (start + step * i) gap (h .many) (d .portPair .at-pair) other-at rx ry (z .1) (z .2)))
-                  (λ e a. let z = right-pair P T tn (start + step * i) gap (h .many) (d .portPair .at-pair) other-at rx ry a in
+                  (λ e. let z = sums-right o x y (rx .few) (ry .few) s e in (z .0, pair-right P T tn (start + step * i) gap (h .many) (d .round .at-pair) other-at rx ry (z .1) (z .2)))
+                  (λ e a. let z = right-pair P T tn (start + step * i) gap (h .many) (d .round .at-pair) other-at rx ry a in
                   sums-none o x y (rx .few) (ry .few) s e (z .0) (z .1))
                   (d .done .seen q u o);
             });

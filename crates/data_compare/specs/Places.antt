@@ -34,12 +34,12 @@ abbrev pub Right : (ℕ → Bool) → ℕ → ℕ → ℕ → ℕ → List ℕ �
 Right own P T q u g j = PlaceRight P T (j / 2 % 2) (j % 2) q u g (nth own T j) (nth own T (partnerIndex j))
 
 -- ---- pairs. Where pair i of a loop stands, and the next one, in bytes
-pub record PortPairAt (P T j start step at next i : ℕ) : Type 0 where
+pub record RoundAt (P T j start step at next i : ℕ) : Type 0 where
   pub at-pair : at ≡ 3 * (ownPort P ((j + 2 * i) / 2 % 2) * T + (start + step * i))
   pub next-pair : next ≡ 3 * (ownPort P ((j + 2 * (i + 1)) / 2 % 2) * T + (start + step * (i + 1)))
 
 pub record Starting (P T j start step : ℕ) (r : Starts) : Type 0 where
-  pub first : PortPairAt P T j start step (r .at) (r .next) 0
+  pub first : RoundAt P T j start step (r .at) (r .next) 0
   pub across : (portPair : ℕ) → 3 * (ownPort P portPair * T) + r .across ≡ 3 * (otherPort P portPair * T)
 
 -- pair i of them
@@ -51,7 +51,7 @@ pub record PairsSeen (P T gap j start step m : ℕ) (f : Form) (g : List ℕ) (r
 
 pub record Pairs (P T gap j start step m : ℕ) (f : Form) (g : List ℕ) (s : Sums) (at next i : ℕ) : Type 0 where
   pub few : i ≤ m
-  pub portPair : PortPairAt P T j start step at next i
+  pub round : RoundAt P T j start step at next i
   pub done : PairsSeen P T gap j start step i f g (toldBy f s)
 
 -- ---- places e 0, e 1, .. on one port; side by side, one or two at a time, and between holes

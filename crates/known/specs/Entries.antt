@@ -1,4 +1,4 @@
--- What the theorem cites. Document 01, "Known elements": the cases marked P. A row is what the definitions give, and what the
+-- What the theorem cites. Document 01, "Known elements": the cases marked P. An entry is what the definitions give, and what the
 -- paper says.
 use Prim.Native.Nat.{ℕ}
 use mathlib.Core.Path.{_≡_}

@@ -1,1 +1,1 @@
-// Document 01's known elements as one tabulated theorem, specs/Rows.antt and proofs/Known.antt. There is no code here.
+// Document 01's known elements as one tabulated theorem, specs/Entries.antt and proofs/Known.antt. There is no code here.

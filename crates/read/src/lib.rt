@@ -77,8 +77,8 @@ fn read_channel(
     }
 }
 
-// The section of the HIs' bits, which all PHICH units share; then turn after turn behind the reference signals, each section lent on for writing. Whoever calls has the plan
-// from the plan check, has verified the grid, and has compared the payload's length.
+// The section of the HIs' bits, which all PHICH units share; then turn after turn behind the reference signals, each section lent on for
+// writing. Whoever calls has the plan from the plan check, has verified the grid, and has compared the payload's length.
 fn read_sections(plan: &[u8], p: Plan, grid: &[u8], payload: &mut [u8])
     requires { ⌜ Readable (now plan) p (now grid) (now payload) ⌝ }
     ensures { λ _. ⌜ now (payload .exit) ≡ payloadIn (now (plan .entry)) p (now (grid .entry)) ⌝ }

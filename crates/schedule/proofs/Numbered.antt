@@ -30,12 +30,12 @@ use Rattle.subframe.proofs.Owned.{owned-element}
 use Rattle.schedule.proofs.Some.{or-cases}
 
 -- a port with a term is one of the grid's
-pub sends-port : {P T : ℕ} {g : List ℕ} → Room P T g → (turn q : ℕ) → sends P turn q ≡ true → q < P
+pub sends-port : {P T : ℕ} {g : List ℕ} → Room P T g → (portPair q : ℕ) → sends P portPair q ≡ true → q < P
 unfolding sends
-sends-port {P = P} room turn q h =
-    or-cases (eqb q (ownPort P turn)) (eqb q (otherPort P turn)) h
-    (λ e. rw (eqb-true q (ownPort P turn) e) (own-lt room turn))
-    (λ e. rw (eqb-true q (otherPort P turn) e) (other-lt room turn))
+sends-port {P = P} room portPair q h =
+    or-cases (eqb q (ownPort P portPair)) (eqb q (otherPort P portPair)) h
+    (λ e. rw (eqb-true q (ownPort P portPair) e) (own-lt room portPair))
+    (λ e. rw (eqb-true q (otherPort P portPair) e) (other-lt room portPair))
 
 -- symbols that agree give the same element
 pub placed-is :

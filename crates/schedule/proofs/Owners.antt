@@ -72,11 +72,11 @@ module _ (w : List ℕ) (p : Plan) (ok : checkOf w ≡ accepted p) {g : List ℕ
   element-in o e h = div-lt-iff-lt-mul (some-places w p ok) .0 (h .port)
 
   -- ---- the channels with transmit diversity
-  sent-of : (o : Owner) (e turn : ℕ) → active w p o (e % T) (e / T) ≡ sends P turn (e / T) → ownerSends w p o e ≡ true → Of w p o e
+  sent-of : (o : Owner) (e portPair : ℕ) → active w p o (e % T) (e / T) ≡ sends P portPair (e / T) → ownerSends w p o e ≡ true → Of w p o e
   unfolding ownerSends
-  sent-of o e turn a h =
+  sent-of o e portPair a h =
       let d = and-true (ownsAt w p o (e % T)) (active w p o (e % T) (e / T)) h in
-      record { owned = d .0; port = sends-port room turn (e / T) (sym a ∙ d .1) }
+      record { owned = d .0; port = sends-port room portPair (e / T) (sym a ∙ d .1) }
 
   pub user-in : (n : ℕ) → usersFirst p ≤ n → n < channelCount p → n - usersFirst p < length (usersOf w p)
   unfolding channelCount

@@ -1,4 +1,4 @@
--- The value of an element that a loop comes to, from the word, the pair or the table's entry at hand. Assumes nothing.
+-- The value of an element that a loop comes to, from the word, the pair or the signal's element at hand. Assumes nothing.
 use Prim.Native.Nat.{ℕ, suc, _+_, _-_, _*_, _/_, _%_, _^_, _<_}
 use mathlib.Core.Path.{_≡_, ap, _∙_}
 use mathlib.Core.Bool.{true}

@@ -75,7 +75,7 @@ module _
     (occurs : Occurs (p .cell .ports) (countOf w p o))
     (sent : Sends w p o u (dataSymbol Q (ownerBit w p (payloadIn w p g) o) x) (payloadIn w p g))
     (bits : (i : ℕ) → i < Q * countOf w p o → ownerBit w p (payloadIn w p g) o i ≡ dataBit w p g o Q x i)
-    (turns : (t q : ℕ) → active w p o t q ≡ sends (p .cell .ports) (indexOf w p o t / 2 % 2) q)
+    (pairs : (t q : ℕ) → active w p o t q ≡ sends (p .cell .ports) (indexOf w p o t / 2 % 2) q)
   where
     abbrev P : ℕ
     P = p .cell .ports
@@ -118,7 +118,7 @@ module _
     unfolding ownerSends
     parts e h =
         let a = and-true (ownsAt w p o (e % T)) (active w p o (e % T) (e / T)) h in
-        (a .0, sends-port room (indexOf w p o (e % T) / 2 % 2) (e / T) (sym (turns (e % T) (e / T)) ∙ a .1))
+        (a .0, sends-port room (indexOf w p o (e % T) / 2 % 2) (e / T) (sym (pairs (e % T) (e / T)) ∙ a .1))
 
     -- it is the one of the payload's symbols, and of any that are the same
     sent-due : (d′ : ℕ → Pair) → ((j : ℕ) → j < M → d′ j ≡ d j) → (e : ℕ) → ownerSends w p o e ≡ true → sentBy w p o u d′ e ≡ elementDue w p g e
@@ -150,7 +150,7 @@ module _
           let own : ownsAt w p o (at % T) ≡ true = ap (ownsAt w p o) at-place ∙ listed w p ok o .owned j l in
           let port : eqb (at / T) (ownPort P (indexOf w p o (at % T) / 2 % 2)) ≡ true =
           eq-eqb _ _ (at-port ∙ sym (own-pair P (j / 2)) ∙ ap (λ (n : ℕ). ownPort P (n / 2 % 2)) (sym at-index)) in
-          rw (own, turns (at % T) (at / T), port) refl
+          rw (own, pairs (at % T) (at / T), port) refl
 
       read : Holds (ownerSends w p o) (elementDue w p g) g → S j ≡ d j
       unfolding symbolIn

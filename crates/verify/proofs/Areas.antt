@@ -107,9 +107,9 @@ module _ (w : List ℕ) (p : Plan) (ok : checkOf w ≡ accepted p) (g : List ℕ
   unfolding pbchBit
   pbch-bits i l = pbch-bit w p g i (omega (arith, pbch-length w p ok, pbch-size w p ok))
 
-  pbch-turns : (t q : ℕ) → active w p Pbch t q ≡ sends P (indexOf w p Pbch t / 2 % 2) q
+  pbch-pairs : (t q : ℕ) → active w p Pbch t q ≡ sends P (indexOf w p Pbch t / 2 % 2) q
   unfolding active
-  pbch-turns t q = refl
+  pbch-pairs t q = refl
 
   pbch-sent : Sends w p Pbch 2 (dataSymbol 2 (ownerBit w p A Pbch) pbchScrambling) A
   unfolding elementFor pbchSymbol
@@ -132,14 +132,14 @@ module _ (w : List ℕ) (p : Plan) (ok : checkOf w ≡ accepted p) (g : List ℕ
     pub pbch-known : Holds (ownerSends w p Pbch) (elementDue w p g) g → (j : ℕ) → j < areaCount (pbchArea (p .cell) (p .frame)) → isSymbol 2 (areaSymbol (pbchArea (p .cell) (p .frame)) g j) ≡ true
     pbch-known h =
         known-from w p g Pbch pbch 2 2 (pbch-count w p ok zero-th) pbch-symbols (λ e. pbch-area w p ok zero-th e) pbch-area-sent
-        (due-known w p ok g room Pbch 2 2 pbchScrambling (omega arith) (pbch-occurs w p ok) pbch-sent pbch-bits pbch-turns h)
+        (due-known w p ok g room Pbch 2 2 pbchScrambling (omega arith) (pbch-occurs w p ok) pbch-sent pbch-bits pbch-pairs h)
 
     pub pbch-seen : (r : Seen) → AreaCompared (pbchArea (p .cell) (p .frame)) 2 2 g r → Compared (ownerSends w p Pbch) (elementDue w p g) g r
     pbch-seen =
         area-compared w p g Pbch pbch 2 2 (pbch-count w p ok zero-th) pbch-symbols (λ e. pbch-area w p ok zero-th e) pbch-area-sent
-        (to-due w p ok g room Pbch 2 2 pbchScrambling (omega arith) (pbch-occurs w p ok) pbch-sent pbch-bits pbch-turns)
-        (due-known w p ok g room Pbch 2 2 pbchScrambling (omega arith) (pbch-occurs w p ok) pbch-sent pbch-bits pbch-turns)
-        (from-due w p ok g room Pbch 2 2 pbchScrambling (omega arith) (pbch-occurs w p ok) pbch-sent pbch-bits pbch-turns)
+        (to-due w p ok g room Pbch 2 2 pbchScrambling (omega arith) (pbch-occurs w p ok) pbch-sent pbch-bits pbch-pairs)
+        (due-known w p ok g room Pbch 2 2 pbchScrambling (omega arith) (pbch-occurs w p ok) pbch-sent pbch-bits pbch-pairs)
+        (from-due w p ok g room Pbch 2 2 pbchScrambling (omega arith) (pbch-occurs w p ok) pbch-sent pbch-bits pbch-pairs)
 
   -- ---- a user
   module _ (i : ℕ) (in-i : i < length (usersOf w p)) where
@@ -159,9 +159,9 @@ module _ (w : List ℕ) (p : Plan) (ok : checkOf w ≡ accepted p) (g : List ℕ
     unfolding userBitCount userBit
     user-bits n l = user-bit w p g i in-i n l
 
-    user-turns : (t q : ℕ) → active w p (UserOf i) t q ≡ sends P (indexOf w p (UserOf i) t / 2 % 2) q
+    user-pairs : (t q : ℕ) → active w p (UserOf i) t q ≡ sends P (indexOf w p (UserOf i) t / 2 % 2) q
     unfolding active
-    user-turns t q = refl
+    user-pairs t q = refl
 
     user-sent : Sends w p (UserOf i) (unitOf Q) (dataSymbol Q (ownerBit w p A (UserOf i)) scrambling) A
     unfolding elementFor userSymbol
@@ -194,13 +194,13 @@ module _ (w : List ℕ) (p : Plan) (ok : checkOf w ≡ accepted p) (g : List ℕ
         → isSymbol (nthUser w p i .order) (areaSymbol (userArea (p .cell) (p .frame) (nthUser w p i)) g j) ≡ true
     user-known h =
         known-from w p g (UserOf i) area Q (unitOf Q) user-count user-symbols (λ e. user-area w p ok i in-i e) user-area-sent
-        (due-known w p ok g room (UserOf i) Q (unitOf Q) scrambling (user-order w p ok i in-i) (user-occurs w p ok i in-i) user-sent user-bits user-turns h)
+        (due-known w p ok g room (UserOf i) Q (unitOf Q) scrambling (user-order w p ok i in-i) (user-occurs w p ok i in-i) user-sent user-bits user-pairs h)
 
     pub user-seen :
         (r : Seen) → AreaCompared (userArea (p .cell) (p .frame) (nthUser w p i)) (nthUser w p i .order) (unitOf (nthUser w p i .order)) g r
         → Compared (ownerSends w p (UserOf i)) (elementDue w p g) g r
     user-seen =
         area-compared w p g (UserOf i) area Q (unitOf Q) user-count user-symbols (λ e. user-area w p ok i in-i e) user-area-sent
-        (to-due w p ok g room (UserOf i) Q (unitOf Q) scrambling (user-order w p ok i in-i) (user-occurs w p ok i in-i) user-sent user-bits user-turns)
-        (due-known w p ok g room (UserOf i) Q (unitOf Q) scrambling (user-order w p ok i in-i) (user-occurs w p ok i in-i) user-sent user-bits user-turns)
-        (from-due w p ok g room (UserOf i) Q (unitOf Q) scrambling (user-order w p ok i in-i) (user-occurs w p ok i in-i) user-sent user-bits user-turns)
+        (to-due w p ok g room (UserOf i) Q (unitOf Q) scrambling (user-order w p ok i in-i) (user-occurs w p ok i in-i) user-sent user-bits user-pairs)
+        (due-known w p ok g room (UserOf i) Q (unitOf Q) scrambling (user-order w p ok i in-i) (user-occurs w p ok i in-i) user-sent user-bits user-pairs)
+        (from-due w p ok g room (UserOf i) Q (unitOf Q) scrambling (user-order w p ok i in-i) (user-occurs w p ok i in-i) user-sent user-bits user-pairs)

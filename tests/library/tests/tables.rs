@@ -1,5 +1,5 @@
 //! The archive stores no table of the synchronisation signals (document 02, #106): neither the 168 pairs (m0, m1) nor one of the three
-//! sequences of 31 signs, in any width and spelling that a compiler would store them in.
+//! sequences of 31 signs, as numbers of 1, 2, 4 or 8 bytes each.
 
 use std::path::Path;
 
@@ -42,7 +42,7 @@ fn tables() -> Vec<(&'static str, Vec<u64>)> {
     all
 }
 
-/// The names of the tables of which twelve entries in a row stand in the bytes.
+/// The names of the tables of which a part of twelve numbers (the first, the next, ..) stands in the bytes.
 fn found(bytes: &[u8]) -> Vec<&'static str> {
     let mut names = Vec::new();
     for (name, numbers) in tables() {

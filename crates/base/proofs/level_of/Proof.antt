@@ -1,4 +1,4 @@
--- `base::level_of` meets its contract: its two bits, computed. Assumes nothing.
+-- `base::level_of` meets its contract: both values of the bit, computed. Assumes nothing.
 use Prim.Native.Nat.{ℕ, zero, suc, _%_, _<_}
 use mathlib.Core.Path.{_≡_, refl}
 use native.Mathlib.Omega.{arith}

@@ -1,4 +1,4 @@
--- `sync::root` meets its contract: the table's three entries. Assumes nothing.
+-- `sync::root` meets its contract: its three branches. Assumes nothing.
 use Prim.Native.Nat.{_%_}
 use mathlib.Core.Path.{_≡_, sym, ap}
 use native.Mathlib.Omega.{arith}
