@@ -13,9 +13,11 @@
 #include "mapper.h"
 #include "plain.h"
 
+/* The longest payload of any plan is a byte for each user element, 8 bits at most, and one for every eight of 200 HIs. Users have most
+   elements with 100 blocks, one port, the normal prefix, CFI 1 and nothing in the centre: 13 symbols of 1200, less 200 of CRS in three. */
 enum {
     MAX_PLAN = 2048,
-    MAX_PAYLOAD = 16384,
+    MAX_PAYLOAD = 13 * 1200 - 3 * 200 + 200 / 8,
     MAX_GRID = 201600,
     PASSES = 20,
     TURN = 25000000,                /* nanoseconds of a case in a pass */
@@ -203,6 +205,7 @@ static struct least row(const char *name, struct calls *c)
 static const struct scenario ROWS[] = {
     {"Cases", 0},
     {"1 user 64QAM, N 100, P 4", 100, 4, 6, 1},
+    {"1 user 256QAM, N 100, P 4", 100, 4, 8, 1},
     {"100 users 64QAM, N 100, P 4", 100, 4, 6, 100},
     {"1 user QPSK, N 100, P 1", 100, 1, 2, 1},
     {"15 users 64QAM, N 15, P 4", 15, 4, 6, 15},
@@ -214,6 +217,7 @@ static const struct scenario ROWS[] = {
     {"64QAM, P 4, extended prefix", 100, 4, 6, 1, .extended = true},
     {"16QAM, N 100, P 2", 100, 2, 4, 1},
     {"64QAM, N 100, P 1", 100, 1, 6, 1},
+    {"256QAM, N 100, P 1", 100, 1, 8, 1},
     {"no user, N 15, P 1", 15, 1, 6, 0},
     {"Width: 1 user 64QAM, P 2", 0},
     {"15", 15, 2, 6, 1},
@@ -238,6 +242,7 @@ static const struct scenario ROWS[] = {
 enum { ALL_ROWS = sizeof ROWS / sizeof ROWS[0] };
 
 static struct calls calls[ALL_ROWS];
+static size_t payload_bits[ALL_ROWS];
 
 static void measure_all(void)
 {
@@ -248,6 +253,7 @@ static void measure_all(void)
             make(&input, &ROWS[i]);
             verify(ROWS[i].name);
             measure(&calls[i]);
+            payload_bits[i] = 8 * input.payload_len;
         }
     }
 }
@@ -263,6 +269,41 @@ static void growth(const int *sizes, const struct least *l, int n)
     for (int i = 1; i < n; i++)
         printf(" %.0f", 1e3 * (l[i].read - l[i - 1].read) / (sizes[i] - sizes[i - 1]));
     printf("\n");
+}
+
+/* The row of one user on 100 blocks and four ports; its payload is that user's alone. */
+static int row_of_order(unsigned bits)
+{
+    for (int i = 0; i < ALL_ROWS; i++)
+        if (ROWS[i].blocks == 100 && ROWS[i].ports == 4 && ROWS[i].users == 1 && ROWS[i].bits == bits)
+            return i;
+    fprintf(stderr, "bench: no row of one user with %u bits a symbol\n", bits);
+    exit(1);
+}
+
+static void per_bit_line(const char *name, const double ns[4])
+{
+    printf("%-30s| %14.3f %12.3f      | %14.3f %12.3f      |\n", name, ns[0], ns[1], ns[2], ns[3]);
+}
+
+/* What a payload bit takes in the quickest calls of 64QAM and of 256QAM. The calls of a row stand in ascending order by now. */
+static void per_bit(void)
+{
+    const int rows[2] = {row_of_order(6), row_of_order(8)};
+    double ns[2][4], ratio[4];
+    for (int i = 0; i < 2; i++) {
+        const struct calls *c = &calls[rows[i]];
+        const uint32_t least[4] = {c->build[0][0], c->build[1][0], c->read[0][0], c->read[1][0]};
+        for (int k = 0; k < 4; k++)
+            ns[i][k] = (double)least[k] / payload_bits[rows[i]];
+    }
+    for (int k = 0; k < 4; k++)
+        ratio[k] = ns[1][k] / ns[0][k];
+    printf("\n%-30s|%16s %12s      |%16s %12s      |\n", "Nanoseconds of a payload bit", "build: library", "plain", "read: library",
+           "plain");
+    per_bit_line(ROWS[rows[0]].name, ns[0]);
+    per_bit_line(ROWS[rows[1]].name, ns[1]);
+    per_bit_line("256QAM over 64QAM", ratio);
 }
 
 int main(void)
@@ -284,4 +325,5 @@ int main(void)
         if (last && strchr(ROWS[i].name, ' ') == NULL)
             growth(sizes, l, n);
     }
+    per_bit();
 }

@@ -101,12 +101,12 @@ static void build_record(size_t record, struct bytes *in)
     answer(record, CALL(build)(plan.at, plan.len, payload.at, payload.len, grid, n), grid, n);
 }
 
-static uint8_t next_unit(uint8_t unit)
+static uint8_t next_unit_byte(uint8_t unit)
 {
-    static const uint8_t UNITS[] = {0, 1, 2, 4, 10, 20, 42, 63, 84, 0};
-    for (int i = 0; i < 9; i++)
-        if (UNITS[i] == unit)
-            return UNITS[i + 1];
+    static const uint8_t UNIT_BYTES[] = {0, 1, 2, 4, 10, 20, 42, 63, 84, 170, 255, 0};
+    for (int i = 0; i < 11; i++)
+        if (UNIT_BYTES[i] == unit)
+            return UNIT_BYTES[i + 1];
     return 0;
 }
 
@@ -117,7 +117,7 @@ static uint8_t other(size_t i, uint8_t b, int k)
     case 0: return 0;
     case 1: return b + 1;
     case 2: return b - 1;
-    default: return i % 3 == 0 ? next_unit(b) : -b;
+    default: return i % 3 == 0 ? next_unit_byte(b) : -b;
     }
 }
 

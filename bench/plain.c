@@ -1,4 +1,4 @@
-/* The downlink mapper of document 01 in plain C11. Section numbers are those of TS 36.211.
+/* The downlink mapper of document 01, with document 02's #109, in plain C11. Section numbers are those of TS 36.211.
 
    How it is made fast: the sequence comes 48 bits at a time; a section becomes one byte for each symbol, and symbols become
    elements by tables; the grid is filled symbol row by symbol row, so that a row is silenced and filled while it is in the cache.
@@ -72,7 +72,7 @@ static void gold_skip(struct gold *g, unsigned n)
 
 /* ---- Modulation (7.1) ---- */
 
-/* An element's three bytes: unit, I, J. */
+/* An element's three bytes: the unit's, I, J. The byte of a unit is the unit, but 255 for unit 340. */
 #define ELEMENT(u, i, j) (u), (uint8_t)(i), (uint8_t)(j)
 
 #define BIT(x, n) ((x) >> (n) & 1)
@@ -83,47 +83,58 @@ static void gold_skip(struct gold *g, unsigned n)
 #define J4(x) (SIGN(BIT(x, 2)) * (2 - SIGN(BIT(x, 0))))
 #define I6(x) (SIGN(BIT(x, 5)) * (4 - SIGN(BIT(x, 3)) * (2 - SIGN(BIT(x, 1)))))
 #define J6(x) (SIGN(BIT(x, 4)) * (4 - SIGN(BIT(x, 2)) * (2 - SIGN(BIT(x, 0)))))
+#define I8(x) (SIGN(BIT(x, 7)) * (8 - SIGN(BIT(x, 5)) * (4 - SIGN(BIT(x, 3)) * (2 - SIGN(BIT(x, 1))))))
+#define J8(x) (SIGN(BIT(x, 6)) * (8 - SIGN(BIT(x, 4)) * (4 - SIGN(BIT(x, 2)) * (2 - SIGN(BIT(x, 0))))))
 
 #define FOUR(f, x) f(x), f((x) + 1), f((x) + 2), f((x) + 3)
 #define SIXTEEN(f, x) FOUR(f, x), FOUR(f, (x) + 4), FOUR(f, (x) + 8), FOUR(f, (x) + 12)
 #define SIXTY_FOUR(f, x) SIXTEEN(f, x), SIXTEEN(f, (x) + 16), SIXTEEN(f, (x) + 32), SIXTEEN(f, (x) + 48)
+#define ALL_256(f) SIXTY_FOUR(f, 0), SIXTY_FOUR(f, 64), SIXTY_FOUR(f, 128), SIXTY_FOUR(f, 192)
 
-/* An element and the next one's unit, which is the same: of two neighbours the first is stored in four bytes, the second in two. */
+/* An element and the next one's unit byte, which is the same: of two neighbours the first is stored in four bytes, the second in two. */
 #define WITH_NEXT(u, i, j) {ELEMENT(u, i, j), (u)}
 
 #define SINGLE2(x) WITH_NEXT(2, I2(x), J2(x))
 #define SINGLE4(x) WITH_NEXT(10, I4(x), J4(x))
 #define SINGLE6(x) WITH_NEXT(42, I6(x), J6(x))
+#define SINGLE8(x) WITH_NEXT(170, I8(x), J8(x))
 #define TWICE2(x) WITH_NEXT(4, I2(x), J2(x))
 #define TWICE4(x) WITH_NEXT(20, I4(x), J4(x))
 #define TWICE6(x) WITH_NEXT(84, I6(x), J6(x))
+#define TWICE8(x) WITH_NEXT(255, I8(x), J8(x))
 #define MINUS2(x) WITH_NEXT(4, -I2(x), J2(x))
 #define MINUS4(x) WITH_NEXT(20, -I4(x), J4(x))
 #define MINUS6(x) WITH_NEXT(84, -I6(x), J6(x))
+#define MINUS8(x) WITH_NEXT(255, -I8(x), J8(x))
 #define CONJ2(x) WITH_NEXT(4, I2(x), -J2(x))
 #define CONJ4(x) WITH_NEXT(20, I4(x), -J4(x))
 #define CONJ6(x) WITH_NEXT(84, I6(x), -J6(x))
+#define CONJ8(x) WITH_NEXT(255, I8(x), -J8(x))
 
 /* A symbol's bits, the first most significant, to elements: with one port; with two or four the symbol itself, minus its conjugate
-   and its conjugate. And back: the bits of a level by its low four bits, with room for the other part's bits between them. */
+   and its conjugate. And back: the bits of a level by its low five bits, with room for the other part's bits between them. */
 struct modulation {
-    uint8_t single[64][4], twice[64][4], minus[64][4], conj[64][4];
-    uint8_t bits_of[16];
+    uint8_t single[256][4], twice[256][4], minus[256][4], conj[256][4];
+    uint8_t bits_of[32];
 };
 
 static const struct modulation QPSK = {
     {FOUR(SINGLE2, 0)}, {FOUR(TWICE2, 0)}, {FOUR(MINUS2, 0)}, {FOUR(CONJ2, 0)},
-    {[1] = 0, [15] = 1}};
+    {[1] = 0, [31] = 1}};
 static const struct modulation QAM16 = {
     {SIXTEEN(SINGLE4, 0)}, {SIXTEEN(TWICE4, 0)}, {SIXTEEN(MINUS4, 0)}, {SIXTEEN(CONJ4, 0)},
-    {[1] = 0, [3] = 1, [15] = 4, [13] = 5}};
+    {[1] = 0, [3] = 1, [31] = 4, [29] = 5}};
 static const struct modulation QAM64 = {
     {SIXTY_FOUR(SINGLE6, 0)}, {SIXTY_FOUR(TWICE6, 0)}, {SIXTY_FOUR(MINUS6, 0)}, {SIXTY_FOUR(CONJ6, 0)},
-    {[3] = 0, [1] = 1, [5] = 4, [7] = 5, [13] = 16, [15] = 17, [11] = 20, [9] = 21}};
+    {[3] = 0, [1] = 1, [5] = 4, [7] = 5, [29] = 16, [31] = 17, [27] = 20, [25] = 21}};
+static const struct modulation QAM256 = {
+    {ALL_256(SINGLE8)}, {ALL_256(TWICE8)}, {ALL_256(MINUS8)}, {ALL_256(CONJ8)},
+    {[5] = 0, [7] = 1, [3] = 4, [1] = 5, [11] = 16, [9] = 17, [13] = 20, [15] = 21,
+     [27] = 64, [25] = 65, [29] = 68, [31] = 69, [21] = 80, [23] = 81, [19] = 84, [17] = 85}};
 
 static const struct modulation *modulation_of(unsigned q)
 {
-    return q == 2 ? &QPSK : q == 4 ? &QAM16 : &QAM64;
+    return q == 2 ? &QPSK : q == 4 ? &QAM16 : q == 6 ? &QAM64 : &QAM256;
 }
 
 /* 48 bits of a section, in six bytes. In two parts, since compilers know the loads of two and of four bytes. */
@@ -183,12 +194,24 @@ static inline void descramble(const uint8_t *restrict sym, size_t n, unsigned q,
     memcpy(bits, last, (n * q + 7) / 8);
 }
 
+/* A symbol of eight bits is a byte of the section, scrambled; the same goes back. */
+static void scramble_bytes(const uint8_t *restrict from, size_t n, struct gold g, uint8_t *restrict to)
+{
+    for (; n >= 6; n -= 6, from += 6, to += 6)
+        store48(to, load48(from) ^ gold_bits(&g, 48));
+    uint8_t last[6] = {0};
+    memcpy(last, from, n);
+    store48(last, load48(last) ^ gold_bits(&g, 48));
+    memcpy(to, last, n);
+}
+
 static void to_symbols(const uint8_t *bits, size_t n, unsigned q, struct gold g, uint8_t *sym)
 {
     switch (q) {
     case 2: scramble(bits, n, 2, g, sym); break;
     case 4: scramble(bits, n, 4, g, sym); break;
-    default: scramble(bits, n, 6, g, sym);
+    case 6: scramble(bits, n, 6, g, sym); break;
+    default: scramble_bytes(bits, n, g, sym);
     }
 }
 
@@ -197,7 +220,8 @@ static void to_bits(const uint8_t *sym, size_t n, unsigned q, struct gold g, uin
     switch (q) {
     case 2: descramble(sym, n, 2, g, bits); break;
     case 4: descramble(sym, n, 4, g, bits); break;
-    default: descramble(sym, n, 6, g, bits);
+    case 6: descramble(sym, n, 6, g, bits); break;
+    default: scramble_bytes(sym, n, g, bits);
     }
 }
 
@@ -281,7 +305,7 @@ static uint64_t block_mask(unsigned first, unsigned count, unsigned w)
 static int take_user(struct plan *p, const uint8_t *c)
 {
     unsigned rnti = c[1] << 8 | c[2], q = c[3], first = c[4], count = c[5];
-    if (rnti == 0 || !one_of(q, 2, 4, 6, 6, 6) || count == 0 || first + count > p->blocks)
+    if (rnti == 0 || !one_of(q, 2, 4, 6, 8, 8) || count == 0 || first + count > p->blocks)
         return 6;
     uint64_t low = block_mask(first, count, 0), high = block_mask(first, count, 1);
     bool used = (low & p->blocks_used[0]) || (high & p->blocks_used[1]);
@@ -494,8 +518,8 @@ static inline void get_pairs(const uint8_t *restrict a, uint8_t *restrict sym, s
                              size_t step, size_t o0, size_t o1, const struct modulation *m)
 {
     for (; n > 0; n--, a += step, sym += stride) {
-        sym[0] = m->bits_of[a[o0 + 1] & 15] << 1 | m->bits_of[a[o0 + 2] & 15];
-        sym[1] = m->bits_of[a[o1 + 1] & 15] << 1 | m->bits_of[a[o1 + 2] & 15];
+        sym[0] = m->bits_of[a[o0 + 1] & 31] << 1 | m->bits_of[a[o0 + 2] & 31];
+        sym[1] = m->bits_of[a[o1 + 1] & 31] << 1 | m->bits_of[a[o1 + 2] & 31];
     }
 }
 
@@ -548,7 +572,7 @@ static void get_fives(const uint8_t *row, uint8_t *sym, size_t halves, unsigned 
     for (; halves > 0; halves--, row += 18)
         for (unsigned k = 0; k < 6; k++)
             if (k != hole)
-                *sym++ = m->bits_of[row[3 * k + 1] & 15] << 1 | m->bits_of[row[3 * k + 2] & 15];
+                *sym++ = m->bits_of[row[3 * k + 1] & 31] << 1 | m->bits_of[row[3 * k + 2] & 31];
 }
 
 /* Symbols from number `done` of a channel on, at the places of so many half blocks from `half` on. The offsets are written out for

@@ -33,7 +33,7 @@
  *          N_g in sixths (1, 3, 6, 12)
  *     11   FRAME, once: frame number (2 bytes, 0 to 1023), subframe (0 to 9), CFI (1 to 3)
  *     20   HI, any number: PHICH group, sequence
- *     30   USER, any number: RNTI (2 bytes, 1 to 65535), bits of a symbol (2, 4, 6), first block, number of blocks (1 or more)
+ *     30   USER, any number: RNTI (2 bytes, 1 to 65535), bits of a symbol (2, 4, 6, 8), first block, number of blocks (1 or more)
  *     00   END
  *
  * Buffers
@@ -51,7 +51,7 @@
  * Example
  *
  *     static uint8_t grid[36 * 100 * 14 * 4];        // the longest grid of any plan
- *     static uint8_t payload[16384];
+ *     static uint8_t payload[17000];                 // no plan's payload is longer
  *     // C = 0, 15 blocks, normal prefix, one port, N_g = 1/6; frame 0, subframe 1, CFI 1; one HI; one user, QPSK, on all blocks
  *     static const uint8_t plan[] = {
  *         0x10, 0, 0, 15, 0, 1, 1,   0x11, 0, 0, 1, 1,   0x20, 0, 0,   0x30, 0, 1, 2, 0, 15,   0x00
@@ -85,9 +85,9 @@ int64_t mapper_check(const uint8_t *plan, size_t plan_len);
 
 /*
  * The length of a plan's grid in bytes: 36 * N * S * P, with N blocks, S symbols (14, with the extended prefix 12) and P ports. An element
- * on port p, symbol s, subcarrier k is the three bytes at ((p * S + s) * 12 * N + k) * 3: unit u, then I and J as signed bytes, for
- * (I + jJ) / sqrt(u). Unit 63 is a phase instead, exp(-2j * pi * I / 63) with I from 0 to 62 and J 0; unit 0 is silence, 0 0 0.
- * mapper_sample_* take such three bytes.
+ * on port p, symbol s, subcarrier k is the three bytes at ((p * S + s) * 12 * N + k) * 3: the byte of a unit u, then I and J as signed
+ * bytes, for (I + jJ) / sqrt(u). The byte is u itself, but 255 for unit 340 (256QAM on two or four ports). Unit 63 is a phase instead,
+ * exp(-2j * pi * I / 63) with I from 0 to 62 and J 0; unit 0 is silence, 0 0 0. mapper_sample_* take such three bytes.
  *
  * Answers the length, or -1 to -7.
  */
@@ -96,7 +96,8 @@ int64_t mapper_grid_len(const uint8_t *plan, size_t plan_len);
 /*
  * The length of a plan's payload in bytes: the sections of PBCH (in subframe 0), of the HIs, and of each user, one after the other, each from
  * a byte on and filled from the most significant bit: 480 bits of PBCH (432 with the extended prefix), a bit for each HI, and for each user
- * the bits of its modulation's symbol times the number of its elements. The spare bits at a section's end are 0.
+ * the bits of its modulation's symbol times the number of its elements. The spare bits at a section's end are 0. No plan asks for more than
+ * 17000 bytes (proved); the longest payload has 15025: 15000 elements of 8 bits (100 blocks, normal prefix, one port, CFI 1) and 200 HIs.
  *
  * Answers the length, or -1 to -7.
  */
@@ -157,24 +158,26 @@ int64_t mapper_count(const uint8_t *plan, size_t plan_len, size_t kind);
 /*
  * What an element's three bytes mean as a modem sample: silence, a phase, or a pair of f32. The three functions take the same bytes:
  *
- *   unit, i, j   the element's bytes as they stand in a grid; I and J are i and j as signed bytes
+ *   unit_byte, i, j   the element's bytes as they stand in a grid; I and J are i and j as signed bytes
+ *
+ * The unit u is unit_byte itself, but 340 where unit_byte is 255: a unit above 255 has no byte of its own number.
  *
  * mapper_sample_kind answers 0 for silence, 1 for a phase, 2 for a pair.
- * mapper_sample_i answers n of the phase -2 * pi * n / 63; of a pair the bits of an f32 for I / sqrt(unit); 0 for silence.
- * mapper_sample_j answers of a pair the bits of an f32 for J / sqrt(unit); 0 for a phase and for silence. That f32 is the level times
- * the f32 nearest 1 / sqrt(unit), rounded once.
+ * mapper_sample_i answers n of the phase -2 * pi * n / 63; of a pair the bits of an f32 for I / sqrt(u); 0 for silence.
+ * mapper_sample_j answers of a pair the bits of an f32 for J / sqrt(u); 0 for a phase and for silence. That f32 is the level times
+ * the f32 nearest 1 / sqrt(u), rounded once.
  *
- * Each answers -9 where the bytes are no element: another unit than 0, 1, 2, 4, 10, 20, 42, 63, 84; unit 0 with a value; unit 63 with I not 0
- * to 62 or J not 0; a level beyond 8 either way. A pair's bits are an unsigned 32-bit number, never a NaN's or an infinity's; where
- * mapper_sample_kind answers 2:
+ * Each answers -9 where the bytes are no element: another unit_byte than 0, 1, 2, 4, 10, 20, 42, 63, 84, 170, 255; unit 0 with a value;
+ * unit 63 with I not 0 to 62 or J not 0; a level beyond 8 either way, beyond 15 in units 170 and 340. A pair's bits are an unsigned 32-bit
+ * number, never a NaN's or an infinity's; where mapper_sample_kind answers 2:
  *
- *     uint32_t bits = (uint32_t)mapper_sample_i(unit, i, j);
+ *     uint32_t bits = (uint32_t)mapper_sample_i(unit_byte, i, j);
  *     float x;
  *     memcpy(&x, &bits, sizeof x);
  */
-int64_t mapper_sample_kind(uint8_t unit, uint8_t i, uint8_t j);
-int64_t mapper_sample_i(uint8_t unit, uint8_t i, uint8_t j);
-int64_t mapper_sample_j(uint8_t unit, uint8_t i, uint8_t j);
+int64_t mapper_sample_kind(uint8_t unit_byte, uint8_t i, uint8_t j);
+int64_t mapper_sample_i(uint8_t unit_byte, uint8_t i, uint8_t j);
+int64_t mapper_sample_j(uint8_t unit_byte, uint8_t i, uint8_t j);
 
 #ifdef __cplusplus
 }

@@ -15,8 +15,8 @@ static const uint8_t PLAN[] = {
     0x00,
 };
 
-/* Room for the largest cell; this plan takes a part of it. */
-static uint8_t grid[36 * 100 * 14 * 4], payload[16384], again[16384];
+/* Room for the longest grid and the longest payload of any plan; this plan takes a part of it. */
+static uint8_t grid[36 * 100 * 14 * 4], payload[17000], again[17000];
 
 static int refused(const char *call, int64_t answer)
 {

@@ -8,7 +8,8 @@
 
 #include "mapper.h"
 
-enum { LIMIT = 4096, STACK = 1 << 20, MAX_PLAN = 2048, MAX_PAYLOAD = 16384, MAX_GRID = 201600 };
+/* No plan's payload is longer than 15,025 bytes: 15,000 user elements of 8 bits and 200 HIs (bench/bench.c counts them). */
+enum { LIMIT = 4096, STACK = 1 << 20, MAX_PLAN = 2048, MAX_PAYLOAD = 15025, MAX_GRID = 201600 };
 
 /* A byte that a call sets to the paint's own value is not seen, so each call is made with two paints. */
 static const uint8_t PAINTS[2] = {0xA5, 0x5A};
@@ -26,7 +27,7 @@ static void append(const uint8_t *bytes, size_t n)
 }
 
 /* The widest cell: 100 blocks, four ports, as many PHICH groups as can be; the blocks shared out evenly. */
-static void make(uint8_t prefix, uint8_t subframe, bool his, unsigned users)
+static void make(uint8_t prefix, uint8_t subframe, bool his, unsigned users, uint8_t bits)
 {
     uint8_t groups = prefix ? 50 : 25, sequences = prefix ? 4 : 8;
     plan_len = 0;
@@ -36,7 +37,7 @@ static void make(uint8_t prefix, uint8_t subframe, bool his, unsigned users)
         for (uint8_t sequence = 0; sequence < sequences; sequence++)
             append((uint8_t[]){0x20, group, sequence}, 3);
     for (unsigned i = 0; i < users; i++)
-        append((uint8_t[]){0x30, 0x12 + i, 0x34 + i, 6, i * 100 / users, 100 / users}, 6);
+        append((uint8_t[]){0x30, 0x12 + i, 0x34 + i, bits, i * 100 / users, 100 / users}, 6);
     append((uint8_t[]){0}, 1);
     int64_t of_payload = mapper_payload_len(plan, plan_len), of_grid = mapper_grid_len(plan, plan_len);
     if (of_payload < 0 || of_payload > MAX_PAYLOAD || of_grid < 0 || of_grid > MAX_GRID) {
@@ -109,16 +110,18 @@ int main(void)
         uint8_t prefix, subframe;
         bool his;
         unsigned users;
+        uint8_t bits;
     } PLANS[] = {
-        {"one user, 64QAM", 0, 1, false, 1},
-        {"100 users", 0, 1, false, 100},
-        {"200 HIs", 0, 1, true, 0},
-        {"subframe 0, 200 HIs, 100 users", 0, 0, true, 100},
-        {"extended, subframe 0, HIs, 100 users", 1, 0, true, 100},
+        {"one user, 64QAM", 0, 1, false, 1, 6},
+        {"one user, 256QAM", 0, 1, false, 1, 8},
+        {"100 users", 0, 1, false, 100, 6},
+        {"200 HIs", 0, 1, true, 0, 6},
+        {"subframe 0, 200 HIs, 100 users", 0, 0, true, 100, 6},
+        {"extended, subframe 0, HIs, 100 users", 1, 0, true, 100, 8},
     };
     size_t most = 0;
     for (size_t i = 0; i < sizeof PLANS / sizeof PLANS[0]; i++) {
-        make(PLANS[i].prefix, PLANS[i].subframe, PLANS[i].his, PLANS[i].users);
+        make(PLANS[i].prefix, PLANS[i].subframe, PLANS[i].his, PLANS[i].users, PLANS[i].bits);
         size_t bytes = all_calls(PLANS[i].what);
         most = bytes > most ? bytes : most;
     }

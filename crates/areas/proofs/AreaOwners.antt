@@ -150,8 +150,8 @@ module _ (w : List ℕ) (p : Plan) (ok : checkOf w ≡ accepted p) where
       ∙ count-is w p (UserOf i)
 
   -- what filling them needs
-  module _ (q unit : ℕ) (grid : List ℕ) (order : Order q) (level : unit ≤ 127) (room : Room (p .cell .ports) (placesOf (p .cell)) grid) where
-    pub pbch-in : AreaIn (pbchArea (p .cell) (p .frame)) q unit grid
+  module _ (q : ℕ) (grid : List ℕ) (order : Order q) (room : Room (p .cell .ports) (placesOf (p .cell)) grid) where
+    pub pbch-in : AreaIn (pbchArea (p .cell) (p .frame)) q grid
     pbch-in =
         record {
           cell = valid w p ok .cell;
@@ -159,11 +159,10 @@ module _ (w : List ℕ) (p : Plan) (ok : checkOf w ≡ accepted p) where
           rows = omega (arith, slot-length (p .cell));
           halves = omega (arith, wide);
           order = order;
-          level = level;
           room = room;
         }
 
-    pub user-in : (i : ℕ) → i < length (usersOf w p) → (d : User) → AreaIn (userArea (p .cell) (p .frame) (getD (usersOf w p) i d)) q unit grid
+    pub user-in : (i : ℕ) → i < length (usersOf w p) → (d : User) → AreaIn (userArea (p .cell) (p .frame) (getD (usersOf w p) i d)) q grid
     user-in i in-i d =
         record {
           cell = valid w p ok .cell;
@@ -171,6 +170,5 @@ module _ (w : List ℕ) (p : Plan) (ok : checkOf w ≡ accepted p) where
           rows = omega arith;
           halves = let h = every-at (UserIn (p .cell)) d (usersOf w p) i (valid w p ok .users) in-i .last in omega arith;
           order = order;
-          level = level;
           room = room;
         }

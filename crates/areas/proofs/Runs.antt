@@ -1,6 +1,6 @@
 -- AN AREA, run after run: where the cursor starts, what its run needs and is, where it stands after the run, and the end. The code has the
 -- symbols, subcarriers and places of the cell. Assumes what an area's runs need.
-use Prim.Native.Nat.{ℕ, _+_, _*_, _≤_, _<_}
+use Prim.Native.Nat.{ℕ, _+_, _≤_, _<_}
 use mathlib.Core.Path.{_≡_, refl, sym, ap, _∙_}
 use mathlib.Core.Bool.{Bool}
 use mathlib.Core.List.{List}

@@ -80,13 +80,12 @@ userArea c f u =
     }
 
 -- what filling an area needs
-pub record AreaIn (a : Area) (q unit : ℕ) (grid : List ℕ) : Type 0 where
+pub record AreaIn (a : Area) (q : ℕ) (grid : List ℕ) : Type 0 where
   pub cell : CellIn (a .cell)
   pub frame : FrameIn (a .frame)
   pub rows : a .last ≤ symbols (a .cell)
   pub halves : a .to ≤ 2 * a .cell .blocks
   pub order : Order q
-  pub level : unit ≤ 127
   pub room : Room (a .cell .ports) (placesOf (a .cell)) grid
 
 -- on two ports or four, an area leaves out the reference signals of two ports or four

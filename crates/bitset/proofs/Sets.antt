@@ -6,7 +6,7 @@ use mathlib.Core.List.{List}
 use native.Mathlib.Nat.{min-le-left, min-le-right, le-min, min-eq-left, min-eq-right}
 use native.Mathlib.Omega.{arith}
 use lib.Pow.{pow-pos, pow-mono, shl-exact}
-use lib.Bits.{bitAnd, bitOr, bitXor, xor-lt, or-lt, and-le-r}
+use lib.Bits.{bitAnd, bitOr, xor-lt, or-lt, and-le-r}
 use lib.Dec.{eqb, leb, ltb}
 use lib.ListN.{length, getD}
 use lib.Seq.{getD-set-same, getD-set-other}

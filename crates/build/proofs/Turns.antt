@@ -1,7 +1,7 @@
 -- What the turns have written, and what each needs. Assumes nothing beyond what filling needs.
 use Prim.Native.Nat.{ℕ, _+_, _-_, _*_, _/_, _%_, _≤_, _<_}
 use mathlib.Core.Path.{_≡_, refl, sym, ap, subst, _∙_}
-use mathlib.Core.Bool.{Bool, true, false}
+use mathlib.Core.Bool.{true, false}
 use mathlib.Core.List.{List}
 use native.Mathlib.Omega.{arith}
 use lib.ListN.{length, take, drop}
@@ -25,7 +25,7 @@ use Rattle.payload.specs.Sections.{sectionBytes}
 use Rattle.payload.specs.Payload.{pbchBitCount, gridLength, payloadLength, usersStart}
 use Rattle.grid.specs.Writing.{Written, Room}
 use Rattle.grid.proofs.Accumulating.{writing}
-use Rattle.grid.proofs.Writing.{none, same, over, whole}
+use Rattle.grid.proofs.Writing.{none, same, whole}
 use Rattle.subframe.specs.Grid.{elementNumbered, gridOf}
 use Rattle.subframe.proofs.Bytes.{length-by-port}
 use Rattle.data_write.specs.Sent.{TableOf}

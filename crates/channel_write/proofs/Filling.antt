@@ -15,7 +15,6 @@ use Rattle.gold.specs.Steps.{after}
 use Rattle.phich.specs.Spreading.{spreadLength}
 use Rattle.phich.proofs.Scrambled.{part-is}
 use Rattle.modulation.specs.Symbols.{Order, unitOf}
-use Rattle.modulation.proofs.Formulas.{unit-small}
 use Rattle.plan.specs.Lists.{oneOf, Among as IsOneOf}
 use Rattle.plan.specs.Fields.{portCounts, orders}
 use Rattle.plan.specs.CommandLists.{usersOf, nthUser}
@@ -57,7 +56,7 @@ pub order-ok : (q : ℕ) → IsOneOf q orders → Order q
 order-ok q h = (
   eqb→eq (q % 2) 0 (among-holds (λ (n : ℕ). eqb (n % 2) 0) orders q tt h),
   leb→le 2 q (among-holds (λ (n : ℕ). leb 2 n) orders q tt h),
-  leb→le q 6 (among-holds (λ (n : ℕ). leb n 6) orders q tt h),
+  leb→le q 8 (among-holds (λ (n : ℕ). leb n 8) orders q tt h),
 )
 
 -- ---- a cell has one, two or four ports
@@ -107,7 +106,6 @@ module _ {p : Plan} {ch : Channel} {t masks bits grid : List ℕ} (ok : ChannelI
               rows = omega (arith, L .0);
               halves = omega (arith, pbch-wide);
               order = (omega arith, omega arith, omega arith);
-              level = omega arith;
               room = ok .room;
             };
         signals = λ many. (omega arith, λ x. omega (arith, x));
@@ -146,7 +144,6 @@ module _ {p : Plan} {ch : Channel} {t masks bits grid : List ℕ} (ok : ChannelI
               rows = omega arith;
               halves = omega (arith, h .last);
               order = order-ok (u .order) (h .order);
-              level = omega (arith, unit-small (u .order));
               room = ok .room;
             };
         signals = λ many. (many, not-three (p .cell) (v .cell));

@@ -1,12 +1,10 @@
 -- The laws for callers: of a channel's symbols by its bits, and of the stream as it goes. Assumes nothing.
 use mathlib.Core.Path.{_≡_, refl, sym, ap, ap₂, _∙_}
-use mathlib.Core.List.{List}
-use Prim.Native.Nat.{ℕ, zero, suc, _+_, _-_, _*_, _/_, _%_, _<_, _≤_}
+use Prim.Native.Nat.{ℕ, zero, suc, _+_, _-_, _*_, _/_, _%_, _^_, _≤_, _<_}
 use native.Mathlib.Nat.{zero-add}
 use native.Mathlib.Omega.{arith}
 use lib.Bits.{bitXor, differ, xor-step}
 use Rattle.base.specs.Digits.{dig}
-use Rattle.base.specs.Bits.{bitAt}
 use Rattle.base.specs.Pairs.{Small}
 use Rattle.gold.specs.declared.Registers.{Registers}
 use Rattle.gold.specs.Sequence.{c, binary, pairAt}
@@ -14,9 +12,9 @@ use Rattle.gold.specs.Steps.{after, outputOf}
 use Rattle.gold.proofs.Binary.{binary-same, binary-lt, binary-digit}
 use Rattle.gold.proofs.Laws.{pair-after, pair-output, output-lt}
 use Rattle.modulation.specs.Symbols.{Order, modulationSymbol}
-use Rattle.modulation.proofs.Symbols.{symbol-injective, order-small}
+use Rattle.modulation.proofs.Symbols.{symbol-injective, symbol-small}
 use Rattle.codeword.specs.Codewords.{scrambled, dataSymbol}
-use Rattle.codeword.specs.Streams.{outputs, symbolsOf}
+use Rattle.codeword.specs.Streams.{outputs}
 
 -- ---- scrambled bits
 pub scrambled-lt : (b x : ℕ → ℕ) (i : ℕ) → scrambled b x i < 2
@@ -56,9 +54,12 @@ symbol-bits Q b b′ x j two two′ twox e i less =
     ∙ binary-digit s′ lt′ (Q * j) Q i (Q - suc i) p)
 
 -- the levels of an order's symbols
-pub order-symbol : (q : ℕ) → Order q → (b x : ℕ → ℕ) (j : ℕ) → Small 7 (dataSymbol q b x j)
+pub symbol-within : (m q : ℕ) → q ≤ 2 * m → (b x : ℕ → ℕ) (j : ℕ) → Small (2 ^ m - 1) (dataSymbol q b x j)
 unfolding dataSymbol
-order-symbol q o b x j = order-small q (binary (scrambled b x) (q * j) q) o
+symbol-within m q l b x j = symbol-small m q (binary (scrambled b x) (q * j) q) l
+
+pub order-symbol : (q : ℕ) → Order q → (b x : ℕ → ℕ) (j : ℕ) → Small 15 (dataSymbol q b x j)
+order-symbol q o b x j = symbol-within 4 q (o .2) b x j
 
 -- ---- the bits that a pair gives
 pub outputs-lt : (r : Registers) (i : ℕ) → outputs r i < 2

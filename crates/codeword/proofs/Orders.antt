@@ -1,40 +1,30 @@
 -- Bits in groups of whole symbols, at each order. Assumes nothing.
 use mathlib.Core.Path.{_≡_, refl}
-use Prim.Native.Nat.{ℕ, zero, suc, _+_, _-_, _*_, _/_, _%_, _^_, _<_, _≤_}
+use Prim.Native.Nat.{ℕ, _*_, _^_, _≤_}
+use native.Mathlib.Nat.{mul-le-mul}
 use native.Mathlib.Omega.{arith}
 use Rattle.modulation.specs.Symbols.{Order}
+use Rattle.modulation.proofs.Orders.{by-order}
 use Rattle.codeword.specs.Bits48.{Groups}
 
-by-order : (P : ℕ → Type 0) → P 2 → P 4 → P 6 → (q : ℕ) → Order q → P q
-by-order P a b c zero o = absurd (omega (arith, o))
-by-order P a b c (suc zero) o = absurd (omega (arith, o))
-by-order P a b c (suc (suc zero)) o = a
-by-order P a b c (suc (suc (suc zero))) o = absurd (omega (arith, o))
-by-order P a b c (suc (suc (suc (suc zero)))) o = b
-by-order P a b c (suc (suc (suc (suc (suc zero))))) o = absurd (omega (arith, o))
-by-order P a b c (suc (suc (suc (suc (suc (suc zero)))))) o = c
-by-order P a b c (suc (suc (suc (suc (suc (suc (suc q))))))) o = absurd (omega (arith, o))
+-- 24 bits, and so 48, are whole symbols of each order
+whole : (q : ℕ) → Order q → (n : ℕ) × (q * n ≡ 24)
+whole = by-order (λ (q : ℕ). (n : ℕ) × (q * n ≡ 24)) (12, refl) (6, refl) (4, refl) (3, refl)
 
 -- ---- symbols one by one, one or two at a time, and in pairs, one or two at a time
-groups-of : (u words before : ℕ) → u * words ≡ 48 → u * before ≤ 16 → u * (before + 1) ≤ 48 → Groups u (u * (before + 1))
-groups-of u words before e few most = record { words = words; divides = e; before = before; size = refl; few = few; most = most }
+module _ (q : ℕ) (o : Order q) where
+  pub single-groups : Groups q q
+  single-groups = record { words = 2 * whole q o .0; divides = omega (arith, whole q o .1); before = 0; size = omega arith; few = omega arith; most = omega (arith, o) }
 
-pub single-groups : (q : ℕ) → Order q → Groups q q
-single-groups = by-order (λ (q : ℕ). Groups q q)
-    (groups-of 2 24 0 refl (omega arith) (omega arith)) (groups-of 4 12 0 refl (omega arith) (omega arith)) (groups-of 6 8 0 refl (omega arith) (omega arith))
+  pub double-groups : Groups q (2 * q)
+  double-groups = record { words = 2 * whole q o .0; divides = omega (arith, whole q o .1); before = 1; size = omega arith; few = omega (arith, o); most = omega (arith, o) }
 
-pub double-groups : (q : ℕ) → Order q → Groups q (2 * q)
-double-groups = by-order (λ (q : ℕ). Groups q (2 * q))
-    (groups-of 2 24 1 refl (omega arith) (omega arith)) (groups-of 4 12 1 refl (omega arith) (omega arith)) (groups-of 6 8 1 refl (omega arith) (omega arith))
+  pub pair-groups : Groups (2 * q) (2 * q)
+  pair-groups = record { words = whole q o .0; divides = omega (arith, whole q o .1); before = 0; size = omega arith; few = omega arith; most = omega (arith, o) }
 
-pub pair-groups : (q : ℕ) → Order q → Groups (2 * q) (2 * q)
-pair-groups = by-order (λ (q : ℕ). Groups (2 * q) (2 * q))
-    (groups-of 4 12 0 refl (omega arith) (omega arith)) (groups-of 8 6 0 refl (omega arith) (omega arith)) (groups-of 12 4 0 refl (omega arith) (omega arith))
+  pub quad-groups : Groups (2 * q) (4 * q)
+  quad-groups = record { words = whole q o .0; divides = omega (arith, whole q o .1); before = 1; size = omega arith; few = omega (arith, o); most = omega (arith, o) }
 
-pub quad-groups : (q : ℕ) → Order q → Groups (2 * q) (4 * q)
-quad-groups = by-order (λ (q : ℕ). Groups (2 * q) (4 * q))
-    (groups-of 4 12 1 refl (omega arith) (omega arith)) (groups-of 8 6 1 refl (omega arith) (omega arith)) (groups-of 12 4 1 refl (omega arith) (omega arith))
-
--- the bits of 16,800 symbols are early
-pub bits-early : (q : ℕ) → Order q → (j : ℕ) → j ≤ 16800 → q * j ≤ 2 ^ 32
-bits-early = by-order (λ (q : ℕ). (j : ℕ) → j ≤ 16800 → q * j ≤ 2 ^ 32) (λ j l. omega arith) (λ j l. omega arith) (λ j l. omega arith)
+  -- the bits of 16,800 symbols are early
+  pub bits-early : (j : ℕ) → j ≤ 16800 → q * j ≤ 2 ^ 32
+  bits-early j l = omega (arith, mul-le-mul {n₂ = 8} {m₂ = 16800} (o .2) l)

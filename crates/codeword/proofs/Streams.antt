@@ -1,20 +1,17 @@
 -- Bytes as words, 24 bits more, and two symbols out of a word. Assumes nothing.
 use mathlib.Core.Path.{_≡_, refl, sym, ap, ap₂, _∙_}
 use mathlib.Core.List.{List}
-use Prim.Native.Nat.{ℕ, zero, suc, _+_, _-_, _*_, _/_, _%_, _^_, _<_, _≤_}
-use native.Mathlib.Nat.{mul-add, mul-one, mul-assoc, mul-left-comm, mod-eq-of-lt}
+use Prim.Native.Nat.{ℕ, zero, suc, _+_, _-_, _*_, _/_, _%_, _^_, _<_}
 use native.Mathlib.Omega.{arith}
 use lib.ListN.{getD}
 use lib.Bits.{bitXor}
-use lib.Pow.{field, mod-mod-pow}
-use Rattle.base.specs.declared.Pair.{Pair}
 use Rattle.base.specs.Bits.{bitAt}
 use Rattle.gold.specs.declared.Registers.{Registers}
 use Rattle.gold.specs.Sequence.{binary}
 use Rattle.gold.specs.Steps.{after, outputOf, wordOf}
-use Rattle.gold.proofs.Binary.{binary-same, binary-split, binary-lt, binary-high, binary-low}
+use Rattle.gold.proofs.Binary.{binary-same, binary-split}
 use Rattle.gold.proofs.Window.{halve}
-use Rattle.gold.proofs.Laws.{after-none, after-after}
+use Rattle.gold.proofs.Laws.{after-after}
 use Rattle.modulation.specs.Symbols.{evens, odds, level, modulationSymbol}
 use Rattle.modulation.proofs.Words.{word-low}
 use Rattle.codeword.specs.Codewords.{scrambled}

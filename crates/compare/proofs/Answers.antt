@@ -14,22 +14,22 @@ mark-few b e = omega (arith, e, nonzero-le b)
 
 module _ (a b : Element) where
   pub all-same :
-      {x y z : ℕ} → a .unit ≡ b .unit → a .i ≡ b .i → a .j ≡ b .j → x ≡ nonzero (a .unit) → y ≡ nonzero (a .i) → z ≡ nonzero (a .j)
+      {x y z : ℕ} → a .byte ≡ b .byte → a .i ≡ b .i → a .j ≡ b .j → x ≡ nonzero (a .byte) → y ≡ nonzero (a .i) → z ≡ nonzero (a .j)
       → Weight (x + y + z) ≡ seenOf a b
   unfolding seenOf weightOf
-  all-same u i j ex ey ez = rw (eq-eqb (a .unit) (b .unit) u, eq-eqb (a .i) (b .i) i, eq-eqb (a .j) (b .j) j, ex, ey, ez) refl
+  all-same u i j ex ey ez = rw (eq-eqb (a .byte) (b .byte) u, eq-eqb (a .i) (b .i) i, eq-eqb (a .j) (b .j) j, ex, ey, ez) refl
 
-  pub other-unit : (a .unit ≡ b .unit → ⊥) → Differs ≡ seenOf a b
+  pub other-byte : (a .byte ≡ b .byte → ⊥) → Differs ≡ seenOf a b
   unfolding seenOf
-  other-unit n = rw (ne-eqb (a .unit) (b .unit) n) refl
+  other-byte n = rw (ne-eqb (a .byte) (b .byte) n) refl
 
-  pub other-i : a .unit ≡ b .unit → (a .i ≡ b .i → ⊥) → Differs ≡ seenOf a b
+  pub other-i : a .byte ≡ b .byte → (a .i ≡ b .i → ⊥) → Differs ≡ seenOf a b
   unfolding seenOf
-  other-i u n = rw (eq-eqb (a .unit) (b .unit) u, ne-eqb (a .i) (b .i) n) refl
+  other-i u n = rw (eq-eqb (a .byte) (b .byte) u, ne-eqb (a .i) (b .i) n) refl
 
-  pub other-j : a .unit ≡ b .unit → a .i ≡ b .i → (a .j ≡ b .j → ⊥) → Differs ≡ seenOf a b
+  pub other-j : a .byte ≡ b .byte → a .i ≡ b .i → (a .j ≡ b .j → ⊥) → Differs ≡ seenOf a b
   unfolding seenOf
-  other-j u i n = rw (eq-eqb (a .unit) (b .unit) u, eq-eqb (a .i) (b .i) i, ne-eqb (a .j) (b .j) n) refl
+  other-j u i n = rw (eq-eqb (a .byte) (b .byte) u, eq-eqb (a .i) (b .i) i, ne-eqb (a .j) (b .j) n) refl
 
 module _ {a b : Seen} {m n : ℕ} (ea : a ≡ Weight m) (eb : b ≡ Weight n) where
   pub both-few : Few a → Few b → m + n ≤ 8589934592

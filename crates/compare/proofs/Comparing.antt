@@ -2,7 +2,7 @@
 -- grid that are not 0 in the elements compared, just when the others are silent. Assumes nothing.
 use Prim.Native.Nat.{ℕ, zero, suc, _+_, _*_, _/_, _%_, _≤_, _<_}
 use mathlib.Core.Path.{_≡_, refl, sym, ap, ap₂, _∙_, subst}
-use mathlib.Core.Bool.{Bool, true, false, cond, not, _&&_, _||_, true≢false}
+use mathlib.Core.Bool.{Bool, true, false, cond, not, _&&_, _||_}
 use mathlib.Core.List.{List, [], _∷_}
 use native.Mathlib.Decide.{ℕ-discrete}
 use native.Mathlib.Nat.{mul-le-mul}
@@ -38,7 +38,7 @@ nonzero-zero b h = by-test (eqb b 0) (λ e. eqb-true b 0 e) (λ e. absurd (let z
 
 weight-le : (el : Element) → weightOf el ≤ 3
 unfolding weightOf
-weight-le el = omega (arith, nonzero-le (el .unit), nonzero-le (el .i), nonzero-le (el .j))
+weight-le el = omega (arith, nonzero-le (el .byte), nonzero-le (el .i), nonzero-le (el .j))
 
 weight-silent : (g : List ℕ) (e : ℕ) → weightOf (elementIn g e) ≡ 0 → elementIn g e ≡ silent
 unfolding weightOf elementIn silent
@@ -195,13 +195,13 @@ and-right false b h = clash h refl
 
 pub same-element : (a b : Element) → sameElement a b ≡ true → a ≡ b
 same-element a b h =
-    let x = eqb-true (a .unit) (b .unit) (and-left (eqb (a .unit) (b .unit)) (eqb (a .i) (b .i)) (and-left (eqb (a .unit) (b .unit) && eqb (a .i) (b .i)) (eqb (a .j) (b .j)) h)) in
-    let y = eqb-true (a .i) (b .i) (and-right (eqb (a .unit) (b .unit)) (eqb (a .i) (b .i)) (and-left (eqb (a .unit) (b .unit) && eqb (a .i) (b .i)) (eqb (a .j) (b .j)) h)) in
-    let z = eqb-true (a .j) (b .j) (and-right (eqb (a .unit) (b .unit) && eqb (a .i) (b .i)) (eqb (a .j) (b .j)) h) in
-    ap₂ {C = Element} (λ (u v : ℕ). record { unit = u; i = v; j = a .j }) x y ∙ ap {B = Element} (λ (w : ℕ). record { unit = b .unit; i = b .i; j = w }) z
+    let x = eqb-true (a .byte) (b .byte) (and-left (eqb (a .byte) (b .byte)) (eqb (a .i) (b .i)) (and-left (eqb (a .byte) (b .byte) && eqb (a .i) (b .i)) (eqb (a .j) (b .j)) h)) in
+    let y = eqb-true (a .i) (b .i) (and-right (eqb (a .byte) (b .byte)) (eqb (a .i) (b .i)) (and-left (eqb (a .byte) (b .byte) && eqb (a .i) (b .i)) (eqb (a .j) (b .j)) h)) in
+    let z = eqb-true (a .j) (b .j) (and-right (eqb (a .byte) (b .byte) && eqb (a .i) (b .i)) (eqb (a .j) (b .j)) h) in
+    ap₂ {C = Element} (λ (u v : ℕ). record { byte = u; i = v; j = a .j }) x y ∙ ap {B = Element} (λ (w : ℕ). record { byte = b .byte; i = b .i; j = w }) z
 
 pub element-same : (a b : Element) → a ≡ b → sameElement a b ≡ true
-element-same a b h = rw (eq-eqb (a .unit) (b .unit) (ap (λ (x : Element). x .unit) h), eq-eqb (a .i) (b .i) (ap (λ (x : Element). x .i) h), eq-eqb (a .j) (b .j) (ap (λ (x : Element). x .j) h)) refl
+element-same a b h = rw (eq-eqb (a .byte) (b .byte) (ap (λ (x : Element). x .byte) h), eq-eqb (a .i) (b .i) (ap (λ (x : Element). x .i) h), eq-eqb (a .j) (b .j) (ap (λ (x : Element). x .j) h)) refl
 
 pub look-compared : (g : List ℕ) (e : ℕ) (el : Element) → 3 * e + 2 < length g → Compared (eqb e) (λ (x : ℕ). el) g (seenOf (elementIn g e) el)
 unfolding seenOf

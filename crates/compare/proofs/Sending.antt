@@ -9,7 +9,7 @@ use lib.Dec.{eqb}
 use Rattle.base.specs.declared.Pair.{Pair}
 use Rattle.base.specs.declared.Element.{Element}
 use Rattle.base.specs.Bytes.{elementOf}
-use Rattle.precoding.specs.Matrices.{unitOn}
+use Rattle.precoding.specs.Matrices.{unitByteOn}
 use Rattle.precoding.specs.Places.{ownPort, otherPort, partnerOf, onPort}
 use Rattle.precoding.proofs.Ports.{on-own, on-other}
 use Rattle.grid.specs.Elements.{elementIn}
@@ -53,7 +53,7 @@ module _ {P T : ℕ} {g : List ℕ} (room : Room P T g) where
   unfolding otherPort
   other-same portPair e = omega arith
 
-  module _ (portPair u odd t : ℕ) {v : ℕ} (d e : Pair) (l : t < T) (unit : v ≡ unitOn P u) where
+  module _ (portPair u odd t : ℕ) {v : ℕ} (d e : Pair) (l : t < T) (byte : v ≡ unitByteOn P u) where
     abbrev Value : ℕ → Element
     Value x = onPort P portPair u odd d e (x / T)
 
@@ -61,14 +61,14 @@ module _ {P T : ℕ} {g : List ℕ} (room : Room P T g) where
     port-of q x h = eqb-true (x / T) q (and-right (eqb (x % T) t) (eqb (x / T) q) (sym (element-is T q t x l) ∙ h))
 
     own-value : {el : Element} → el ≡ elementOf v d → (x : ℕ) → eqb (ownPort P portPair * T + t) x ≡ true → el ≡ Value x
-    own-value q x h = q ∙ ap (λ (m : ℕ). elementOf m d) unit ∙ sym (on-own P portPair u odd d e (x / T) (port-of (ownPort P portPair) x h))
+    own-value q x h = q ∙ ap (λ (m : ℕ). elementOf m d) byte ∙ sym (on-own P portPair u odd d e (x / T) (port-of (ownPort P portPair) x h))
 
     other-value :
         (P ≡ 1 → ⊥) → {f : Pair} {el : Element} → f ≡ partnerOf odd e → el ≡ elementOf v f
         → (x : ℕ) → eqb (otherPort P portPair * T + t) x ≡ true → el ≡ Value x
     other-value n p q x h =
         let k = port-of (otherPort P portPair) x h in
-        q ∙ ap₂ (λ (m : ℕ) (y : Pair). elementOf m y) unit p
+        q ∙ ap₂ (λ (m : ℕ) (y : Pair). elementOf m y) byte p
         ∙ sym (on-other P portPair u odd d e (x / T) (λ o. other-apart portPair n (sym k ∙ o)) k)
 
     pub one-look :

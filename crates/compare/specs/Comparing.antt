@@ -26,7 +26,7 @@ nonzeros (b ∷ bs) = nonzero b + nonzeros bs
 
 -- of an element
 unfoldable pub weightOf : Element → ℕ
-weightOf el = nonzero (el .unit) + nonzero (el .i) + nonzero (el .j)
+weightOf el = nonzero (el .byte) + nonzero (el .i) + nonzero (el .j)
 
 -- of those elements below n that pass the test
 unfoldable pub weightIn : (ℕ → Bool) → List ℕ → ℕ → ℕ
@@ -43,7 +43,7 @@ pub record Compared (D : ℕ → Bool) (W : ℕ → Element) (g : List ℕ) (see
 
 -- one element beside its value
 abbrev pub sameElement : Element → Element → Bool
-sameElement a b = eqb (a .unit) (b .unit) && eqb (a .i) (b .i) && eqb (a .j) (b .j)
+sameElement a b = eqb (a .byte) (b .byte) && eqb (a .i) (b .i) && eqb (a .j) (b .j)
 
 unfoldable pub seenOf : Element → Element → Seen
 seenOf a b = cond (sameElement a b) (Weight (weightOf a)) Differs

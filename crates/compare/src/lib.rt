@@ -58,8 +58,8 @@ fn nonzero_of(b: u8) -> usize
 fn compare_element(a: Element, b: Element) -> Seen
     ensures { λ r. ⌜ r ≡ seenOf a b ⌝ }
 {
-    if a.unit == b.unit && a.i == b.i && a.j == b.j {
-        return Seen::Weight(nonzero_of(a.unit) + nonzero_of(a.i) + nonzero_of(a.j));
+    if a.byte == b.byte && a.i == b.i && a.j == b.j {
+        return Seen::Weight(nonzero_of(a.byte) + nonzero_of(a.i) + nonzero_of(a.j));
     }
     Seen::Differs
 }
@@ -87,7 +87,7 @@ pub fn together(a: Seen, b: Seen) -> Seen
 }
 
 // What transmit diversity sends at place t, on the ports with a term, as `grid::put_place` writes it. Callers have compared the
-// grid's length, and take units and levels from the modulation tables or PHICH's sums.
+// grid's length, and take levels from the modulation tables or PHICH's sums.
 pub fn compare_place(
     grid: &[u8],
     ports: u8,
@@ -99,18 +99,22 @@ pub fn compare_place(
     d: Pair,
     e: Pair,
 ) -> Seen
-    requires { ⌜ Room ports places (now grid) × (t < places) × Small 127 e × (unit ≤ 127) ⌝ }
+    requires { ⌜ Room ports places (now grid) × (t < places) × Small 127 e ⌝ }
     ensures { λ r. ⌜ Compared (sentAt ports places pair t) (λ (x : ℕ). onPort ports pair unit odd d e (x / places)) (now (grid .entry)) r ⌝ }
 {
-    let u = precoding::unit_on(ports, unit);
+    let byte = precoding::unit_byte_on(ports, unit);
     let own = base::wide(precoding::own_port(ports, pair)) * places + t;
-    let seen = compare_at(grid, own, base::element_of(u, d));
+    let seen = compare_at(grid, own, base::element_of(byte, d));
     if ports == 1 {
         return seen;
     }
     let other = base::wide(precoding::other_port(ports, pair)) * places + t;
     together(
         seen,
-        compare_at(grid, other, base::element_of(u, precoding::partner(odd, e))),
+        compare_at(
+            grid,
+            other,
+            base::element_of(byte, precoding::partner(odd, e)),
+        ),
     )
 }

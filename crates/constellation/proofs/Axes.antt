@@ -202,11 +202,11 @@ mark-is n z e = rw e refl
 word-same : (v w : ℕ) → _≡_ {A = Demapped} (Word v) (Word w) → v ≡ w
 word-same v w e = cc
 
-unit-of : (u : ℕ) (p : Pair) → elementOf u p .unit ≡ u
+byte-is : (u : ℕ) (p : Pair) → elementOf u p .byte ≡ u
 unfolding elementOf
-unit-of u p = refl
+byte-is u p = refl
 
-number-of : (u v : ℕ) → v < 16777216 → elementFrom v .unit ≡ u → v ≡ elementNumber u (pairOf (elementFrom v))
+number-of : (u v : ℕ) → v < 16777216 → elementFrom v .byte ≡ u → v ≡ elementNumber u (pairOf (elementFrom v))
 unfolding elementNumber pairOf elementFrom
 number-of u v l e =
     let a = level-back (v / 256 % 256) (omega arith) in
@@ -236,7 +236,7 @@ module _ {q : ℕ} {d : List ℕ} (s : Axis q d) (even : q % 2 ≡ 0) (few : q �
     -- an element that is the entry of its word is that symbol's
     pub element-known :
         v ≡ getD t (wordOf d v % 256) 0
-        → (elementFrom v .unit ≡ u) × (demapOf q (pairOf (elementFrom v)) ≡ Word (wordOf d v)) × (wordOf d v < 2 ^ q)
+        → (elementFrom v .byte ≡ u) × (demapOf q (pairOf (elementFrom v)) ≡ Word (wordOf d v)) × (wordOf d v < 2 ^ q)
     element-known h =
         let w = wordOf d v in
         let p = modulationSymbol q w in
@@ -244,7 +244,7 @@ module _ {q : ℕ} {d : List ℕ} (s : Axis q d) (even : q % 2 ≡ 0) (few : q �
         let n : v ≡ elementNumber u p = h ∙ entry-of e few w in
         let b : w ≡ w % 2 ^ q = word-back u w v lu n in
         let f = one-element u lu p o n in (
-          ap (λ (x : Element). x .unit) f ∙ unit-of u p,
+          ap (λ (x : Element). x .byte) f ∙ byte-is u p,
           ap (λ (x : Element). demapOf q (pairOf x)) f
               ∙ ap (demapOf q) (element-back u p (o .small-re, o .small-im)) ∙ demap-symbol q w ∙ ap Word (sym b),
           omega (arith, mod-lt w (pow-pos q)),
@@ -252,7 +252,7 @@ module _ {q : ℕ} {d : List ℕ} (s : Axis q d) (even : q % 2 ≡ 0) (few : q �
 
     -- and every symbol's is
     pub element-found :
-        (w : ℕ) → v < 16777216 → elementFrom v .unit ≡ u → demapOf q (pairOf (elementFrom v)) ≡ Word w
+        (w : ℕ) → v < 16777216 → elementFrom v .byte ≡ u → demapOf q (pairOf (elementFrom v)) ≡ Word w
         → (v ≡ getD t (wordOf d v % 256) 0) × (wordOf d v ≡ w)
     element-found w l eu h =
         let k = demap-only q (pairOf (elementFrom v)) w h in

@@ -18,7 +18,7 @@ use Rattle.base.proofs.Fits.{flip-abs}
 use Rattle.modulation.specs.Symbols.{bitsOf, evens, odds, level, modulationSymbol}
 use Rattle.modulation.proofs.Places.{evens-cons}
 use Rattle.modulation.proofs.Symbols.{symbol-small}
-use Rattle.precoding.specs.Matrices.{unitOn}
+use Rattle.precoding.specs.Matrices.{unitByteOn}
 use Rattle.precoding.specs.Places.{ownPort, otherPort, partnerOf, onPort}
 use Rattle.precoding.proofs.Ports.{on-own, on-other}
 use Rattle.element_pairs.specs.Numbers.{elementFrom, upper}
@@ -74,9 +74,9 @@ byte-xor : (v c k : ℕ) → bitXor v c / 2 ^ k % 256 ≡ bitXor (v / 2 ^ k % 25
 byte-xor v c k = ap (λ (x : ℕ). x % 256) (xor-shr v c k) ∙ xor-mod (v / 2 ^ k) (c / 2 ^ k) 8
 
 -- ---- elements
-element-same : {x y : Element} → x .unit ≡ y .unit → x .i ≡ y .i → x .j ≡ y .j → x ≡ y
+element-same : {x y : Element} → x .byte ≡ y .byte → x .i ≡ y .i → x .j ≡ y .j → x ≡ y
 element-same {x} {y} e f g =
-    ap (λ (u : ℕ). record { unit = u; i = x .i; j = x .j }) e ∙ ap₂ (λ (i j : ℕ). record { unit = y .unit; i = i; j = j }) f g
+    ap (λ (u : ℕ). record { byte = u; i = x .i; j = x .j }) e ∙ ap₂ (λ (i j : ℕ). record { byte = y .byte; i = i; j = j }) f g
 
 -- one
 module _ (u : ℕ) (lu : u < 256) (d : Pair) (o : OddLevels d) {a : ℕ} (ea : a ≡ elementNumber u d) where
@@ -111,7 +111,7 @@ xor-element :
     (v c : ℕ)
     → elementFrom (bitXor v c)
     ≡ record {
-      unit = bitXor (elementFrom v .unit) (c % 256);
+      byte = bitXor (elementFrom v .byte) (c % 256);
       i = bitXor (elementFrom v .i) (c / 256 % 256);
       j = bitXor (elementFrom v .j) (c / 65536 % 256);
     }
@@ -138,7 +138,7 @@ module _
   unfolding elementOf partnerOf
   partners-first =
       xor-element (jointOf b a) minusBits
-      ∙ ap (λ (x : Element). record { unit = bitXor (x .unit) 0; i = bitXor (x .i) 254; j = bitXor (x .j) 0 })
+      ∙ ap (λ (x : Element). record { byte = bitXor (x .byte) 0; i = bitXor (x .i) 254; j = bitXor (x .j) 0 })
       (joint-low lb la ∙ one-element u lu e oe eb)
       ∙ element-same (xor-zero-r u) (minus-odd (e .re) (oe .small-re) (oe .odd-re)) (xor-zero-r (byteOf (e .im)))
 
@@ -148,7 +148,7 @@ module _
   partners-second =
       ap elementFrom (xor-shr (jointOf b a) minusBits 24)
       ∙ xor-element (upper (jointOf b a)) (upper minusBits)
-      ∙ ap (λ (x : Element). record { unit = bitXor (x .unit) 0; i = bitXor (x .i) 0; j = bitXor (x .j) 254 })
+      ∙ ap (λ (x : Element). record { byte = bitXor (x .byte) 0; i = bitXor (x .i) 0; j = bitXor (x .j) 254 })
       (joint-high lb la ∙ one-element u lu d od ea)
       ∙ element-same (xor-zero-r u) (xor-zero-r (byteOf (d .re))) (minus-odd (d .im) (od .small-im) (od .odd-im))
 
@@ -161,7 +161,7 @@ module _ {q u : ℕ} {t : List ℕ} (s : Elements q u t) (some : 2 ≤ q) (few :
   pub number-few : (w : ℕ) → getD t (w % 256) 0 < 16777216
   number-few w = one-few u lu (modulationSymbol q w) (symbol-levels q w some few) (entry-of s few w)
 
-  module _ (P portPair unit : ℕ) (on : u ≡ unitOn P unit) where
+  module _ (P portPair unit : ℕ) (on : u ≡ unitByteOn P unit) where
     -- a place's own symbol, beside any other
     pub own-value : (w odd : ℕ) (f : Pair) {v : ℕ} → v ≡ getD t (w % 256) 0 → onPort P portPair unit odd (modulationSymbol q w) f (ownPort P portPair) ≡ elementFrom v
     own-value w odd f ev =
@@ -183,7 +183,7 @@ module _ {q u : ℕ} {t : List ℕ} (s : Elements q u t) (some : 2 ≤ q) (few :
       oe : OddLevels e
       oe = symbol-levels q x some few
 
-      by : {y : Element} (f : Pair) → y ≡ elementOf u f → elementOf (unitOn P unit) f ≡ y
+      by : {y : Element} (f : Pair) → y ≡ elementOf u f → elementOf (unitByteOn P unit) f ≡ y
       by f h = ap (λ (y : ℕ). elementOf y f) (sym on) ∙ sym h
 
       pub pair-values : {v y : ℕ} → v ≡ jointOf a b → y ≡ partnersOf a b → PairValues P portPair unit d e v y

@@ -1,4 +1,4 @@
-// TS 36.211 7.1: the elements of a modulation order's symbols as numbers, unit + 256 I + 65536 J, in a table by the word of their bits.
+// TS 36.211 7.1: the elements of a modulation order's symbols as numbers, the unit's byte + 256 I + 65536 J, in a table by the word of their bits.
 ghost use mathlib.Core.Path.{_≡_};
 ghost use Prim.Native.Nat.{_+_, _*_, _%_, _^_, _≤_, _<_};
 ghost use lib.IntN.{natAbs};
@@ -48,13 +48,13 @@ fn set_four(t: &mut [u32; 256], n: usize, x: usize, a: u32, b: u32, c: u32, d: u
 
 // From the entry of a word of k bits those of the four words with two bits more in front: 2 ^ (k / 2) less each level, with the sign of
 // its bit.
-fn widen(t: &mut [u32; 256], k: u32, unit: u8, x: usize)
-    requires { ⌜ Widened k unit x (now t) × (x < 2 ^ k) × (k % 2 ≡ 0) × (k ≤ 6) ⌝ }
-    ensures { λ _. ⌜ Widened k unit (x + 1) (now (t .exit)) ⌝ }
+fn widen(t: &mut [u32; 256], k: u32, byte: u8, x: usize)
+    requires { ⌜ Widened k byte x (now t) × (x < 2 ^ k) × (k % 2 ≡ 0) × (k ≤ 6) ⌝ }
+    ensures { λ _. ⌜ Widened k byte (x + 1) (now (t .exit)) ⌝ }
 {
     let n = power(k);
     let h = power(k / 2);
-    let u = word(unit);
+    let u = word(byte);
     let v = t[x];
     let i = less(h, v / 256 % 256);
     let j = less(h, v / 65536 % 256);
@@ -67,37 +67,37 @@ fn widen(t: &mut [u32; 256], k: u32, unit: u8, x: usize)
     set_four(t, n, x, a, b, c, d);
 }
 
-fn widen_all(t: &mut [u32; 256], k: u32, unit: u8)
-    requires { ⌜ Entries k unit (2 ^ k) (now t) × (k % 2 ≡ 0) × (k ≤ 6) ⌝ }
-    ensures { λ _. ⌜ Entries (k + 2) unit (2 ^ (k + 2)) (now (t .exit)) ⌝ }
+fn widen_all(t: &mut [u32; 256], k: u32, byte: u8)
+    requires { ⌜ Entries k byte (2 ^ k) (now t) × (k % 2 ≡ 0) × (k ≤ 6) ⌝ }
+    ensures { λ _. ⌜ Entries (k + 2) byte (2 ^ (k + 2)) (now (t .exit)) ⌝ }
 {
     let n = power(k);
     let mut x: usize = 0;
     while x < n {
-        widen(t, k, unit, x);
+        widen(t, k, byte, x);
         x += 1;
     }
 }
 
 // The entries of the words of q bits, from those of no bits, with levels 0.
-fn set_words(t: &mut [u32; 256], q: u32, unit: u8)
+fn set_words(t: &mut [u32; 256], q: u32, byte: u8)
     requires { ⌜ (length (now t) ≡ 256) × (q % 2 ≡ 0) × (q ≤ 8) ⌝ }
-    ensures { λ _. ⌜ Entries q unit (2 ^ q) (now (t .exit)) ⌝ }
+    ensures { λ _. ⌜ Entries q byte (2 ^ q) (now (t .exit)) ⌝ }
 {
-    t[0] = word(unit);
+    t[0] = word(byte);
     let mut k: u32 = 0;
     while k < q {
-        widen_all(t, k, unit);
+        widen_all(t, k, byte);
         k += 2;
     }
 }
 
 // The table of an order. Its entries repeat, so that the eight lowest bits of a word are an index, whatever the order.
-pub fn set_elements(t: &mut [u32; 256], q: u32, unit: u8)
+pub fn set_elements(t: &mut [u32; 256], q: u32, byte: u8)
     requires { ⌜ (length (now t) ≡ 256) × (q % 2 ≡ 0) × (q ≤ 8) ⌝ }
-    ensures { λ _. ⌜ Elements q unit (now (t .exit)) ⌝ }
+    ensures { λ _. ⌜ Elements q byte (now (t .exit)) ⌝ }
 {
-    set_words(t, q, unit);
+    set_words(t, q, byte);
     let n = power(q);
     let mut x = n;
     while x < 256 {

@@ -1,6 +1,6 @@
 -- THE LAWS OF PAIRS, whether they are written or compared: two places, each symbol beside the other; and a channel whose places are listed,
 -- pair by pair in the order of their indices. Assumes nothing.
-use Prim.Native.Nat.{ℕ, _+_, _*_, _/_, _%_, _≤_, _<_}
+use Prim.Native.Nat.{ℕ, _+_, _*_, _/_, _%_, _<_}
 use mathlib.Core.Path.{_≡_, refl, sym, ap, _∙_}
 use mathlib.Core.Bool.{Bool, true, false, _||_}
 use mathlib.Core.List.{List}
@@ -47,11 +47,11 @@ module _ {c : Cell} {x : PairAt} (ok : PairIn c x) where
       omega arith
 
   -- what `put_place` and `look_place` require there
-  pub first-ok : {T a : ℕ} {g : List ℕ} → Room (c .ports) (placesOf c) g → T ≡ placesOf c → a ≡ firstPlace c x → Room (c .ports) T g × (a < T) × Small 127 (x .second) × (2 ≤ 127)
-  first-ok room t q = (rw t room, rw (t, q) (place-inside c (x .group) (2 * x .half) (ok .group) (omega (arith, ok .half))), ok .second, omega arith)
+  pub first-ok : {T a : ℕ} {g : List ℕ} → Room (c .ports) (placesOf c) g → T ≡ placesOf c → a ≡ firstPlace c x → Room (c .ports) T g × (a < T) × Small 127 (x .second)
+  first-ok room t q = (rw t room, rw (t, q) (place-inside c (x .group) (2 * x .half) (ok .group) (omega (arith, ok .half))), ok .second)
 
-  pub second-ok : {T b : ℕ} {g : List ℕ} → Room (c .ports) (placesOf c) g → T ≡ placesOf c → b ≡ secondPlace c x → Room (c .ports) T g × (b < T) × Small 127 (x .first) × (2 ≤ 127)
-  second-ok room t q = (rw t room, rw (t, q) (place-inside c (x .group) (2 * x .half + 1) (ok .group) (omega (arith, ok .half))), ok .first, omega arith)
+  pub second-ok : {T b : ℕ} {g : List ℕ} → Room (c .ports) (placesOf c) g → T ≡ placesOf c → b ≡ secondPlace c x → Room (c .ports) T g × (b < T) × Small 127 (x .first)
+  second-ok room t q = (rw t room, rw (t, q) (place-inside c (x .group) (2 * x .half + 1) (ok .group) (omega (arith, ok .half))), ok .first)
 
   value-first :
       (e : ℕ) → sentAt (c .ports) (placesOf c) (x .«port_pair») (firstPlace c x) e ≡ true

@@ -1,10 +1,9 @@
 -- Tests and their parts, and a rule of tests by its truth table. Assumes nothing.
 use Prim.Native.Nat.{ℕ, zero, suc}
-use mathlib.Core.Path.{_≡_, refl, sym, _∙_}
-use mathlib.Core.Bool.{Bool, true, false, not, _&&_, true≢false}
+use mathlib.Core.Path.{_≡_, refl}
+use mathlib.Core.Bool.{Bool, true, false, not, _&&_}
 use lib.Dec.{T}
 use Rattle.base.proofs.Tests.{clash}
-use Rattle.base.specs.Choice.{if_then_else_}
 use lib.Ieee.Fits.{and-l, and-r}
 
 -- ---- truth tables: a rule of n tests that antt computes at all their answers holds at any

@@ -1,8 +1,7 @@
 // How many places a user has, by products with numbers that are summed up once for all users (document 01: "its element count (a user's
 // G) is the number of its places, ports not multiplied"), and all users together: what build and read return.
 ghost use mathlib.Core.Path.{_≡_};
-ghost use Prim.Native.Nat.{ℕ, _+_, _-_, _*_, _≤_, _<_, min, max};
-ghost use mathlib.Core.Bool.{Bool};
+ghost use Prim.Native.Nat.{_+_, _-_, _*_, _≤_, _<_, min, max};
 ghost use lib.Dec.{ltb};
 ghost use Rattle.base.specs.Choice.{indicator};
 ghost use Rattle.plan.specs.Check.{checkOf};

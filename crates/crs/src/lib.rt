@@ -1,6 +1,6 @@
 // Cell-specific reference signals, TS 36.211 6.10.1: the c_init of a symbol, and a value from two bits of its sequence.
 ghost use mathlib.Core.Path.{_≡_};
-ghost use Prim.Native.Nat.{ℕ, _<_, _≤_};
+ghost use Prim.Native.Nat.{_<_, _≤_};
 ghost use Rattle.crs.specs.Crs.{normalPrefix, crsInit, wordValue};
 use base::Pair;
 

@@ -1,5 +1,5 @@
 // Prints values of the cell-specific reference signals, to be compared with another implementation's.
-ghost use Prim.Native.Nat.{ℕ, _<_, _≤_};
+ghost use Prim.Native.Nat.{_<_, _≤_};
 use base::Pair;
 
 // 0 for (1, 1), 1 for (1, -1), 2 for (-1, 1), 3 for (-1, -1).

@@ -1,5 +1,5 @@
 -- THE AREA, run after run: where the loop starts, what a run leaves, and the end. Assumes what an area's runs need.
-use Prim.Native.Nat.{ℕ, _+_, _*_, _≤_, _<_}
+use Prim.Native.Nat.{ℕ, _+_, _≤_, _<_}
 use mathlib.Core.Path.{_≡_}
 use mathlib.Core.List.{List}
 use lib.Bits.{bitOr}
@@ -9,7 +9,6 @@ use Rattle.walk.specs.declared.Cursor.{Cursor}
 use Rattle.walk.specs.declared.Run.{Run}
 use Rattle.walk.specs.Runs.{runCount}
 use Rattle.walk.specs.Tables.{cursorStart, cursorRun, cursorNext}
-use Rattle.walk.proofs.Cursors.{starts}
 use Rattle.areas.specs.declared.Area.{Area}
 use Rattle.areas.specs.Areas.{areaAt, areaCount}
 use Rattle.areas.specs.Runs.{AreaRuns}

@@ -108,8 +108,8 @@ halved x = let e : x / 2 / 256 ≡ x / 256 / 2 = omega arith in xor-shr x (x / 2
 abbrev Clean : ℕ → ℕ → ℕ → Type 0
 Clean n c x = (bitAnd (bitXor x (x / 2)) (threeBytes 0 (alike n) (alike n)) ≡ 0) × (bitAnd (bitXor x c) (threeBytes 255 1 1) ≡ 0)
 
--- THE LAW: for a number c whose bytes are the unit and two odd ones
-module _ (q c x : ℕ) {u : ℕ} (some : 2 ≤ q) (few : q ≤ 8) (unit : c % 256 ≡ u) (odd : c / 256 % 2 ≡ 1) (odd′ : c / 256 / 256 % 2 ≡ 1) where
+-- THE LAW: for a number c whose bytes are the unit's and two odd ones
+module _ (q c x : ℕ) {u : ℕ} (some : 2 ≤ q) (few : q ≤ 8) (byte : c % 256 ≡ u) (odd : c / 256 % 2 ≡ 1) (odd′ : c / 256 / 256 % 2 ≡ 1) where
   abbrev n : ℕ
   n = q / 2
 
@@ -127,7 +127,7 @@ module _ (q c x : ℕ) {u : ℕ} (some : 2 ≤ q) (few : q ≤ 8) (unit : c % 25
   clean-own (s, f) =
       let a = three-right (bitXor x (x / 2)) 0 (alike n) (alike n) (omega arith) (omega arith) s in
       let b = three-right (bitXor x c) 255 1 1 (omega arith) (omega arith) f in
-      let iu : x % 256 ≡ u = ones-right 8 x c (b .0) ∙ unit in
+      let iu : x % 256 ≡ u = ones-right 8 x c (b .0) ∙ byte in
       let oi : x / 256 % 2 ≡ 1 = ones-right 1 (x / 256) (c / 256) (rw (xor-shr x c 8) at (b .1)) ∙ odd in
       let oj : x / 256 / 256 % 2 ≡ 1 = ones-right 1 (x / 256 / 256) (c / 256 / 256) (rw fixed at (b .2)) ∙ odd′ in
       let ki = level-right n (omega arith) (omega arith) (x / 256) (rw (halved x) at (a .1)) oi in
@@ -142,7 +142,7 @@ module _ (q c x : ℕ) {u : ℕ} (some : 2 ≤ q) (few : q ≤ 8) (unit : c % 25
   own-clean : Own q u (elementFrom x) → Clean n c x
   unfolding elementFrom elementOf pairOf isSymbol
   own-clean o =
-      let iu : x % 256 ≡ c % 256 = ap (λ (e : Element). e .unit) (o .levels) ∙ sym unit in
+      let iu : x % 256 ≡ c % 256 = ap (λ (e : Element). e .byte) (o .levels) ∙ sym byte in
       let k = rw third at (o .known) in
       let a = isLevel n (signedOf (x / 256 % 256)) in
       let b = isLevel n (signedOf (x / 256 / 256 % 256)) in
@@ -164,9 +164,9 @@ Both q u x = Own q u (elementFrom x) × Own q u (elementFrom (upper x))
 pub form-made :
     (q u : ℕ) {levels : ℕ} → Order q → levels ≡ 2 ^ (q / 2) → u < 256
     → FormOf q u (record { same = (128 - levels) * 1103806660864; fixed = u * 16777217 + 1103806660864; fixes = 1108084851199 })
-form-made q u o p l = record { even = o .0; some = o .1; few = o .2; small = l; same = omega arith; fixed = omega arith; fixes = omega arith }
+form-made q u o p l = record { order = o; small = l; same = omega arith; fixed = omega arith; fixes = omega arith }
 
--- the fixed bytes: unit, and two odd ones
+-- the fixed bytes: the unit's, and two odd ones
 abbrev Fixed : ℕ → ℕ → Type 0
 Fixed u c = (c % 256 ≡ u) × (c / 256 % 2 ≡ 1) × (c / 256 / 256 % 2 ≡ 1)
 
@@ -218,16 +218,16 @@ module _ {q u : ℕ} {f : Form} (o : FormOf q u f) (x : ℕ) where
   parts-fixed = ap (bitAnd fixeds) (o .fixes) ∙ twice-parts fixeds M (omega arith) ∙ ap (λ (v : ℕ). bitAnd v M * 16777216 + bitAnd fixeds M) fixeds-on
 
   low-own : Clean (q / 2) (f .fixed) x → Own q u (elementFrom x)
-  low-own = let b = low-fixed o in clean-own q (f .fixed) x (o .some) (omega (arith, o .few)) (b .0) (b .1) (b .2)
+  low-own = let b = low-fixed o in clean-own q (f .fixed) x (o .order .1) (omega (arith, o .order .2)) (b .0) (b .1) (b .2)
 
   own-low : Own q u (elementFrom x) → Clean (q / 2) (f .fixed) x
-  own-low = let b = low-fixed o in own-clean q (f .fixed) x (o .some) (omega (arith, o .few)) (b .0) (b .1) (b .2)
+  own-low = let b = low-fixed o in own-clean q (f .fixed) x (o .order .1) (omega (arith, o .order .2)) (b .0) (b .1) (b .2)
 
   high-own : Clean (q / 2) (upper (f .fixed)) (upper x) → Own q u (elementFrom (upper x))
-  high-own = let b = high-fixed o in clean-own q (upper (f .fixed)) (upper x) (o .some) (omega (arith, o .few)) (b .0) (b .1) (b .2)
+  high-own = let b = high-fixed o in clean-own q (upper (f .fixed)) (upper x) (o .order .1) (omega (arith, o .order .2)) (b .0) (b .1) (b .2)
 
   own-high : Own q u (elementFrom (upper x)) → Clean (q / 2) (upper (f .fixed)) (upper x)
-  own-high = let b = high-fixed o in own-clean q (upper (f .fixed)) (upper x) (o .some) (omega (arith, o .few)) (b .0) (b .1) (b .2)
+  own-high = let b = high-fixed o in own-clean q (upper (f .fixed)) (upper x) (o .order .1) (omega (arith, o .order .2)) (b .0) (b .1) (b .2)
 
   -- ---- two elements
   pub masked-both : bitAnd sames (f .same) ≡ 0 → bitAnd fixeds (f .fixes) ≡ 0 → Both q u x
@@ -266,13 +266,13 @@ Partners u x y =
 module _ {q u : ℕ} {f : Form} (o : FormOf q u f) where
   odd-levels : (e : Element) → Own q u e → OddLevels (pairOf e)
   odd-levels e w =
-      let v = word-of q (pairOf e) (o .even, o .some, o .few) (w .known) in
-      subst OddLevels (v .3) (symbol-levels q (v .0) (o .some) (omega (arith, o .few)))
+      let v = word-of q (pairOf e) (o .order) (w .known) in
+      subst OddLevels (v .3) (symbol-levels q (v .0) (o .order .1) (omega (arith, o .order .2)))
 
   number-of : (v : ℕ) → Own q u (elementFrom v) → v % 16777216 ≡ elementNumber u (pairOf (elementFrom v))
   unfolding elementNumber elementOf elementFrom
   number-of v w =
-      let a : v % 256 ≡ u = ap (λ (e : Element). e .unit) (w .levels) in
+      let a : v % 256 ≡ u = ap (λ (e : Element). e .byte) (w .levels) in
       let b : v / 256 % 256 ≡ byteOf (pairOf (elementFrom v) .re) = ap (λ (e : Element). e .i) (w .levels) in
       let d : v / 65536 % 256 ≡ byteOf (pairOf (elementFrom v) .im) = ap (λ (e : Element). e .j) (w .levels) in
       omega (arith, low-three v, a, b, d)

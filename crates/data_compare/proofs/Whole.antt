@@ -19,9 +19,9 @@ use Rattle.base.proofs.Rows.{at-div, at-mod}
 use Rattle.modulation.specs.Symbols.{Order}
 use Rattle.modulation.specs.Marks.{isSymbol}
 use Rattle.modulation.proofs.Constellation.{small, levels-nonzero}
-use Rattle.precoding.specs.Matrices.{unitOn}
+use Rattle.precoding.specs.Matrices.{unitByteOn}
 use Rattle.precoding.specs.Places.{ownPort, otherPort, partnerOf, partnerIndex, placed}
-use Rattle.precoding.proofs.Ports.{on-own, on-other}
+use Rattle.precoding.proofs.Ports.{unit-byte-on, on-own, on-other}
 use Rattle.plan.proofs.Counts.{blocks-least}
 use Rattle.plan.proofs.Listed.{and-left, and-right}
 use Rattle.base.specs.Counts.{cnt, nth}
@@ -52,10 +52,10 @@ otherAt a j = otherPort (a .cell .ports) (j / 2 % 2) * placesOf (a .cell) + area
 
 record Fits (a : Area) (q unit : ℕ) (g : List ℕ) (j : ℕ) : Type 0 where
   pub known : isSymbol q (areaSymbol a g j) ≡ true
-  pub own : elementIn g (ownAt a j) ≡ elementOf (unitOn (a .cell .ports) unit) (areaSymbol a g j)
+  pub own : elementIn g (ownAt a j) ≡ elementOf (unitByteOn (a .cell .ports) unit) (areaSymbol a g j)
   pub other :
       (a .cell .ports ≡ 1 → ⊥)
-      → elementIn g (otherAt a j) ≡ elementOf (unitOn (a .cell .ports) unit) (partnerOf (j % 2) (areaSymbol a g (partnerIndex j)))
+      → elementIn g (otherAt a j) ≡ elementOf (unitByteOn (a .cell .ports) unit) (partnerOf (j % 2) (areaSymbol a g (partnerIndex j)))
 
 module _ (a : Area) (q unit : ℕ) (g : List ℕ) (j : ℕ) where
   abbrev portsIn : ℕ
@@ -64,8 +64,8 @@ module _ (a : Area) (q unit : ℕ) (g : List ℕ) (j : ℕ) where
   abbrev placesIn : ℕ
   placesIn = placesOf (a .cell)
 
-  abbrev unitIn : ℕ
-  unitIn = unitOn (a .cell .ports) unit
+  abbrev unitByteIn : ℕ
+  unitByteIn = unitByteOn (a .cell .ports) unit
 
   -- a symbol, by the own port of index j
   symbol-is : (k : ℕ) → k / 2 % 2 ≡ j / 2 % 2 → areaSymbol a g k ≡ pairOf (elementIn g (ownPort portsIn (j / 2 % 2) * placesIn + nth (areaAt a) placesIn k))
@@ -75,23 +75,23 @@ module _ (a : Area) (q unit : ℕ) (g : List ℕ) (j : ℕ) where
   same-pair : partnerIndex j / 2 % 2 ≡ j / 2 % 2
   same-pair = omega arith
 
-  right-fits : Right (areaAt a) portsIn placesIn q unitIn g j → Fits a q unit g j
+  right-fits : Right (areaAt a) portsIn placesIn q unitByteIn g j → Fits a q unit g j
   unfolding areaPlace
   right-fits r =
       let e = symbol-is j refl in
       record {
         known = ap (isSymbol q) e ∙ r .own .known;
-        own = r .own .levels ∙ ap (elementOf unitIn) (sym e);
-        other = λ n. r .other n ∙ ap (λ (d : Pair). elementOf unitIn (partnerOf (j % 2) d)) (sym (symbol-is (partnerIndex j) same-pair));
+        own = r .own .levels ∙ ap (elementOf unitByteIn) (sym e);
+        other = λ n. r .other n ∙ ap (λ (d : Pair). elementOf unitByteIn (partnerOf (j % 2) d)) (sym (symbol-is (partnerIndex j) same-pair));
       }
 
-  fits-right : Fits a q unit g j → Right (areaAt a) portsIn placesIn q unitIn g j
+  fits-right : Fits a q unit g j → Right (areaAt a) portsIn placesIn q unitByteIn g j
   unfolding areaPlace
   fits-right r =
       let e = symbol-is j refl in
       record {
-        own = record { levels = r .own ∙ ap (elementOf unitIn) e; known = ap (isSymbol q) (sym e) ∙ r .known };
-        other = λ n. r .other n ∙ ap (λ (d : Pair). elementOf unitIn (partnerOf (j % 2) d)) (symbol-is (partnerIndex j) same-pair);
+        own = record { levels = r .own ∙ ap (elementOf unitByteIn) e; known = ap (isSymbol q) (sym e) ∙ r .known };
+        other = λ n. r .other n ∙ ap (λ (d : Pair). elementOf unitByteIn (partnerOf (j % 2) d)) (symbol-is (partnerIndex j) same-pair);
       }
 
 -- ---- bytes that are not 0
@@ -99,7 +99,7 @@ weight-three : (u : ℕ) (d : Pair) → (u ≡ 0 → ⊥) → (byteOf (d .re) �
 unfolding weightOf elementOf
 weight-three u d n i j = rw (nonzero-one u n, nonzero-one (byteOf (d .re)) i, nonzero-one (byteOf (d .im)) j) refl
 
-minus-some : (z : ℤ) → natAbs z ≤ 7 → (byteOf z ≡ 0 → ⊥) → byteOf (negℤ z) ≡ 0 → ⊥
+minus-some : (z : ℤ) → natAbs z ≤ 15 → (byteOf z ≡ 0 → ⊥) → byteOf (negℤ z) ≡ 0 → ⊥
 minus-some (pos zero) l n e = n refl
 minus-some (pos (suc n)) l k e = omega arith
 minus-some (negsuc n) l k e = omega arith
@@ -113,9 +113,8 @@ partner-three u odd q d n o k =
     (λ e. rw e (weight-three u (record { re = negℤ (d .re); im = d .im }) n (minus-some (d .re) (s .0) (z .0)) (z .1)))
     (λ e. rw e (weight-three u (record { re = d .re; im = negℤ (d .im) }) n (z .0) (minus-some (d .im) (s .1) (z .1))))
 
-unit-some : (P unit : ℕ) → 0 < unit → unitOn P unit ≡ 0 → ⊥
-unfolding unitOn
-unit-some P unit l = by-test (eqb P 1) (λ e. rw e (λ z. omega arith)) (λ e. rw e (λ z. omega arith))
+byte-some : (P unit : ℕ) → 0 < unit → unitByteOn P unit ≡ 0 → ⊥
+byte-some P unit l z = omega (arith, unit-byte-on P unit .1 l)
 
 count-is : (own : ℕ → Bool) (n : ℕ) → countBelow own n ≡ cnt own n
 unfolding countBelow cnt
@@ -208,7 +207,7 @@ module _ {a : Area} {q unit : ℕ} {masks g : List ℕ} (i : CompareIn a q unit 
   places-some = omega (arith, blocks-least (a .cell) (i .area .cell), first-row (a .cell))
 
   abbrev U : ℕ
-  U = unitOn (a .cell .ports) unit
+  U = unitByteOn (a .cell .ports) unit
 
   abbrev d : ℕ → Pair
   d = areaSymbol a g
@@ -258,10 +257,10 @@ module _ {a : Area} {q unit : ℕ} {masks g : List ℕ} (i : CompareIn a q unit 
         pick : Which → weightOf (elementIn g e) ≡ 3
         pick (inl is) =
             let z = levels-nonzero q (d n) (i .area .order) (r n n-below .known) in
-            ap weightOf (on-first is) ∙ weight-three U (d n) (unit-some (a .cell .ports) unit (i .some)) (z .0) (z .1)
+            ap weightOf (on-first is) ∙ weight-three U (d n) (byte-some (a .cell .ports) unit (i .some)) (z .0) (z .1)
         pick (inr (not-own, is)) =
             ap weightOf (on-second not-own is)
-            ∙ partner-three U (n % 2) q (d (partnerIndex n)) (unit-some (a .cell .ports) unit (i .some)) (i .area .order) (r (partnerIndex n) (other-below (more not-own is)) .known)
+            ∙ partner-three U (n % 2) q (d (partnerIndex n)) (byte-some (a .cell .ports) unit (i .some)) (i .area .order) (r (partnerIndex n) (other-below (more not-own is)) .known)
 
   right-holds : ((j : ℕ) → j < areaCount a → Fits a q unit g j) → AreaHolds a q unit g
   right-holds r = record { known = λ j l. r j l .known; holds = record { elements = right-value r } }
@@ -286,12 +285,12 @@ module _ {a : Area} {q unit : ℕ} {masks g : List ℕ} (i : CompareIn a q unit 
       ∙ sym (port-weight (i .area .room) places-some (areaAt a) (λ (t : ℕ). areaIndex a t / 2 % 2) (right-weight r))
 
   -- ---- the answers, from the end of its runs
-  module _ {u : ℕ} {f : Form} {j bad : ℕ} (is-u : u ≡ unitOn (a .cell .ports) unit) (o : FormOf q u f) (k : Through a f g j bad) where
+  module _ {u : ℕ} {f : Form} {j bad : ℕ} (is-u : u ≡ unitByteOn (a .cell .ports) unit) (o : FormOf q u f) (k : Through a f g j bad) where
     pub count-few : j ≤ 16800
     unfolding areaCount
     count-few = omega (arith, k .index, cnt-most (areaAt a) (placesOf (a .cell)), i .area .room .fits)
 
-    form : FormOf q (unitOn (a .cell .ports) unit) f
+    form : FormOf q (unitByteOn (a .cell .ports) unit) f
     form = subst (λ (x : ℕ). FormOf q x f) is-u o
 
     pub area-same : bad ≡ 0 → (n : ℕ) → n ≡ cond (eqb (a .cell .ports) 1) 3 6 * j → AreaCompared a q unit g (Weight n)

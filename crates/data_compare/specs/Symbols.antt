@@ -45,7 +45,7 @@ AreaCompared a q unit g Differs = AreaHolds a q unit g → ⊥
 
 -- what it needs: the area's masks, and that with two ports or four the places go in pairs
 pub record CompareIn (a : Area) (q unit : ℕ) (masks g : List ℕ) : Type 0 where
-  pub area : AreaIn a q unit g
+  pub area : AreaIn a q g
   pub some : 0 < unit
   pub pairs : (a .cell .ports ≡ 1 → ⊥) → areaCount a % 2 ≡ 0
   pub signals : SignalsIn a

@@ -20,21 +20,21 @@ ghost use Rattle.data_compare.specs.Tests.{FormOf, wrongOf, sumsWith, to
 ghost use Rattle.data_compare.specs.Places.{Starting, PairsSeen, PlacesSeen, RunSeen, Through};
 
 // What elements of an order and a unit have in common, for two elements as one number: `fixed` where `fixes` has bits, that is the
-// unit and that levels are odd; and a level's bits from `same` on are alike, so that it is one of the order.
+// unit's byte and that levels are odd; and a level's bits from `same` on are alike, so that it is one of the order.
 struct Form {
     same: u64,
     fixed: u64,
     fixes: u64,
 }
 
-fn form_of(q: u32, unit: u8) -> Form
+fn form_of(q: u32, byte: u8) -> Form
     requires { ⌜ Order q ⌝ }
-    ensures { λ r. ⌜ FormOf q unit r ⌝ }
+    ensures { λ r. ⌜ FormOf q byte r ⌝ }
 {
     let levels: u64 = 1 << (q / 2);
     Form {
         same: (128 - levels) * 0x010100010100,
-        fixed: (unit as u64) * 16777217 + 0x010100010100,
+        fixed: (byte as u64) * 16777217 + 0x010100010100,
         fixes: 0x0101FF0101FF,
     }
 }
@@ -300,7 +300,7 @@ pub fn compare_area(a: Area, q: u32, unit: u8, masks: &[u8; 14], grid: &[u8]) ->
     let mut rows: [u8; 45] = [0; 45];
     let mut spans: [u8; 512] = [0; 512];
     areas::set_tables(a, masks, &mut rows, &mut spans);
-    let f = form_of(q, precoding::unit_on(a.cell.ports, unit));
+    let f = form_of(q, precoding::unit_byte_on(a.cell.ports, unit));
     let w = compare_runs(f, grid, a, &rows, &spans);
     if w.bad == 0 {
         return Seen::Weight(weight_of(a.cell.ports, w.j));

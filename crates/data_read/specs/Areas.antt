@@ -4,7 +4,6 @@ use mathlib.Core.List.{List}
 use Rattle.base.specs.Digits.{dig}
 use Rattle.modulation.specs.Demapping.{demapOf}
 use Rattle.precoding.specs.Places.{ownPort}
-use Rattle.layout.specs.Owners.{symbols}
 use Rattle.places.specs.Places.{placesOf}
 use Rattle.recovery.specs.Recovery.{wordOf}
 use Rattle.walk.specs.declared.Cursor.{Cursor}

@@ -22,7 +22,7 @@ areaBit a q g r i = (dig (wordOf (demapOf q (areaSymbol a g (i / q)))) (q - 1 - 
 
 -- what reading needs: an area whose symbols are constellation points. With two ports or four its places go in pairs
 pub record SectionIn (a : Area) (q : ℕ) (g : List ℕ) : Type 0 where
-  pub area : AreaIn a q 0 g
+  pub area : AreaIn a q g
   pub known : (j : ℕ) → j < areaCount a → isSymbol q (areaSymbol a g j) ≡ true
   pub pairs : (a .cell .ports ≡ 1 → ⊥) → areaCount a % 2 ≡ 0
 

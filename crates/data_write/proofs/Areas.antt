@@ -2,19 +2,18 @@
 -- filling an area needs.
 use Prim.Native.Nat.{ℕ, _+_, _*_, _≤_, _<_}
 use mathlib.Core.Path.{_≡_, refl, sym, ap, _∙_, subst}
-use mathlib.Core.Bool.{Bool, true, false, cond}
+use mathlib.Core.Bool.{Bool, cond}
 use mathlib.Core.List.{List}
 use native.Mathlib.Nat.{mul-zero}
 use native.Mathlib.Omega.{arith}
-use lib.Dec.{eqb}
 use borrow.Author.Tests.{ne-eqb}
 use Rattle.base.specs.declared.Element.{Element}
 use Rattle.gold.specs.declared.Registers.{Registers}
 use Rattle.modulation.specs.Symbols.{unitOf}
-use Rattle.modulation.proofs.Formulas.{unit-small}
 use Rattle.codeword.specs.Streams.{symbolsOf}
 use Rattle.codeword.specs.Bits48.{Standing, Begins48, Ends}
-use Rattle.precoding.specs.Matrices.{unitOn}
+use Rattle.precoding.specs.Matrices.{unitByteOn}
+use Rattle.precoding.proofs.Ports.{unit-byte-on}
 use Rattle.layout.specs.Owners.{symbols, carriers}
 use Rattle.places.specs.Places.{placesOf}
 use Rattle.grid.proofs.Writing.{same}
@@ -24,7 +23,6 @@ use Rattle.walk.specs.Runs.{runCount}
 use Rattle.walk.specs.Addresses.{RunOpen}
 use Rattle.walk.specs.Parts.{ownSends}
 use Rattle.walk.specs.Tables.{cursorStart, cursorRun, cursorNext}
-use Rattle.walk.proofs.Cursors.{starts}
 use Rattle.walk.proofs.Pairs.{written-none, written-join, written-all}
 use Rattle.areas.specs.declared.Area.{Area}
 use Rattle.constellation.specs.Entries.{Elements}
@@ -130,8 +128,8 @@ module _ {a : Area} {q : ℕ} {t masks grid : List ℕ} (h : FillIn a q t masks 
         sending =
             record {
               order = h .area .order;
-              byte = unitOn (portsOf a) (h .unit);
-              small = h .table .small;
+              byte = unitByteOn (portsOf a) (h .unit);
+              small = unit-byte-on (portsOf a) (h .unit) .0;
               table = h .table .table;
               pair = r;
               standing = begins q b;
@@ -148,14 +146,5 @@ module _ {a : Area} {q : ℕ} {t masks grid : List ℕ} (h : FillIn a q t masks 
       }
 
 -- the table of an order, as it is made
-on-small : (P unit : ℕ) → unit ≤ 127 → unitOn P unit < 256
-unfolding unitOn
-on-small P unit l = pick (eqb P 1)
-  where
-    pick : (b : Bool) → cond b unit (2 * unit) < 256
-    pick true = omega arith
-    pick false = omega arith
-
-pub table-made : {P q unit u : ℕ} {t : List ℕ} → unit ≡ unitOf q → u ≡ unitOn P unit → Elements q u t → TableOf P q (unitOf q) t
-table-made {P} {q} {t = t} e f s =
-    record { small = on-small P (unitOf q) (omega (arith, unit-small q)); table = subst (λ (x : ℕ). Elements q x t) (f ∙ ap (unitOn P) e) s }
+pub table-made : {P q unit u : ℕ} {t : List ℕ} → unit ≡ unitOf q → u ≡ unitByteOn P unit → Elements q u t → TableOf P q (unitOf q) t
+table-made {P} {q} {t = t} e f s = record { table = subst (λ (x : ℕ). Elements q x t) (f ∙ ap (unitByteOn P) e) s }

@@ -18,6 +18,7 @@ use Rattle.codeword.proofs.Laws.{scrambled-lt}
 use Rattle.codeword.proofs.Orders.{bits-early}
 use Rattle.codeword.proofs.Taking.{last-held, before-held, symbol-is}
 use Rattle.precoding.specs.Places.{ownPort, otherPort, onPort, placed}
+use Rattle.precoding.proofs.Ports.{unit-byte-on}
 use Rattle.element_pairs.specs.Numbers.{elementFrom, upper}
 use Rattle.constellation.specs.Pairs.{jointOf, partnersOf}
 use Rattle.constellation.proofs.Numbers.{number-few, own-value, pair-values, joint-low, joint-high}
@@ -111,7 +112,7 @@ module _ (own : ℕ → Bool) (P T unit : ℕ) (d : ℕ → Pair) where
         → modulationSymbol q x ≡ d (j + 1)
         → PairHas P T (sentElement own P T unit d) j p gap (jointOf (entryOf t w) (entryOf t x)) (partnersOf (entryOf t w) (entryOf t x))
     pair-has j even many p gap w x l a b ew ex =
-        let v = pair-values (s .table) (o .1) (omega arith) (s .small) P (j / 2 % 2) unit refl many w x refl refl refl refl in
+        let v = pair-values (s .table) (o .1) (omega arith) (unit-byte-on P unit .0) P (j / 2 % 2) unit refl many w x refl refl refl refl in
         record {
           own-first = even-at j even A p (omega arith) a ∙ ap₂ (λ (f g : Pair). onPort P (j / 2 % 2) unit 0 f g A) (sym ew) (sym ex) ∙ v .own-first;
           own-second = here A ∙ odd-at j even A (p + gap) l b ∙ ap₂ (λ (f g : Pair). onPort P (j / 2 % 2) unit 1 f g A) (sym ex) (sym ew) ∙ v .own-second;
@@ -137,10 +138,10 @@ module _ (own : ℕ → Bool) (T unit : ℕ) (d : ℕ → Pair) {q : ℕ} {t : L
       ap (sentElement own 1 T unit d) z ∙ at-place own 1 T unit d 0 x l
       ∙ ap (λ (k : ℕ). placed 1 (k / 2 % 2) unit d k 0) e
       ∙ ap (λ (f : Pair). onPort 1 (j / 2 % 2) unit (j % 2) f (d (j + 1 - 2 * (j % 2))) 0) (sym ew)
-      ∙ own-value (s .table) (o .1) (omega arith) (s .small) 1 (j / 2 % 2) unit refl w (j % 2) (d (j + 1 - 2 * (j % 2))) refl
+      ∙ own-value (s .table) (o .1) (omega arith) (unit-byte-on 1 unit .0) 1 (j / 2 % 2) unit refl w (j % 2) (d (j + 1 - 2 * (j % 2))) refl
 
   small : (w : ℕ) → entryOf t w < 16777216
-  small w = number-few (s .table) (o .1) (omega arith) (s .small) w
+  small w = number-few (s .table) (o .1) (omega arith) (unit-byte-on 1 unit .0) w
 
   pub double-first :
       (x j w z : ℕ) → x < T → cnt own x ≡ j → modulationSymbol q w ≡ d j → sentElement own 1 T unit d x ≡ elementFrom (jointOf (entryOf t w) (entryOf t z))

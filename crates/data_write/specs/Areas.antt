@@ -7,7 +7,6 @@ use Rattle.gold.specs.declared.Registers.{Registers}
 use Rattle.gold.specs.Steps.{after as afterBits}
 use Rattle.codeword.specs.Bits48.{Standing}
 use Rattle.codeword.specs.Streams.{symbolsOf}
-use Rattle.layout.specs.Owners.{symbols}
 use Rattle.places.specs.Places.{placesOf}
 use Rattle.grid.specs.Writing.{Written}
 use Rattle.walk.specs.declared.Cursor.{Cursor}
@@ -51,7 +50,7 @@ pub record RunsDone (a : Area) (q : ℕ) (rows spans t bits st before st′ afte
 -- what filling an area needs: for some unit, the order's table and the area's masks
 pub record FillIn (a : Area) (q : ℕ) (t masks grid : List ℕ) : Type 0 where
   pub unit : ℕ
-  pub area : AreaIn a q unit grid
+  pub area : AreaIn a q grid
   pub signals : SignalsIn a
   pub table : TableOf (portsOf a) q unit t
   pub bytes : RowMasks (a .cell) (a .frame) (a .signals) (a .leaves) 14 masks

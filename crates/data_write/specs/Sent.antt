@@ -11,7 +11,7 @@ use Rattle.base.specs.Counts.{cnt}
 use Rattle.gold.specs.declared.Registers.{Registers}
 use Rattle.modulation.specs.Symbols.{Order}
 use Rattle.codeword.specs.Bits48.{Standing}
-use Rattle.precoding.specs.Matrices.{unitOn}
+use Rattle.precoding.specs.Matrices.{unitByteOn}
 use Rattle.precoding.specs.Places.{placed}
 use Rattle.constellation.specs.Entries.{Elements}
 use Rattle.constellation.specs.Pairs.{jointOf, partnersOf}
@@ -26,8 +26,7 @@ bitsAtOnce P q = cond (eqb P 1) q (2 * q)
 
 -- the order's table, for a unit on P ports
 pub record TableOf (P q unit : ℕ) (t : List ℕ) : Type 0 where
-  pub small : unitOn P unit < 256
-  pub table : Elements q (unitOn P unit) t
+  pub table : Elements q (unitByteOn P unit) t
 
 -- what sending from index j on needs, in groups of u bits
 pub record Sending (u q j : ℕ) (t bits st : List ℕ) : Type 0 where

@@ -452,5 +452,5 @@ pub fn set_table(t: &mut [u32; 256], q: u32, ports: u8)
     requires { ⌜ (length (now t) ≡ 256) × Order q ⌝ }
     ensures { λ _. ⌜ TableOf ports q (unitOf q) (now (t .exit)) ⌝ }
 {
-    constellation::set_elements(t, q, precoding::unit_on(ports, modulation::unit(q)));
+    constellation::set_elements(t, q, precoding::unit_byte_on(ports, modulation::unit(q)));
 }

@@ -228,7 +228,7 @@ low-three v =
 same-low : (v w : ℕ) → elementFrom v ≡ elementFrom w → v % 16777216 ≡ w % 16777216
 unfolding elementFrom
 same-low v w e =
-    let a : v % 256 ≡ w % 256 = ap (λ (x : Element). x .unit) e in
+    let a : v % 256 ≡ w % 256 = ap (λ (x : Element). x .byte) e in
     let b : v / 256 % 256 ≡ w / 256 % 256 = ap (λ (x : Element). x .i) e in
     let c : v / 65536 % 256 ≡ w / 65536 % 256 = ap (λ (x : Element). x .j) e in
     low-three v ∙ (rw (a, b, c) (sym (low-three w)))

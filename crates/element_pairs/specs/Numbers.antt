@@ -15,7 +15,7 @@ digit v k = v / 256 ^ k % 256
 
 -- the element of its three lowest bytes, and the one 24 bits on
 unfoldable pub elementFrom : ℕ → Element
-elementFrom v = record { unit = v % 256; i = v / 256 % 256; j = v / 65536 % 256 }
+elementFrom v = record { byte = v % 256; i = v / 256 % 256; j = v / 65536 % 256 }
 
 abbrev pub upper : ℕ → ℕ
 upper v = v / 16777216

@@ -1,5 +1,5 @@
-// Elements of a grid as numbers, unit + 256 I + 65536 J, and two of them as one number, the second 24 bits on: written and read by wide
-// stores and loads.
+// Elements of a grid as numbers, the unit's byte + 256 I + 65536 J, and two of them as one number, the second 24 bits on: written and read by
+// wide stores and loads.
 ghost use mathlib.Core.Path.{_≡_};
 ghost use Prim.Native.Nat.{_+_, _<_};
 ghost use lib.ListN.{length};

@@ -1,12 +1,12 @@
 -- The laws for callers: of steps, and of the pair that stands at c(k). Assumes nothing.
 use mathlib.Core.Path.{_≡_, refl, ap, sym, _∙_}
-use Prim.Native.Nat.{ℕ, zero, suc, _+_, _^_, _<_}
+use Prim.Native.Nat.{ℕ, zero, suc, _+_, _<_}
 use native.Mathlib.Omega.{arith}
 use native.Mathlib.Nat.{add-zero, add-suc}
 use Rattle.gold.specs.declared.Registers.{Registers}
 use Rattle.gold.specs.Sequence.{c, binary, pairAt}
 use Rattle.gold.specs.Steps.{stepped, after, outputOf, wordOf}
-use Rattle.gold.proofs.Binary.{binary-same, binary-lt}
+use Rattle.gold.proofs.Binary.{binary-same}
 use Rattle.gold.proofs.Pair.{standing, along, gives}
 
 -- ---- steps of any pair

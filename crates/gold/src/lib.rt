@@ -1,7 +1,7 @@
 // The pseudo-random sequence c(n) of TS 36.211 7.2, up to 28 bits at a time, or 48. A register holds the next 31 values of
 // its sequence as a number, the first most significant (bit 30), and so does a word.
 ghost use mathlib.Core.Path.{_≡_};
-ghost use Prim.Native.Nat.{ℕ, _≤_, _-_, _/_, _%_, _^_};
+ghost use Prim.Native.Nat.{_≤_, _-_, _/_, _%_, _^_};
 ghost use Rattle.gold.specs.Sequence.{binary, start2, pairAt};
 ghost use Rattle.gold.specs.Steps.{after, wordOf};
 ghost use Rattle.gold.specs.Window.{window, sums, offsets1, offsets2};

@@ -1,6 +1,6 @@
 // Prints values of the pseudo-random sequence, to be compared with another implementation's.
 use gold::Registers;
-ghost use Prim.Native.Nat.{ℕ, _≤_};
+ghost use Prim.Native.Nat.{_≤_};
 
 // x1(1600), .., x1(1630): the register of x1 at c(0).
 fn first_register() {

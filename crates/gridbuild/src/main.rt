@@ -33,10 +33,10 @@ fn answer(input: &[u8]) {
     lend(&input[2..end], &input[end..], &mut buffer);
 }
 
-// Two length bytes, the longest plan (65,535 bytes) and the longest payload (below 12,800 bytes) leave bytes over, so a full
+// Two length bytes, the longest plan (65,535 bytes) and the longest payload (below 17,000 bytes) leave bytes over, so a full
 // buffer is an input with more payload than any plan asks for.
 fn main() {
-    let mut buffer = [0u8; 80000];
+    let mut buffer = [0u8; 90000];
     let n = io::read_full(0, &mut buffer);
     answer(&buffer[..n]);
 }

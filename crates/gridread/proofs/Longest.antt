@@ -1,4 +1,4 @@
--- No accepted plan has a payload of more than 12,800 bytes. Assumes nothing.
+-- No accepted plan has a payload of more than 17,000 bytes. Assumes nothing.
 use Prim.Native.Nat.{ℕ, _+_, _*_, _≤_}
 use mathlib.Core.Path.{_≡_, refl, sym, ap, _∙_}
 use mathlib.Core.Bool.{Bool, true, false}
@@ -36,7 +36,7 @@ use Rattle.mapper.specs.Calls.{answerWith, numberAnswer, payloadLengthOf}
 use Rattle.mapper.specs.declared.Number.{Number}
 use Rattle.mapper.specs.declared.Number.the-variants.{Is}
 
--- ---- sections: at most 480 bits for PBCH, six for each element of a user, and less than a byte of spare bits each
+-- ---- sections: at most 480 bits for PBCH, eight for each element of a user, and less than a byte of spare bits each
 broadcast-most : (c : Cell) (f : Frame) → pbchBitCount c f ≤ 480
 unfolding pbchBitCount
 broadcast-most c f = pick (eqb (f .subframe) 0) (eqb (c .prefix) 1)
@@ -46,19 +46,19 @@ broadcast-most c f = pick (eqb (f .subframe) 0) (eqb (c .prefix) 1)
     pick true false = omega arith
     pick false u = omega arith
 
-user-bits-most : (c : Cell) (f : Frame) (u : User) → UserIn c u → computedBitCount c f u ≤ 6 * userElements c f (u .first) (u .count)
+user-bits-most : (c : Cell) (f : Frame) (u : User) → UserIn c u → computedBitCount c f u ≤ 8 * userElements c f (u .first) (u .count)
 unfolding computedBitCount
 user-bits-most c f u h =
-    mul-le-mul {n₂ = 6} {m₂ = userElements c f (u .first) (u .count)} (leb→le (u .order) 6 (among-holds (λ n. leb n 6) orders (u .order) tt (h .order))) (omega arith)
+    mul-le-mul {n₂ = 8} {m₂ = userElements c f (u .first) (u .count)} (leb→le (u .order) 8 (among-holds (λ n. leb n 8) orders (u .order) tt (h .order))) (omega arith)
 
-users-bytes-most : (c : Cell) (f : Frame) (us : List User) → Every (UserIn c) us → 8 * bytesOf (computedSections c f us) ≤ 6 * allElements c f us + 7 * length us
+users-bytes-most : (c : Cell) (f : Frame) (us : List User) → Every (UserIn c) us → 8 * bytesOf (computedSections c f us) ≤ 8 * allElements c f us + 7 * length us
 unfolding computedSections bytesOf allElements sumOf
 users-bytes-most c f [] h = omega arith
 users-bytes-most c f (u ∷ us) h = omega (arith, user-bits-most c f u (h .0), users-bytes-most c f us (h .1))
 
 -- ---- the payload
 module _ (w : List ℕ) where
-  payload-most : (p : Plan) → checkOf w ≡ accepted p → payloadLength w p ≤ 12800
+  payload-most : (p : Plan) → checkOf w ≡ accepted p → payloadLength w p ≤ 17000
   unfolding payloadLength heads bytesOf
   payload-most p e =
       omega (
@@ -72,14 +72,14 @@ module _ (w : List ℕ) where
         users-most w p e,
       )
 
-  payload-within : (n : ℕ) (a : Checked) → checkOf w ≡ a → given n ≡ answerWith (payloadLength w) a → n ≤ 12800
+  payload-within : (n : ℕ) (a : Checked) → checkOf w ≡ a → given n ≡ answerWith (payloadLength w) a → n ≤ 17000
   payload-within n (accepted p) e q = omega (arith, ap (λ (x : Answer). x .value) q, payload-most p e)
   payload-within n (refused r) e q = no-number (sym q)
 
   module _ (found : Number) (e : numberAnswer found ≡ payloadLengthOf w) (n : ℕ) (is : found ≡ Is n) where
-    pub payload-longest : n ≤ 12800
+    pub payload-longest : n ≤ 17000
     unfolding payloadLengthOf
     payload-longest = payload-within n (checkOf w) refl (ap numberAnswer (sym is) ∙ e)
 
-    pub payload-part-length : (buffer : List ℕ) → 12800 ≤ length buffer → n ≡ length (take n buffer)
+    pub payload-part-length : (buffer : List ℕ) → 17000 ≤ length buffer → n ≡ length (take n buffer)
     payload-part-length buffer h = sym (length-take-le n buffer (omega (arith, payload-longest)))

@@ -14,7 +14,7 @@ fn fill(plan: &[u8], grid: &[u8], payload: &mut [u8]) {
 
 // Lends as many bytes as the plan's payload has.
 fn lend(plan: &[u8], grid: &[u8], buffer: &mut [u8])
-    requires { ⌜ 12800 ≤ length (now buffer) ⌝ }
+    requires { ⌜ 17000 ≤ length (now buffer) ⌝ }
 {
     match mapper::payload_length(plan) {
         Number::Is(n) => fill(plan, grid, &mut buffer[..n]),
@@ -28,8 +28,8 @@ fn answer(input: &[u8]) {
         words::refused(1);
         return;
     }
-    // No plan has a longer payload: 16,800 places of six bits, PBCH, 200 HIs, and the spare bits of 100 users.
-    let mut buffer = [0u8; 12800];
+    // No plan has a longer payload: 16,800 places of eight bits, PBCH, 200 HIs, and the spare bits of 100 users.
+    let mut buffer = [0u8; 17000];
     lend(&input[2..end], &input[end..], &mut buffer);
 }
 

@@ -14,9 +14,8 @@ use Rattle.plan.specs.declared.Plan.{Plan}
 use Rattle.plan.specs.declared.Checked.the-variants.{Plan as accepted}
 use Rattle.plan.specs.CommandLists.{commandsFrom, usersOf}
 use Rattle.base.specs.Bits.{bitAt}
-use Rattle.base.specs.Choice.{if_then_else_}
 use Rattle.layout.specs.Rules.{slotLength, inSlot, crsSymbol, marked}
-use Rattle.layout.specs.Owners.{symbols, carriers, controlSymbols}
+use Rattle.layout.specs.Owners.{controlSymbols}
 use Rattle.counts.specs.Sums.{sumTo, sumOf}
 use Rattle.counts.specs.Counts.{kinds, kindCount}
 use Rattle.counts.specs.Users.{signals, taken, halves, rowElements, userElements, allElements, usersElements}

@@ -1,5 +1,5 @@
 -- The known elements of document 01 hold of the definitions, jointly. Assumes nothing.
-use mathlib.Core.Path.{_≡_, refl}
+use mathlib.Core.Path.{refl}
 use Rattle.base.specs.Digits.{dig}
 use Rattle.base.specs.Tables.{table}
 use Rattle.layout.specs.Rules.{formatGroup, isFormat, isLeft, quadNumber, quadGroup}

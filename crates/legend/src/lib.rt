@@ -109,7 +109,8 @@ fn modulation(order: u8) {
     match order {
         2 => print::text(b"QPSK"),
         4 => print::text(b"16QAM"),
-        _ => print::text(b"64QAM"),
+        6 => print::text(b"64QAM"),
+        _ => print::text(b"256QAM"),
     }
 }
 

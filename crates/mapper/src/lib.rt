@@ -101,15 +101,15 @@ pub fn owner(plan: &[u8], s: usize, k: usize, port: usize) -> OwnerAnswer
 }
 
 // SAMPLE: what an element's three bytes mean.
-pub fn sample_at(unit: u8, i: u8, j: u8) -> SampleAnswer
+pub fn sample_at(byte: u8, i: u8, j: u8) -> SampleAnswer
     ensures { λ r. ⌜
-        (sampleAnswer 0 r ≡ sampleAnswerOf 0 unit i j)
-        × (sampleAnswer 1 r ≡ sampleAnswerOf 1 unit i j)
-        × (sampleAnswer 2 r ≡ sampleAnswerOf 2 unit i j)
-        × Sampled unit i j r
+        (sampleAnswer 0 r ≡ sampleAnswerOf 0 byte i j)
+        × (sampleAnswer 1 r ≡ sampleAnswerOf 1 byte i j)
+        × (sampleAnswer 2 r ≡ sampleAnswerOf 2 byte i j)
+        × Sampled byte i j r
         ⌝ }
 {
-    sample::sample_at(unit, i, j)
+    sample::sample_at(byte, i, j)
 }
 
 // BUILD: the grid of a plan and a payload.
@@ -180,10 +180,10 @@ fn nth(n: usize, a: u32, b: u32, c: u32) -> u32
 }
 
 // Number n of an element's sample, its kind and then its values, or refusal 9.
-fn sample_number(unit: u8, i: u8, j: u8, n: usize) -> i64
-    ensures { λ r. ⌜ r ≡ inC (sampleAnswerOf n unit i j) ⌝ }
+fn sample_number(byte: u8, i: u8, j: u8, n: usize) -> i64
+    ensures { λ r. ⌜ r ≡ inC (sampleAnswerOf n byte i j) ⌝ }
 {
-    match sample::sample_at(unit, i, j) {
+    match sample::sample_at(byte, i, j) {
         SampleAnswer::Is(s) => match s {
             Sample::Silence => 0,
             Sample::Phase(x) => plus(nth(n, 1, x as u32, 0) as usize),
@@ -263,24 +263,24 @@ pub extern "C" fn mapper_owner(plan: &[u8], s: usize, k: usize, port: usize) -> 
 
 // The kind of an element's sample: 0 silence, 1 phase, 2 a pair of f32.
 #[no_mangle]
-pub extern "C" fn mapper_sample_kind(unit: u8, i: u8, j: u8) -> i64
-    ensures { λ r. ⌜ r ≡ inC (sampleAnswerOf 0 unit i j) ⌝ }
+pub extern "C" fn mapper_sample_kind(byte: u8, i: u8, j: u8) -> i64
+    ensures { λ r. ⌜ r ≡ inC (sampleAnswerOf 0 byte i j) ⌝ }
 {
-    sample_number(unit, i, j, 0)
+    sample_number(byte, i, j, 0)
 }
 
 // The phase, or the bits of the f32 of I; 0 for silence.
 #[no_mangle]
-pub extern "C" fn mapper_sample_i(unit: u8, i: u8, j: u8) -> i64
-    ensures { λ r. ⌜ r ≡ inC (sampleAnswerOf 1 unit i j) ⌝ }
+pub extern "C" fn mapper_sample_i(byte: u8, i: u8, j: u8) -> i64
+    ensures { λ r. ⌜ r ≡ inC (sampleAnswerOf 1 byte i j) ⌝ }
 {
-    sample_number(unit, i, j, 1)
+    sample_number(byte, i, j, 1)
 }
 
 // The bits of the f32 of J; 0 for silence and for a phase.
 #[no_mangle]
-pub extern "C" fn mapper_sample_j(unit: u8, i: u8, j: u8) -> i64
-    ensures { λ r. ⌜ r ≡ inC (sampleAnswerOf 2 unit i j) ⌝ }
+pub extern "C" fn mapper_sample_j(byte: u8, i: u8, j: u8) -> i64
+    ensures { λ r. ⌜ r ≡ inC (sampleAnswerOf 2 byte i j) ⌝ }
 {
-    sample_number(unit, i, j, 2)
+    sample_number(byte, i, j, 2)
 }

@@ -44,7 +44,7 @@ symbol-known q w o =
     let d = modulationSymbol q w in
     is-true (isSymbol q d) (answer-word (isSymbol q d) _ (w % 2 ^ q) (sym (demapped q d (o .0)) ∙ demap-symbol q w) .0)
 
-byte-nonzero : (z : ℤ) → natAbs z ≤ 7 → 0 < natAbs z → byteOf z ≡ 0 → ⊥
+byte-nonzero : (z : ℤ) → natAbs z ≤ 15 → 0 < natAbs z → byteOf z ≡ 0 → ⊥
 byte-nonzero (pos n) l h e = omega arith
 byte-nonzero (negsuc n) l h e = omega arith
 
@@ -57,8 +57,8 @@ module _ (q : ℕ) (d : Pair) (o : Order q) (known : isSymbol q d ≡ true) wher
       let l = demap-only q d v e in
       (v, e, l .1, l .0)
 
-  pub small : Small 7 d
-  small = let v = word-of in subst (Small 7) (v .3) (order-small q (v .0) o)
+  pub small : Small 15 d
+  small = let v = word-of in subst (Small 15) (v .3) (order-small q (v .0) o)
 
   pub levels-nonzero : (byteOf (d .re) ≡ 0 → ⊥) × (byteOf (d .im) ≡ 0 → ⊥)
   unfolding isSymbol

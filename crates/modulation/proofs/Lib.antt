@@ -5,3 +5,4 @@ pub mod Symbols
 pub mod Constellation
 pub mod Marks
 pub mod Formulas
+pub mod Orders

@@ -116,5 +116,5 @@ symbol-small m q w h =
     let j : 2 ^ length (odds bs) ≤ 2 ^ m = pow-mono (omega (arith, odds-length bs)) in
     (omega (arith, level-small (evens bs)), omega (arith, level-small (odds bs)))
 
-pub order-small : (q w : ℕ) → Order q → Small 7 (modulationSymbol q w)
-order-small q w o = symbol-small 3 q w (o .2)
+pub order-small : (q w : ℕ) → Order q → Small 15 (modulationSymbol q w)
+order-small q w o = symbol-small 4 q w (o .2)

@@ -2,6 +2,11 @@
 use base::Pair;
 ghost use Rattle.modulation.specs.Symbols.{Order};
 
+// The byte of an order's unit on one port.
+fn unit_byte(q: u32) -> u8 {
+    precoding::unit_byte_on(1, modulation::unit(q))
+}
+
 // A line: what is printed, and the order.
 fn start(name: &[u8], q: u32) {
     print::text(name);
@@ -33,7 +38,7 @@ fn map_lines(q: u32, words: u32)
     requires { ⌜ Order q ⌝ }
 {
     let mut t: [u32; 256] = [0; 256];
-    constellation::set_elements(&mut t, q, modulation::unit(q));
+    constellation::set_elements(&mut t, q, unit_byte(q));
     for w in 0..words {
         map_line(q, &t, w);
     }
@@ -52,18 +57,18 @@ fn back_line(q: u32, t: &[u32; 256], d: &[u8; 32], v: u64) {
     print::line();
 }
 
-// The byte of the levels -8, .., 8 for n = 0, .., 16.
+// The byte of the levels -16, .., 16 for n = 0, .., 32.
 fn level(n: u64) -> u64 {
-    (n % 256 + 248) % 256
+    (n % 256 + 240) % 256
 }
 
 fn back_row(q: u32, t: &[u32; 256], d: &[u8; 32], i: u64) {
-    for n in 0..17 {
+    for n in 0..33 {
         back_line(
             q,
             t,
             d,
-            (modulation::unit(q) as u64) + i % 256 * 256 + level(n) % 256 * 65536,
+            (unit_byte(q) as u64) + i % 256 * 256 + level(n) % 256 * 65536,
         );
     }
 }
@@ -72,10 +77,10 @@ fn back_lines(q: u32)
     requires { ⌜ Order q ⌝ }
 {
     let mut t: [u32; 256] = [0; 256];
-    constellation::set_elements(&mut t, q, modulation::unit(q));
+    constellation::set_elements(&mut t, q, unit_byte(q));
     let mut d: [u8; 32] = [0; 32];
     constellation::set_axis(&mut d, q);
-    for n in 0..17 {
+    for n in 0..33 {
         back_row(q, &t, &d, level(n));
     }
 }
@@ -84,7 +89,9 @@ fn main() {
     map_lines(2, 4);
     map_lines(4, 16);
     map_lines(6, 64);
+    map_lines(8, 256);
     back_lines(2);
     back_lines(4);
     back_lines(6);
+    back_lines(8);
 }

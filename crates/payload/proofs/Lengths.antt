@@ -22,7 +22,6 @@ use Rattle.plan.specs.declared.Checked.the-variants.{Plan as accepted}
 use Rattle.plan.proofs.OneOf.{among-holds}
 use Rattle.plan.proofs.Valid.{valid}
 use Rattle.plan.proofs.CommandLists.{commands-next, commands-zero}
-use Rattle.base.specs.Choice.{if_then_else_}
 use Rattle.base.proofs.Tests.{by-test, on-if}
 use Rattle.layout.specs.Owners.{symbols}
 use Rattle.counts.specs.Kinds.{pbchElements}
@@ -66,12 +65,12 @@ unfolding gridLength
 grid-is p n s q en es eq = rw (en, es, eq) refl
 
 -- ---- a user's bits
-order-most : (c : Cell) (u : User) → UserIn c u → u .order ≤ 6
-order-most c u h = leb→le (u .order) 6 (among-holds (λ n. leb n 6) orders (u .order) tt (h .order))
+order-most : (c : Cell) (u : User) → UserIn c u → u .order ≤ 8
+order-most c u h = leb→le (u .order) 8 (among-holds (λ n. leb n 8) orders (u .order) tt (h .order))
 
-bits-most : (c : Cell) (f : Frame) (u : User) → UserIn c u → computedBitCount c f u ≤ 6 * userElements c f (u .first) (u .count)
+bits-most : (c : Cell) (f : Frame) (u : User) → UserIn c u → computedBitCount c f u ≤ 8 * userElements c f (u .first) (u .count)
 unfolding computedBitCount
-bits-most c f u h = mul-le-mul {n₂ = 6} {m₂ = userElements c f (u .first) (u .count)} (order-most c u h) (omega arith)
+bits-most c f u h = mul-le-mul {n₂ = 8} {m₂ = userElements c f (u .first) (u .count)} (order-most c u h) (omega arith)
 
 -- an order and a count in blocks are bytes, so that the product does not wrap
 pub bits-fit : (c : Cell) (x : Shape) (u : User) → ShapeIn x → u .order ≤ 255 → u .count ≤ 255 → u .order * countBy c x u ≤ 10924200
@@ -85,7 +84,7 @@ pub bits-are : (c : Cell) (f : Frame) (u : User) (x : Shape) (n : ℕ) → x ≡
 unfolding computedBitCount
 bits-are c f u x n e en = en ∙ ap (λ (g : ℕ). u .order * g) (count-is c f u x e)
 
-bytes-most : (c : Cell) (f : Frame) (us : List User) → Every (UserIn c) us → bytesOf (computedSections c f us) ≤ 6 * allElements c f us
+bytes-most : (c : Cell) (f : Frame) (us : List User) → Every (UserIn c) us → bytesOf (computedSections c f us) ≤ 8 * allElements c f us
 unfolding computedSections bytesOf allElements sumOf
 bytes-most c f [] h = omega arith
 bytes-most c f (u ∷ us) h = omega (arith, bits-most c f u (h .0), bytes-most c f us (h .1))
@@ -116,13 +115,13 @@ unfolding usersStart heads bytesOf
 start-most w p v = omega (arith, pbch-most (p .cell) (p .frame), v .users-at, v .inside)
 
 module _ (w : List ℕ) (p : Plan) (e : checkOf w ≡ accepted p) where
-  -- the users of an accepted plan have at most 16,800 elements together, of at most six bits, so that no length wraps
-  pub users-fit : bytesOf (computedSections (p .cell) (p .frame) (usersFrom (drop (p .users .at) w) (p .users .count))) ≤ 100800
+  -- the users of an accepted plan have at most 16,800 elements together, of at most eight bits, so that no length wraps
+  pub users-fit : bytesOf (computedSections (p .cell) (p .frame) (usersFrom (drop (p .users .at) w) (p .users .count))) ≤ 134400
   unfolding usersOf
   users-fit = omega (arith, bytes-most (p .cell) (p .frame) (usersOf w p) (valid w p e .users), users-few w p e)
 
   module _ (a b : ℕ) (ea : a ≡ usersStart p) (eb : b ≡ bytesOf (computedSections (p .cell) (p .frame) (usersFrom (drop (p .users .at) w) (p .users .count)))) where
-    pub length-room : a + b ≤ 100861 + length w / 24
+    pub length-room : a + b ≤ 134461 + length w / 24
     length-room = omega (arith, start-most w p (valid w p e), users-fit)
 
     pub length-found : a + b ≡ payloadLength w p
@@ -132,7 +131,7 @@ module _ (w : List ℕ) (p : Plan) (e : checkOf w ≡ accepted p) where
 -- ---- the loop of users_length: so many bytes for the users before position at, and left users from there on
 pub record Going (w : List ℕ) (c : Cell) (f : Frame) (start count bytes at left : ℕ) : Type 0 where
   pub so-far : bytes + bytesOf (computedSections c f (usersFrom (drop at w) left)) ≡ bytesOf (computedSections c f (usersFrom (drop start w) count))
-  pub most : bytesOf (computedSections c f (usersFrom (drop start w) count)) ≤ 100800
+  pub most : bytesOf (computedSections c f (usersFrom (drop start w) count)) ≤ 134400
 
 module _ {w : List ℕ} {c : Cell} {f : Frame} {start count bytes at left : ℕ} (g : Going w c f start count bytes at left) where
   pub going-end : left ≤ 0 → bytes ≡ bytesOf (computedSections c f (usersFrom (drop start w) count))
@@ -140,7 +139,7 @@ module _ {w : List ℕ} {c : Cell} {f : Frame} {start count bytes at left : ℕ}
 
   module _ (h : 0 < left) (u : User) (e : u ≡ userOf (drop at w)) where
     module _ (s : ℕ) (es : s ≡ sectionBytes (computedBitCount c f u)) where
-      pub going-room : bytes + s ≤ 100800
+      pub going-room : bytes + s ≤ 134400
       going-room =
           omega (
             arith,

@@ -1,7 +1,7 @@
 // The places of each channel in the order in which its values fill them (document 01, Owners). The specs say it for every owner; the
 // functions here are for the channels whose order is not that of the grid: PCFICH and the PHICH units, which go quad by quad.
 ghost use mathlib.Core.Path.{_≡_};
-ghost use Prim.Native.Nat.{ℕ, _+_, _*_, _≤_, _<_};
+ghost use Prim.Native.Nat.{_+_, _*_, _≤_, _<_};
 ghost use Rattle.layout.specs.Rules.{quadNumber, quadGroup};
 ghost use Rattle.places.specs.Quads.{quadPlace};
 ghost use Rattle.places.specs.Steps.{stepOf};

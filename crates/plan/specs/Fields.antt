@@ -21,9 +21,9 @@ portCounts = 1 ∷ 2 ∷ 4 ∷ []
 abbrev pub sixthCounts : List ℕ
 sixthCounts = 1 ∷ 3 ∷ 6 ∷ 12 ∷ []
 
--- "modulation Q u8 (2, 4, 6 bits)"
+-- "modulation Q u8 (2, 4, 6 bits)"; "modulation 8 joins Q" (document 02, #109)
 abbrev pub orders : List ℕ
-orders = 2 ∷ 4 ∷ 6 ∷ []
+orders = 2 ∷ 4 ∷ 6 ∷ 8 ∷ []
 
 -- "identity C u16 (0–503); blocks N u8 ..; prefix u8 (0 normal, 1 extended); ports P u8 ..; g u8 .."
 unfoldable pub cellOk : Cell → Bool

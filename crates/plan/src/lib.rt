@@ -198,7 +198,7 @@ const PORT_COUNTS: [u8; 3] = [1, 2, 4];
 
 const SIXTH_COUNTS: [u8; 4] = [1, 3, 6, 12];
 
-const ORDERS: [u8; 3] = [2, 4, 6];
+const ORDERS: [u8; 4] = [2, 4, 6, 8];
 
 const COMMAND_BYTES: [u8; 5] = [0x10, 0x11, 0x20, 0x30, 0x00];
 

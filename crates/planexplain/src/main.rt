@@ -84,6 +84,7 @@ fn modulation(order: u8) {
         2 => print::text(b", QPSK"),
         4 => print::text(b", 16QAM"),
         6 => print::text(b", 64QAM"),
+        8 => print::text(b", 256QAM"),
         _ => put(b", modulation ", order as usize, b""),
     }
 }
@@ -196,7 +197,7 @@ fn hi_field(cause: Cause, c: Cell, h: Hi) {
 fn user_field(cause: Cause, c: Cell, u: User) {
     match cause {
         Cause::Rnti => field(b"RNTI", u.rnti as usize, b"1 to 65535"),
-        Cause::Modulation => field(b"modulation", u.order as usize, b"2, 4 or 6"),
+        Cause::Modulation => field(b"modulation", u.order as usize, b"2, 4, 6 or 8"),
         Cause::Count => field(b"count", u.count as usize, b"at least 1"),
         Cause::LastBlock => {
             let sum = u.first as usize + u.count as usize;

@@ -2,7 +2,6 @@
 // implementation. The places are written into a small grid as build writes them, and the elements read back from it.
 use base::Element;
 use base::Pair;
-ghost use mathlib.Core.Path.{_≡_};
 ghost use Prim.Native.Nat.{_≤_, _<_};
 ghost use lib.IntN.{natAbs};
 ghost use Rattle.base.specs.Pairs.{Small};
@@ -46,7 +45,7 @@ fn pair(phich: bool, m: usize, j: usize) -> u8
 
 // Every place of a grid.
 fn fill(phich: bool, ports: u8, places: usize, m: usize, unit: u8, grid: &mut [u8])
-    requires { ⌜ Room ports places (now grid) × (places ≤ 12) × (m ≤ 12) × (unit ≤ 127) ⌝ }
+    requires { ⌜ Room ports places (now grid) × (places ≤ 12) × (m ≤ 12) ⌝ }
     ensures { λ _. ⌜ Room ports places (now (grid .exit)) ⌝ }
 {
     grid::silence(grid);
@@ -66,7 +65,7 @@ fn field(n: usize) {
 }
 
 fn element(e: Element) {
-    field(base::wide(e.unit));
+    field(base::wide(e.byte));
     print::space();
     show::pair(Pair {
         re: base::signed(e.i),
@@ -114,11 +113,11 @@ fn lines(phich: bool, ports: u8, places: usize, m: usize, grid: &[u8])
     }
 }
 
-// A channel of m places in unit 42.
+// A channel of m places in unit 170.
 fn td(ports: u8, m: usize, grid: &mut [u8])
     requires { ⌜ Room ports m (now grid) × (m ≤ 12) ⌝ }
 {
-    fill(false, ports, m, m, 42, grid);
+    fill(false, ports, m, m, 170, grid);
     lines(false, ports, m, m, grid);
 }
 

@@ -1,9 +1,8 @@
 -- What the turns of the schedule need, and how far each leaves the payload. Assumes nothing beyond what reading needs.
-use Prim.Native.Nat.{ℕ, suc, _+_, _-_, _*_, _≤_, _<_}
+use Prim.Native.Nat.{ℕ, _+_, _-_, _*_, _≤_, _<_}
 use mathlib.Core.Path.{_≡_, refl, sym, ap, subst, _∙_}
 use mathlib.Core.Bool.{true, false}
 use mathlib.Core.List.{List}
-use native.Mathlib.Nat.{mul-le-mul}
 use native.Mathlib.Omega.{arith}
 use borrow.Author.Tests.{eqb-true, eqb-false}
 use lib.ListN.{length, drop}
@@ -18,7 +17,6 @@ use Rattle.plan.specs.declared.Plan.{Plan}
 use Rattle.plan.specs.declared.Checked.the-variants.{Plan as accepted}
 use Rattle.plan.proofs.Valid.{valid}
 use Rattle.plan.proofs.Counts.{units-least, users-most}
-use Rattle.layout.specs.Owners.{symbols}
 use Rattle.layout.specs.declared.Mark.{Mark}
 use Rattle.layout.specs.declared.Mark.the-variants.{Primary, Secondary}
 use Rattle.payload.specs.Sections.{sectionBytes, bytesOf}
@@ -114,7 +112,7 @@ module _ {w : List ℕ} {p : Plan} {g before : List ℕ} (start : Readable w p g
         begins = begins w p ok n Pbch tt y;
         section =
             record {
-              area = pbch-in w p ok 2 0 g (omega arith, omega arith, omega arith) (omega arith) (start .room);
+              area = pbch-in w p ok 2 g (omega arith, omega arith, omega arith) (start .room);
               known = pbch-known w p g given (start .made) z;
               pairs = pbch-even w p g given z;
             };
@@ -142,7 +140,7 @@ module _ {w : List ℕ} {p : Plan} {g before : List ℕ} (start : Readable w p g
           begins = begins w p ok n (UserOf u) tt y;
           section =
               record {
-                area = user-in w p ok (nthUser w p i .order) 0 g (user-order w p ok i in-i) (omega arith) (start .room) i in-i (record { rnti = 0; order = 0; first = 0; count = 0 });
+                area = user-in w p ok (nthUser w p i .order) g (user-order w p ok i in-i) (start .room) i in-i (record { rnti = 0; order = 0; first = 0; count = 0 });
                 known = user-known w p g given (start .made) i in-i;
                 pairs = user-even w p g given i in-i;
               };

@@ -5,7 +5,7 @@ use mathlib.Core.Bool.{Bool, true, false, _&&_}
 use mathlib.Core.List.{List, [], _∷_}
 use lib.Dec.{eqb}
 use Rattle.base.specs.Choice.{if_then_else_}
-use Rattle.plan.specs.Answers.{Answer, given, refusedBy}
+use Rattle.plan.specs.Answers.{Answer, given}
 use Rattle.plan.specs.Check.{checkOf, refusedAs, unlessRefused}
 use Rattle.plan.specs.declared.Refusal.{Refusal}
 use Rattle.plan.specs.declared.Refusal.the-variants.{NoPayload}

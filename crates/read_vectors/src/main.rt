@@ -56,8 +56,8 @@ fn call(number: usize, plan: &[u8], grid: &[u8], out: &mut [u8]) {
     print::line();
 }
 
-// The unit after this one, of those that document 01 has.
-fn next_unit(b: u8) -> u8 {
+// The unit byte after this one, of those that elements have.
+fn next_unit_byte(b: u8) -> u8 {
     match b {
         0 => 1,
         1 => 2,
@@ -67,6 +67,8 @@ fn next_unit(b: u8) -> u8 {
         20 => 42,
         42 => 63,
         63 => 84,
+        84 => 170,
+        170 => 255,
         _ => 0,
     }
 }
@@ -83,7 +85,7 @@ fn other(i: usize, b: u8, k: usize) -> u8 {
         return ((wide(b) + 255) % 256) as u8;
     }
     if i % 3 == 0 {
-        return next_unit(b);
+        return next_unit_byte(b);
     }
     ((256 - wide(b)) % 256) as u8
 }

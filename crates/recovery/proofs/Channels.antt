@@ -78,7 +78,7 @@ module _
         let s : ℕ = symbolAt (p .cell) (placeOf w p o j) in
         let k : ℕ = carrierAt (p .cell) (placeOf w p o j) in
         let in-port : q < p .cell .ports = own-inside (j / 2) occurs in
-        let h : Small 7 (d j) = order-symbol Q order (ownerBit w p A o) x j in
+        let h : Small 15 (d j) = order-symbol Q order (ownerBit w p A o) x j in
         symbol-in w p ok o A (j / 2) j l in-port
         ∙ ap pairOf
         (sends q s k

@@ -4,4 +4,5 @@ pub mod Cases
 pub mod Bounds
 pub mod Nearness
 pub mod Answers
+pub mod Elements
 pub mod Readings

@@ -1,11 +1,11 @@
 -- Rules of the table of units, for any table. Assumes nothing.
-use mathlib.Core.Path.{_≡_, sym}
+use mathlib.Core.Path.{_≡_, refl, sym}
 use mathlib.Core.Bool.{Bool, true, false, cond}
 use mathlib.Core.List.{List, [], _∷_}
 use Prim.Native.Nat.{ℕ, zero, suc, _<_}
 use native.Mathlib.Nat.{not-suc-le-zero, le-of-suc-le-suc}
 use native.Mathlib.Omega.{arith}
-use borrow.Author.Tests.{eq-eqb, ne-eqb}
+use borrow.Author.Tests.{eq-eqb, ne-eqb, eqb-true}
 use lib.Dec.{T, eqb}
 use lib.Ieee.Fits.{and-l, and-r}
 use lib.ListN.{length, getD, drop}
@@ -22,6 +22,15 @@ found P (r ∷ rs) t b w e = pick (eqb b (r .byte)) e (found P rs (and-r (P r) (
     pick : (c : Bool) → cond c (Levels r) (seek b rs) ≡ Levels w → (seek b rs ≡ Levels w → T (P w)) → T (P w)
     pick true q later = let same : r ≡ w = cc in rw (← same) (and-l (P r) (every P rs) t)
     pick false q later = later q
+
+-- the row of a byte has that byte
+pub has-byte : (rs : List UnitRow) (b : ℕ) (w : UnitRow) → seek b rs ≡ Levels w → w .byte ≡ b
+has-byte [] b w e = let z : _≡_ {A = ℕ} 0 1 = cc in absurd (omega arith)
+has-byte (r ∷ rs) b w e = pick (eqb b (r .byte)) refl e (has-byte rs b w)
+  where
+    pick : (c : Bool) → eqb b (r .byte) ≡ c → cond c (Levels r) (seek b rs) ≡ Levels w → (seek b rs ≡ Levels w → w .byte ≡ b) → w .byte ≡ b
+    pick true q f later = let same : r ≡ w = cc in rw (← same) (sym (eqb-true b (r .byte) q))
+    pick false q f later = later f
 
 -- what is asked of the rows from k on, where row k has the byte, and where it has another
 pub hit : (b : ℕ) (rs : List UnitRow) (d : UnitRow) (k : ℕ) → k < length rs → getD rs k d .byte ≡ b → seek b (drop k rs) ≡ Levels (getD rs k d)

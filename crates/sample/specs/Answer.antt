@@ -1,4 +1,4 @@
--- What the promises cite: the sample of an element's three bytes, unit, I and J. Quoted words are document 01's, under the heading named.
+-- What the promises cite: the sample of an element's three bytes, a unit's, I and J. Quoted words are document 01's, under the heading named.
 use Prim.Native.Nat.{ℕ}
 use mathlib.Core.Bool.{cond}
 use lib.Dec.{eqb}

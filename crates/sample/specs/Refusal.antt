@@ -1,4 +1,4 @@
--- What the promises cite: refusal 9, phrase by phrase. Quoted words are document 01's, under Refusals. b, i and j are the bytes: unit, I and J.
+-- What the promises cite: refusal 9, phrase by phrase. Quoted words are document 01's, under Refusals. b, i and j are the bytes: a unit's, I and J.
 use Prim.Native.Nat.{ℕ}
 use mathlib.Core.Bool.{Bool, true, false, not, _&&_, _||_}
 use lib.Dec.{eqb, leb}
@@ -26,5 +26,5 @@ noElement b i j =
     || (eqb b 0 && not (eqb i 0 && eqb j 0))
     -- "phase outside 0..62 or J ≠ 0"; a byte above 127 is a negative I
     || (eqb b 63 && (not (leb i 62) || not (eqb j 0)))
-    -- "or a level beyond ±8"; the table says 8
+    -- "or a level beyond ±8", and "±15" (document 02, #109): the table says which
     || (beyond (scaleOf b) (signedOf i) || beyond (scaleOf b) (signedOf j))

@@ -5,26 +5,29 @@ use mathlib.Core.List.{List, [], _∷_}
 use lib.Dec.{eqb}
 use lib.IntN.{pos}
 use lib.Ieee.{Float, fin, binary32, ofBits}
+use Rattle.base.specs.Bytes.{unitByte}
 use Rattle.sample.specs.declared.UnitRow.{UnitRow}
 use Rattle.sample.specs.declared.Scale.{Scale}
 use Rattle.sample.specs.declared.Scale.the-variants.{Levels, Nothing}
 
--- A row: the unit's byte in the grid, the unit (document 01's term: u of (I + jJ)/√u), the largest level either way, the bits of the gain, an f32.
--- The byte and the unit are apart, since a unit above 255 has another byte.
-abbrev pub unitRow : ℕ → ℕ → ℕ → ℕ → UnitRow
-unitRow b u l bits = record { byte = b; unit = u; limit = l; gain = ofBits binary32 bits }
+-- A row: the unit (document 01's term: u of (I + jJ)/√u) with its byte in the grid, the largest level either way, the bits of the gain, an f32.
+abbrev pub unitRow : ℕ → ℕ → ℕ → UnitRow
+unitRow u l bits = record { byte = unitByte u; unit = u; limit = l; gain = ofBits binary32 bits }
 
--- Document 01, Grid: "Units: 1, 2, 4, 10, 20, 42, 84", each its own byte. Refusals, 9: no "level beyond ±8", the same for each of them.
+-- Document 01, Grid: "Units: 1, 2, 4, 10, 20, 42, 84". Refusals, 9: no "level beyond ±8", the same for each of them.
+-- Document 02, #109: "Unit 170 with one port; with diversity 340", "Levels to ±15 are legal in these two units only, which refusal 9 respects".
 -- Samples: "the gain is the f32 nearest 1/√u", which `Levelled` of Promise says of the row of every sample.
 abbrev pub unitRows : List UnitRow
 unitRows =
-    unitRow 1 1 8 0x3f80_0000
-    ∷ unitRow 2 2 8 0x3f35_04f3
-    ∷ unitRow 4 4 8 0x3f00_0000
-    ∷ unitRow 10 10 8 0x3ea1_e89b
-    ∷ unitRow 20 20 8 0x3e64_f92e
-    ∷ unitRow 42 42 8 0x3e1e_01b3
-    ∷ unitRow 84 84 8 0x3ddf_7483
+    unitRow 1 8 0x3f80_0000
+    ∷ unitRow 2 8 0x3f35_04f3
+    ∷ unitRow 4 8 0x3f00_0000
+    ∷ unitRow 10 8 0x3ea1_e89b
+    ∷ unitRow 20 8 0x3e64_f92e
+    ∷ unitRow 42 8 0x3e1e_01b3
+    ∷ unitRow 84 8 0x3ddf_7483
+    ∷ unitRow 170 15 0x3d9d_130e
+    ∷ unitRow 340 15 0x3d5e_2305
     ∷ []
 
 -- the first row with the byte

@@ -29,75 +29,92 @@ pub enum SampleAnswer {
 }
 
 // A unit of levels: its byte in the grid, the unit u itself, the largest level either way, and the f32 nearest 1 / √u.
-// Nothing computes with u: it is what the contracts hold the gain and the samples to.
-struct UnitRow {
-    byte: u8,
-    unit: u16,
-    limit: u8,
-    gain: f32,
+// Nothing computes with u: it is what the contracts hold the gain and the samples to. Public for the laws of crates above.
+pub struct UnitRow {
+    pub byte: u8,
+    pub unit: u16,
+    pub limit: u8,
+    pub gain: f32,
 }
 
-enum Scale {
+pub enum Scale {
     Levels(UnitRow),
     Nothing,
 }
 
-const COUNT: usize = 7;
+const COUNT: usize = 9;
+
+// The largest level either way: in document 01's units, and in the two of 256QAM.
+const LIMIT: u8 = 8;
+
+const LIMIT_256QAM: u8 = 15;
 
 // The table of units. A new unit is a new row here and in specs/Units.antt.
 const ROWS: [UnitRow; COUNT] = [
     UnitRow {
         byte: 1,
         unit: 1,
-        limit: 8,
+        limit: LIMIT,
         gain: 1.0,
     },
     UnitRow {
         byte: 2,
         unit: 2,
-        limit: 8,
+        limit: LIMIT,
         gain: 0.70710677,
     },
     UnitRow {
         byte: 4,
         unit: 4,
-        limit: 8,
+        limit: LIMIT,
         gain: 0.5,
     },
     UnitRow {
         byte: 10,
         unit: 10,
-        limit: 8,
+        limit: LIMIT,
         gain: 0.31622776,
     },
     UnitRow {
         byte: 20,
         unit: 20,
-        limit: 8,
+        limit: LIMIT,
         gain: 0.2236068,
     },
     UnitRow {
         byte: 42,
         unit: 42,
-        limit: 8,
+        limit: LIMIT,
         gain: 0.15430336,
     },
     UnitRow {
         byte: 84,
         unit: 84,
-        limit: 8,
+        limit: LIMIT,
         gain: 0.10910895,
+    },
+    UnitRow {
+        byte: 170,
+        unit: 170,
+        limit: LIMIT_256QAM,
+        gain: 0.0766965,
+    },
+    UnitRow {
+        byte: 255,
+        unit: 340,
+        limit: LIMIT_256QAM,
+        gain: 0.054232616,
     },
 ];
 
-// The row of a unit byte, if it has one.
-fn scale_of(unit: u8) -> Scale
-    ensures { λ r. ⌜ r ≡ scaleOf unit ⌝ }
+// The row of a unit's byte, if it has one.
+fn scale_of(byte: u8) -> Scale
+    ensures { λ r. ⌜ r ≡ scaleOf byte ⌝ }
 {
     let mut k = 0;
     while k < COUNT {
         let row = ROWS[k];
-        if row.byte == unit {
+        if row.byte == byte {
             return Scale::Levels(row);
         }
         k += 1;
@@ -176,15 +193,15 @@ fn scaled(s: Scale, i: u8, j: u8) -> SampleAnswer
     }
 }
 
-// The sample of any three bytes of a grid: unit, I, J. Refused where they are no element.
-pub fn sample_at(unit: u8, i: u8, j: u8) -> SampleAnswer
-    ensures { λ r. ⌜ Sampled unit i j r ⌝ }
+// The sample of any three bytes of a grid: a unit's byte, I, J. Refused where they are no element.
+pub fn sample_at(byte: u8, i: u8, j: u8) -> SampleAnswer
+    ensures { λ r. ⌜ Sampled byte i j r ⌝ }
 {
-    if unit == 0 {
+    if byte == 0 {
         return silent(i, j);
     }
-    if unit == 63 {
+    if byte == 63 {
         return phase(i, j);
     }
-    scaled(scale_of(unit), i, j)
+    scaled(scale_of(byte), i, j)
 }

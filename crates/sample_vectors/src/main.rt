@@ -1,8 +1,9 @@
-// Vectors of the sample: the gains, every level of every unit, and how many pairs of bytes each unit takes.
+// Vectors of the sample: the gains, every level to ±16 of every unit, and how many pairs of bytes each unit byte takes.
 use sample::Sample;
 use sample::SampleAnswer;
 
-const UNITS: [u8; 7] = [1, 2, 4, 10, 20, 42, 84];
+// The bytes of the units of levels.
+const BYTES: [u8; 9] = [1, 2, 4, 10, 20, 42, 84, 170, 255];
 
 // How many answers of each kind.
 struct Counts {
@@ -18,54 +19,57 @@ fn bits(x: f32) -> u32 {
 }
 
 // The sample of a level, and the line's end.
-fn level_bits(unit: u8, i: u8) {
-    if let SampleAnswer::Is(s) = sample::sample_at(unit, i, 0) {
-        if let Sample::At(p) = s {
-            show::hex(bits(p.re));
+fn level_bits(byte: u8, i: u8) {
+    match sample::sample_at(byte, i, 0) {
+        SampleAnswer::Is(s) => {
+            if let Sample::At(p) = s {
+                show::hex(bits(p.re));
+            }
         }
+        SampleAnswer::Refused => print::text(b"refused"),
     }
     print::line();
 }
 
 // The gain is the sample of level 1.
-fn gain_line(unit: u8) {
+fn gain_line(byte: u8) {
     print::text(b"gain ");
-    print::number(unit as u64);
+    print::number(byte as u64);
     print::space();
-    level_bits(unit, 1);
+    level_bits(byte, 1);
 }
 
-fn level_line(unit: u8, i: u8) {
+fn level_line(byte: u8, i: u8) {
     print::text(b"level ");
-    print::number(unit as u64);
+    print::number(byte as u64);
     print::space();
     show::level(base::signed(i));
     print::space();
-    level_bits(unit, i);
+    level_bits(byte, i);
 }
 
 fn gains() {
     let mut k = 0;
-    while k < 7 {
-        gain_line(UNITS[k]);
+    while k < 9 {
+        gain_line(BYTES[k]);
         k += 1;
     }
 }
 
-// The byte of the level n % 17 - 8.
+// The byte of the level n % 33 - 16.
 fn byte_at(n: usize) -> u8 {
-    let m = n % 17;
-    if m < 8 {
-        (m + 248) as u8
+    let m = n % 33;
+    if m < 16 {
+        (m + 240) as u8
     } else {
-        (m - 8) as u8
+        (m - 16) as u8
     }
 }
 
 fn levels() {
     let mut k = 0;
-    while k < 119 {
-        level_line(UNITS[k / 17], byte_at(k));
+    while k < 297 {
+        level_line(BYTES[k / 33], byte_at(k));
         k += 1;
     }
 }
@@ -84,7 +88,7 @@ fn counted(c: Counts, a: SampleAnswer) -> Counts {
 }
 
 // Over all pairs of bytes.
-fn tally(unit: u8) -> Counts {
+fn tally(byte: u8) -> Counts {
     let mut c = Counts {
         silence: 0,
         phase: 0,
@@ -93,16 +97,16 @@ fn tally(unit: u8) -> Counts {
     };
     let mut n: u32 = 0;
     while n < 65536 {
-        c = counted(c, sample::sample_at(unit, (n / 256) as u8, (n % 256) as u8));
+        c = counted(c, sample::sample_at(byte, (n / 256) as u8, (n % 256) as u8));
         n += 1;
     }
     c
 }
 
-fn unit_line(unit: u8) {
-    let c = tally(unit);
+fn unit_line(byte: u8) {
+    let c = tally(byte);
     print::text(b"unit ");
-    print::number(unit as u64);
+    print::number(byte as u64);
     print::space();
     print::number(c.silence as u64);
     print::space();

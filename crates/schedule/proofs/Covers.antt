@@ -6,8 +6,8 @@ use mathlib.Core.Bool.{Bool, true, false, _&&_}
 use mathlib.Core.List.{List}
 use native.Mathlib.Decide.{ℕ-discrete}
 use native.Mathlib.Omega.{arith}
-use borrow.Author.Tests.{ne-eqb, ltb-true}
-use lib.Dec.{eqb, ltb}
+use borrow.Author.Tests.{ne-eqb}
+use lib.Dec.{eqb}
 use Rattle.base.proofs.Tests.{clash, both}
 use Rattle.base.specs.declared.Pair.{Pair}
 use Rattle.base.specs.Bytes.{silent}
@@ -22,7 +22,7 @@ use Rattle.plan.specs.CommandLists.{nthUser}
 use Rattle.plan.specs.declared.Plan.{Plan}
 use Rattle.plan.proofs.Valid.{valid}
 use Rattle.plan.specs.declared.Checked.the-variants.{Plan as accepted}
-use Rattle.layout.specs.Rules.{crsSymbol, crs, crsOf, marked, pss, sss, pbch, inPbchArea}
+use Rattle.layout.specs.Rules.{crs, crsOf, marked, pss, sss, pbch, inPbchArea}
 use Rattle.layout.specs.Owners.{owns, fixedRule}
 use Rattle.layout.specs.declared.Mark.the-variants.{Primary, Secondary}
 use Rattle.layout.specs.declared.Owner.{Owner}

@@ -17,7 +17,6 @@ use Rattle.plan.specs.declared.Checked.the-variants.{Plan as accepted}
 use Rattle.plan.proofs.Counts.{units-most, his-most, users-most}
 use Rattle.plan.proofs.OneOf.{not-in}
 use Rattle.plan.proofs.Valid.{valid}
-use Rattle.layout.specs.Owners.{symbols}
 use Rattle.layout.specs.declared.Mark.the-variants.{Primary, Secondary}
 use Rattle.payload.specs.Sections.{bytesOf}
 use Rattle.payload.specs.Payload.{heads, payloadLength, usersStart}
@@ -76,7 +75,7 @@ no-user w p n (Phich m) k h = omega arith
 no-user w p n (UserOf u) k h = absurd (not-in (0 ∷ 1 ∷ 2 ∷ 3 ∷ 4 ∷ []) 5 k refl)
 
 -- no payload is long
-pub payload-few : (w : List ℕ) (p : Plan) → checkOf w ≡ accepted p → payloadLength w p ≤ 100885
+pub payload-few : (w : List ℕ) (p : Plan) → checkOf w ≡ accepted p → payloadLength w p ≤ 134485
 unfolding usersStart heads bytesOf
 payload-few w p ok =
     let l = length-found w p ok (usersStart p) _ refl refl in

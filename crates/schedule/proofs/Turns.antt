@@ -17,7 +17,6 @@ use Rattle.plan.specs.declared.Plan.{Plan}
 use Rattle.plan.specs.declared.User.{User}
 use Rattle.plan.specs.declared.Checked.the-variants.{Plan as accepted}
 use Rattle.plan.proofs.Valid.{valid}
-use Rattle.layout.specs.Owners.{symbols}
 use Rattle.layout.specs.declared.Mark.the-variants.{Primary, Secondary}
 use Rattle.payload.specs.Sections.{sectionBytes}
 use Rattle.payload.specs.Loops.{computedBitCount}

@@ -1,7 +1,7 @@
 -- For the inner contracts and loops only: THE SCHEDULE, the channels of a plan in the order in which they are built, verified and read, each
 -- with its turn's number. w is a plan's bytes, p the plan that the plan check answers with. An element's number is port × T + place, T the
 -- places on a port. The laws in proofs/ show that no element is sent in two turns (Owners) and that the rest is silent (Covers).
-use Prim.Native.Nat.{ℕ, zero, suc, _+_, _-_, _*_, _/_, _%_, _≤_, _<_}
+use Prim.Native.Nat.{ℕ, zero, suc, _+_, _-_, _*_, _/_, _≤_, _<_}
 use mathlib.Core.Path.{_≡_}
 use mathlib.Core.Bool.{Bool, true, _&&_}
 use mathlib.Core.List.{List}

@@ -233,7 +233,7 @@ module _ (c : Cell) (ok : CellIn c) (y first : ℕ) (in-y : (1 ≤ y) × (y ≤ 
 
   phases : (e : ℕ) → inRow first 62 e ≡ true → phaseSent (c .identity) first e ≡ pssSent c e
   unfolding phaseSent phaseElement pssSent pssElement
-  phases e t = ap (λ (n : ℕ). record { unit = 63; i = pssPhase (c .identity) n; j = 0 }) (mark-index e t)
+  phases e t = ap (λ (n : ℕ). record { byte = 63; i = pssPhase (c .identity) n; j = 0 }) (mark-index e t)
 
   pub pss-done :
       {X : Type 0} {Done : Deed X} {Also : Step X} {none x : X} → Accumulates Done Also none

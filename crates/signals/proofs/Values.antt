@@ -90,9 +90,9 @@ pair-next r m count ep en =
 past-first : (first i : ℕ) → i ≡ first + i - first
 past-first first i = omega arith
 
-pub phase-made : (C i : ℕ) {phase : ℕ} → phase ≡ pssPhase C i → _≡_ {A = Element} (record { unit = 63; i = phase; j = 0 }) (phaseElement C i)
+pub phase-made : (C i : ℕ) {phase : ℕ} → phase ≡ pssPhase C i → _≡_ {A = Element} (record { byte = 63; i = phase; j = 0 }) (phaseElement C i)
 unfolding phaseElement
-phase-made C i e = ap (λ (x : ℕ). record { unit = 63; i = x; j = 0 }) e
+phase-made C i e = ap (λ (x : ℕ). record { byte = 63; i = x; j = 0 }) e
 
 pub phase-value : (C first i : ℕ) {el : Element} → el ≡ phaseElement C i → el ≡ phaseSent C first (first + i)
 unfolding phaseSent

@@ -64,7 +64,7 @@ unfoldable pub inRow : ℕ → ℕ → ℕ → Bool
 inRow first n e = leb first e && ltb e (first + n)
 
 unfoldable pub phaseElement : ℕ → ℕ → Element
-phaseElement C i = record { unit = 63; i = pssPhase C i; j = 0 }
+phaseElement C i = record { byte = 63; i = pssPhase C i; j = 0 }
 
 unfoldable pub phaseSent : ℕ → ℕ → ℕ → Element
 phaseSent C first e = phaseElement C (e - first)

@@ -61,7 +61,7 @@ pub fn phase_element(identity: u16, i: usize) -> Element
 {
     let phase = sync::pss_phase(identity, i);
     Element {
-        unit: 63,
+        byte: 63,
         i: phase,
         j: 0,
     }

@@ -18,9 +18,9 @@ use Rattle.subframe.specs.Elements.{elementAt}
 use Rattle.subframe.specs.Grid.{elementNumbered, gridOf}
 
 -- ---- three bytes are an element
-element-of : {x y : Element} → x .unit ≡ y .unit → x .i ≡ y .i → x .j ≡ y .j → x ≡ y
+element-of : {x y : Element} → x .byte ≡ y .byte → x .i ≡ y .i → x .j ≡ y .j → x ≡ y
 element-of {x} {y} e f g =
-    ap₂ (λ (u i : ℕ). record { unit = u; i = i; j = x .j }) e f ∙ ap (λ (j : ℕ). record { unit = y .unit; i = y .i; j = j }) g
+    ap₂ (λ (u i : ℕ). record { byte = u; i = i; j = x .j }) e f ∙ ap (λ (j : ℕ). record { byte = y .byte; i = y .i; j = j }) g
 
 pub element-same : {x y : Element} → ((b : ℕ) → b < 3 → byteIn x b ≡ byteIn y b) → x ≡ y
 element-same h = element-of (h 0 (omega arith)) (h 1 (omega arith)) (h 2 (omega arith))

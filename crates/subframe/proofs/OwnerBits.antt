@@ -76,7 +76,8 @@ order-of : (q : ℕ) → Among q orders → Order q
 order-of q (inl e) = omega arith
 order-of q (inr (inl e)) = omega arith
 order-of q (inr (inr (inl e))) = omega arith
-order-of q (inr (inr (inr e))) = absurd e
+order-of q (inr (inr (inr (inl e)))) = omega arith
+order-of q (inr (inr (inr (inr e)))) = absurd e
 
 module _ (w : List ℕ) (p : Plan) where
   pub user-size : (i : ℕ) → i < length (usersOf w p) → length (ownerBits w p (UserOf i)) ≡ nthUser w p i .order * countOf w p (UserOf i)

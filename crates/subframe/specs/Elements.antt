@@ -50,7 +50,7 @@ markNumber cell k = k + 31 - 6 * cell .blocks
 
 -- "unit 63, I = w×t mod 63" (sync/specs/Pss.antt); "Unit 63 means phase −2πI/63, I 0..62, J = 0"
 unfoldable pub pssElement : Cell → ℕ → ℕ → Element
-pssElement cell port k = if eqb port 0 then record { unit = 63; i = pssPhase (cell .identity) (markNumber cell k); j = 0 } else silent
+pssElement cell port k = if eqb port 0 then record { byte = 63; i = pssPhase (cell .identity) (markNumber cell k); j = 0 } else silent
 
 -- "unit 1, J = 0, by 36.211 6.11.2"
 unfoldable pub sssElement : Cell → Frame → ℕ → ℕ → Element
@@ -95,8 +95,9 @@ userSymbol w p payload i j =
 
 -- ---- THE ELEMENT of an owner's place (s, k) on a port. The j-th of a channel's places, in its filling order (6.3.5, 6.6.4, 6.7.4, 6.9.3),
 -- takes its j-th symbol: "P = 1 sends on port 0. P = 2, 4 (CRS, PSS and SSS apart): layer mapping and precoding 6.3.3.3, 6.3.4.3, units
--- doubled, ports without a term silent"; "Units 2, 10, 42; PHICH 2, kept where a sum is 0"; "An element given no value on a port is
--- silent there". `countOf` of a user is the G of its section
+-- doubled, ports without a term silent"; "Units 2, 10, 42; PHICH 2, kept where a sum is 0", "Unit 170 with one port; with diversity 340,
+-- whose unit byte is 255" (document 02, #109); "An element given no value on a port is silent there". `countOf` of a user is the G of its
+-- section
 unfoldable pub elementFor : List ℕ → Plan → List ℕ → Owner → ℕ → ℕ → ℕ → Element
 elementFor w p payload (Crs q) port s k = crsElement (p .cell) (p .frame) q port s k
 elementFor w p payload (Sync Primary) port s k = pssElement (p .cell) port k

@@ -1,15 +1,14 @@
 -- The secondary signal in its two words, and its levels. Assumes nothing.
 use Prim.Native.Nat.{ℕ, zero, suc, _+_, _/_, _%_, _^_, _<_}
-use mathlib.Core.Path.{_≡_, refl, sym, ap, ap₂, _∙_}
+use mathlib.Core.Path.{_≡_, refl, ap, ap₂, _∙_}
 use mathlib.Core.Bool.{Bool, true, false, cond}
 use native.Mathlib.Omega.{arith}
 use borrow.Author.Tests.{eq-eqb, ne-eqb}
 use lib.Bits.{bitXor}
 use lib.Dec.{eqb}
-use lib.IntN.{pos, negsuc}
+use lib.IntN.{pos}
 use Rattle.base.specs.Signs.{flip}
 use Rattle.base.specs.Digits.{dig}
-use Rattle.base.proofs.Signs.{flip-one}
 use Rattle.sync.specs.declared.Indices.{Indices}
 use Rattle.sync.specs.declared.Sss.{Sss}
 use Rattle.sync.specs.declared.Words.{Words}

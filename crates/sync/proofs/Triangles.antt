@@ -7,7 +7,6 @@ use native.Mathlib.Nat.{mul-le-mul}
 use native.Mathlib.Omega.{arith}
 use borrow.Author.Tests.{le-leb, lt-leb}
 use lib.Dec.{leb, leb→le}
-use lib.ListN.{getD}
 use Rattle.base.proofs.Computed.{every-at}
 use Rattle.sync.specs.Pss.{pssRoot, pssT, pssPhase}
 use Rattle.sync.specs.Sss.{qPrime, qOf, eOf, m0Of, m1Of}

@@ -155,7 +155,7 @@ module _
       read : Holds (ownerSends w p o) (elementDue w p g) g → S j ≡ d j
       unfolding symbolIn
       read h =
-          let small : Small 7 (d j) = order-symbol Q order (ownerBit w p (payloadIn w p g) o) x j in
+          let small : Small 15 (d j) = order-symbol Q order (ownerBit w p (payloadIn w p g) o) x j in
           ap pairOf
           (h .elements at at-sent
           ∙ sym (sent-due d (λ n r. refl) at at-sent)

@@ -2,16 +2,14 @@
 -- turn after turn. Assumes nothing beyond the plan check's answer.
 use Prim.Native.Nat.{ℕ, _+_, _-_, _*_, _%_, _≤_, _<_}
 use mathlib.Core.Path.{_≡_, refl, sym, ap, subst, _∙_}
-use mathlib.Core.Bool.{Bool, true, false, _||_}
+use mathlib.Core.Bool.{true, false}
 use mathlib.Core.List.{List, []}
-use native.Mathlib.Decide.{ℕ-discrete}
 use native.Mathlib.Omega.{arith}
 use borrow.Author.Tests.{eqb-true}
 use lib.ListN.{length, take, drop}
-use Rattle.base.specs.declared.Element.{Element}
 use Rattle.gold.specs.declared.Registers.{Registers}
-use Rattle.modulation.specs.Symbols.{Order, unitIn, unitOf}
-use Rattle.modulation.proofs.Formulas.{unit-small}
+use Rattle.modulation.specs.Symbols.{Order, unitOf}
+use Rattle.modulation.proofs.Orders.{unit-some}
 use Rattle.phich.specs.Spreading.{spreadLength}
 use Rattle.phich.specs.Loops.{QuadSums}
 use Rattle.phich.proofs.Scrambled.{part-is}
@@ -79,16 +77,6 @@ use Rattle.verify.specs.Made.{elementDue, Given, Planned, Shared, SentSe
 use Rattle.verify.proofs.Areas.{pbch-seen, user-seen}
 use Rattle.verify.proofs.Known.{pbch-even, user-even}
 
--- the unit of an order is not 0
-unit-some : (q : ℕ) → Order q → 0 < unitOf q
-unfolding unitOf unitIn
-unit-some q o = pick (ℕ-discrete q 2) (ℕ-discrete q 4)
-  where
-    pick : Dec (q ≡ 2) → Dec (q ≡ 4) → 0 < unitOf q
-    pick (yes e) d = rw e (omega arith)
-    pick (no n) (yes e) = rw e (omega arith)
-    pick (no n) (no m) = let e : q ≡ 6 = omega (arith, o) in rw e (omega arith)
-
 -- ---- WHAT A COMPARISON NEEDS, by channel
 module _ {w : List ℕ} {p : Plan} {g : List ℕ} where
   module _ {ch : Channel} (k : Planned w p g ch) where
@@ -145,12 +133,12 @@ module _ {w : List ℕ} {p : Plan} {g : List ℕ} where
         order-in : Order (u .order)
         order-in = subst (λ (v : User). Order (v .order)) (sym user-is) (user-order w p ok i in-i)
 
-        area-in : AreaIn (userArea (p .cell) (p .frame) u) (u .order) (unitOf (u .order)) g
+        area-in : AreaIn (userArea (p .cell) (p .frame) u) (u .order) g
         unfolding nthUser
         area-in =
             let d : User = record { rnti = 0; order = 0; first = 0; count = 0 } in
-            subst (λ (v : User). AreaIn (userArea (p .cell) (p .frame) v) (u .order) (unitOf (u .order)) g) (sym user-is)
-            (areas.user-in w p ok (u .order) (unitOf (u .order)) g order-in (omega (arith, unit-small (u .order))) (k .given .room) i in-i d)
+            subst (λ (v : User). AreaIn (userArea (p .cell) (p .frame) v) (u .order) g) (sym user-is)
+            (areas.user-in w p ok (u .order) g order-in (k .given .room) i in-i d)
 
         pub user-ready : {a : Area} {unit : ℕ} → a ≡ userArea (p .cell) (p .frame) u → unit ≡ unitOf (u .order) → CompareIn a (u .order) unit masks g
         user-ready ea eu =
@@ -177,7 +165,7 @@ module _ {w : List ℕ} {p : Plan} {g : List ℕ} where
     pbch-ready {a} {masks} ea m =
         subst (λ (b : Area). CompareIn b 2 2 masks g) (sym ea)
         (record {
-          area = areas.pbch-in w p (ok k) 2 2 g (omega arith) (omega arith) (k .given .room);
+          area = areas.pbch-in w p (ok k) 2 g (omega arith) (k .given .room);
           some = omega arith;
           pairs = pbch-even w p g (k .given) zero-th;
           signals = λ many. (omega arith, λ e. omega arith);

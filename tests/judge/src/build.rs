@@ -5,6 +5,7 @@ use crate::owners::{layout, Layout};
 use crate::payload::{pbch_bits, Sections};
 use crate::plan::{check, Plan, Refusal, UserCommand, GRID_LENGTH, PAYLOAD_LENGTH, SPARE_BIT};
 use crate::precoding::{precode, precode_phich, Vector};
+use crate::sample::{greatest_level, unit_byte};
 use crate::sequence::sequence;
 use crate::{control, crs, phich, sync, Complex, Place};
 
@@ -22,16 +23,18 @@ pub fn element_at(symbols: usize, subcarriers: usize, port: usize, place: Place)
 }
 
 impl Grid {
-    fn put(&mut self, port: usize, place: Place, unit: u8, value: Complex) {
+    fn put(&mut self, port: usize, place: Place, unit: u16, value: Complex) {
         assert!(port < self.ports && place.s < self.symbols && place.k < self.subcarriers);
-        assert!(value.re.abs() <= 62 && value.im.abs() <= 8, "no level {value:?}");
+        let most = if unit == 63 { 62 } else { i32::from(greatest_level(unit)) };
+        assert!(value.re.abs() <= most && value.im.abs() <= most, "no level {value:?} in unit {unit}");
         let at = element_at(self.symbols, self.subcarriers, port, place);
         assert_eq!(self.bytes[at], 0, "{place:?} is written twice on port {port}");
-        self.bytes[at..at + 3].copy_from_slice(&[unit, value.re as i8 as u8, value.im as i8 as u8]);
+        let element = [unit_byte(unit), value.re as i8 as u8, value.im as i8 as u8];
+        self.bytes[at..at + 3].copy_from_slice(&element);
     }
 
     /// A precoded channel: "units doubled, ports without a term silent".
-    fn put_channel(&mut self, places: &[Place], unit: u8, y: &[Vector]) {
+    fn put_channel(&mut self, places: &[Place], unit: u16, y: &[Vector]) {
         assert_eq!(places.len(), y.len());
         let unit = if self.ports == 1 { unit } else { 2 * unit };
         for (place, vector) in places.iter().zip(y) {

@@ -3,7 +3,7 @@
 use crate::build::build;
 use crate::generate::{
     allocations, example_input, example_variant_input, his, null_symbol_plan, payload_of_bits, Fixed, His,
-    Random, Users,
+    Random, Users, ORDERS,
 };
 use crate::harness::unhex;
 use crate::owners::layout;
@@ -112,6 +112,7 @@ pub fn calls() -> Vec<Call> {
     calls.extend(null_symbols(&mut random));
     calls.extend(odd_counts(&mut random));
     calls.extend(equal_bits(&mut random));
+    calls.extend(longest(&mut random));
     calls.extend(alone());
     calls.extend(refused_plans());
     calls.extend(refused_buffers(&mut random));
@@ -148,7 +149,9 @@ fn plan(fixed: &Fixed, his: Vec<Vec<u8>>, users: Vec<Vec<u8>>) -> Vec<u8> {
     [fixed.commands().concat(), his.concat(), users.concat(), vec![END]].concat()
 }
 
-const ORDERS: [u8; 3] = [2, 4, 6];
+/// Q of users one after another, round and round: every order stands before itself and before every other once.
+const TURN: [u8; 16] = [2, 2, 4, 2, 6, 2, 8, 4, 4, 6, 4, 8, 6, 6, 8, 8];
+
 const WIDTHS: [usize; 5] = [15, 25, 50, 75, 100];
 const PORTS: [usize; 3] = [1, 2, 4];
 const SIXTHS: [usize; 4] = [1, 3, 6, 12];
@@ -177,8 +180,12 @@ fn one_user(random: &mut Random) -> Vec<Call> {
         let subframe = [0, 5, 1, 2, 9, 0, 6][i % 7];
         let (fixed, pace) = combination(i, 0, (i * 67 + 1) % 504, subframe);
         let his = his(random, &fixed.cell(), [His::One, His::None, His::Some, His::OneGroup][pace % 4]);
-        // QPSK in the wide cells, else the input gets long.
-        let bits = if fixed.blocks > 50 { 2 } else { ORDERS[pace % 3] };
+        // The highest order in the narrowest cells, QPSK in the wide ones, else the input gets long.
+        let bits = match fixed.blocks {
+            15 => 8,
+            25 | 50 => ORDERS[pace % 3],
+            _ => 2,
+        };
         let users = users(random, &[(0, fixed.blocks)], |_| bits);
         accepted(random, plan(&fixed, his, users))
     };
@@ -192,7 +199,7 @@ fn several_users(random: &mut Random) -> Vec<Call> {
         let (fixed, pace) = combination(i, 1, 503 - (i * 89) % 504, subframe);
         let his = his(random, &fixed.cell(), if pace % 3 == 0 { His::None } else { His::All });
         let list = allocations(random, fixed.blocks, Users::Many);
-        let users = users(random, &list, |user| ORDERS[(user + i) % 3]);
+        let users = users(random, &list, |user| TURN[(user + 3 * i + 8) % 16]);
         accepted(random, plan(&fixed, his, users))
     };
     (0..30).map(one).collect()
@@ -213,7 +220,7 @@ fn broadcast(random: &mut Random) -> Vec<Call> {
             cfi: 1 + i % 3,
         };
         let list = allocations(random, fixed.blocks, Users::Edges);
-        let users = users(random, &list, |user| ORDERS[(user + rest) % 3]);
+        let users = users(random, &list, |user| ORDERS[(user + i) % 4]);
         accepted(random, plan(&fixed, vec![], users))
     };
     (0..24).map(one).collect()
@@ -250,7 +257,7 @@ fn one_block_each(random: &mut Random) -> Vec<Call> {
         let fixed = Fixed { identity, blocks, prefix, ports, g: 3, frame: 1023, subframe, cfi: 2 };
         let his = his(random, &fixed.cell(), His::Some);
         let each = allocations(random, blocks, Users::OneBlockEach);
-        let users = users(random, &each, |user| ORDERS[user % 3]);
+        let users = users(random, &each, |user| TURN[user % 16]);
         accepted(random, plan(&fixed, his, users))
     };
     list.into_iter().map(one).collect()
@@ -259,7 +266,7 @@ fn one_block_each(random: &mut Random) -> Vec<Call> {
 /// Four ports and a number of symbols that is no multiple of four.
 fn null_symbols(random: &mut Random) -> Vec<Call> {
     let mut calls = vec![accepted(random, null_symbol_plan().to_vec())];
-    for (blocks, identity) in [(15, 7), (25, 110), (75, 500)] {
+    for (blocks, identity, orders) in [(15, 7, [6, 4]), (25, 110, [8, 2]), (75, 500, [4, 8])] {
         let fixed = Fixed {
             identity,
             blocks,
@@ -272,7 +279,7 @@ fn null_symbols(random: &mut Random) -> Vec<Call> {
         };
         let centre = fixed.cell().centre();
         let cut = [(centre.end / 12, 1), (centre.start / 12, 1)];
-        let users = users(random, &cut, |user| [6, 4][user]);
+        let users = users(random, &cut, |user| orders[user]);
         calls.push(accepted(random, plan(&fixed, vec![], users)));
     }
     calls
@@ -281,26 +288,25 @@ fn null_symbols(random: &mut Random) -> Vec<Call> {
 /// One port and users that have an odd number of elements: one of the two blocks that the centre 72 cuts.
 fn odd_counts(random: &mut Random) -> Vec<Call> {
     let one = |(i, bits): (usize, &u8)| {
-        let blocks = [15, 25, 75][i];
-        let identity = 100 + i;
-        let fixed = Fixed { identity, blocks, prefix: 0, ports: 1, g: 1, frame: 9, subframe: 0, cfi: 1 + i };
+        let blocks = [15, 25, 75, 15][i];
+        let (identity, cfi) = (100 + i, 1 + i % 3);
+        let fixed = Fixed { identity, blocks, prefix: 0, ports: 1, g: 1, frame: 9, subframe: 0, cfi };
         let cut = fixed.cell().centre().start / 12;
         let users = users(random, &[(0, cut + 1), (cut + 1, 2)], |user| if user == 0 { *bits } else { 2 });
         accepted(random, plan(&fixed, vec![], users))
     };
-    [4, 6, 2].iter().enumerate().map(one).collect()
+    [4, 6, 2, 8].iter().enumerate().map(one).collect()
 }
 
-/// Payloads of zeros and of ones, with all HIs and one user over all blocks; the last two are the longest of
-/// their prefix.
+/// Payloads of zeros and of ones, with all HIs and one user over all blocks.
 fn equal_bits(random: &mut Random) -> Vec<Call> {
     let mut calls = Vec::new();
-    for i in 0..6 {
+    for i in 0..8 {
         let fixed = Fixed {
-            identity: 84 * i + 5,
+            identity: 71 * i + 5,
             blocks: WIDTHS[i % 2],
             prefix: i % 2,
-            ports: PORTS[i / 2],
+            ports: PORTS[(i / 2).min(2)],
             g: SIXTHS[3 - i % 4],
             frame: 1000 + i,
             subframe: [0, 1, 5][i % 3],
@@ -313,13 +319,19 @@ fn equal_bits(random: &mut Random) -> Vec<Call> {
             calls.push(call(plan.clone(), payload));
         }
     }
-    for (prefix, ports) in [(0, 4), (1, 1)] {
+    calls
+}
+
+/// The longest payloads: all HIs and one user of the highest order over all blocks, with either prefix on one port, and
+/// on four.
+fn longest(random: &mut Random) -> Vec<Call> {
+    let one = |(prefix, ports): (usize, usize)| {
         let fixed =
             Fixed { identity: 503, blocks: 100, prefix, ports, g: 12, frame: 1023, subframe: 9, cfi: 1 };
-        let users = vec![user(1, 6, 0, 100)];
-        calls.push(accepted(random, plan(&fixed, vec![], users)));
-    }
-    calls
+        let all = his(random, &fixed.cell(), His::All);
+        accepted(random, plan(&fixed, all, vec![user(1, 8, 0, 100)]))
+    };
+    [(0, 1), (1, 1), (0, 4)].into_iter().map(one).collect()
 }
 
 /// CELL, FRAME, END alone, and document 01's example for gridcount with its variant.
@@ -354,8 +366,9 @@ fn refused_plans() -> Vec<Call> {
         // 5: a group beyond the count, a pair used before.
         "10 0000 0F 00 01 01  11 0000 01 01  20 0100  00",
         "10 0000 0F 00 01 01  11 0000 01 01  20 0003  20 0003  00",
-        // 6: first + count = N + 1.
+        // 6: first + count = N + 1, seven bits of a symbol.
         "10 0000 0F 00 01 01  11 0000 01 01  30 0001 02 01 0F  00",
+        "10 0000 0F 00 01 01  11 0000 01 01  30 0001 07 00 0F  00",
         // 7: a block used before, an RNTI used before.
         "10 0000 0F 00 01 01  11 0000 01 01  30 0001 02 00 03  30 0002 02 02 01  00",
         "10 0000 0F 00 01 01  11 0000 01 01  30 0001 02 00 03  30 0001 02 03 01  00",

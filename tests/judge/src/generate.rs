@@ -221,9 +221,12 @@ pub fn allocations(random: &mut Random, blocks: usize, how: Users) -> Vec<(usize
     }
 }
 
+/// Q: document 01 with document 02's #109.
+pub const ORDERS: [u8; 4] = [2, 4, 6, 8];
+
 fn users(random: &mut Random, blocks: usize, how: Users) -> Vec<Vec<u8>> {
     let mut rntis: Vec<u16> = vec![];
-    let same = if random.one_in(2) { Some(random.pick(&[2u8, 4, 6])) } else { None };
+    let same = if random.one_in(2) { Some(random.pick(&ORDERS)) } else { None };
     let mut list = Vec::new();
     for (first, count) in allocations(random, blocks, how) {
         let rnti = loop {
@@ -238,7 +241,7 @@ fn users(random: &mut Random, blocks: usize, how: Users) -> Vec<Vec<u8>> {
         };
         rntis.push(rnti);
         let [high_byte, low_byte] = rnti.to_be_bytes();
-        let bits = same.unwrap_or_else(|| random.pick(&[2, 4, 6]));
+        let bits = same.unwrap_or_else(|| random.pick(&ORDERS));
         list.push(vec![USER, high_byte, low_byte, bits, first as u8, count as u8]);
     }
     list
@@ -397,7 +400,7 @@ fn limit(random: &mut Random, list: &[Vec<u8>], command: &[u8], field: usize) ->
             values.extend(others.map(|other| u16::from_be_bytes([other[1], other[2]])));
             values
         }
-        (USER, 1) => vec![0, 1, 2, 3, 4, 5, 6, 7, 8, 64, 255],
+        (USER, 1) => vec![0, 1, 2, 3, 4, 5, 6, 7, 8, 9, 10, 16, 255],
         (USER, 2) => {
             let count = u16::from(command[5]);
             vec![

@@ -136,10 +136,10 @@ fn write_vectors(directory: &str, input: &[u8], output: &str) -> Result<(), Stri
 /// All 2^24 elements in order, each as kind, I and J: 64-bit numbers, low byte first.
 fn samples() {
     let mut digest = Digest::new();
-    for unit in 0..=255 {
+    for byte in 0..=255 {
         for i in 0..=255 {
             for j in 0..=255 {
-                for number in sample::sample_numbers(unit, i, j) {
+                for number in sample::sample_numbers(byte, i, j) {
                     digest.add(&number.to_le_bytes());
                 }
             }

@@ -24,7 +24,7 @@ pub const NORMAL_SEQUENCES: [[Complex; 4]; 8] = [
 pub const EXTENDED_SEQUENCES: [[Complex; 2]; 4] = [[E, E], [E, N], [J, J], [J, K]];
 
 /// The unit of PHICH before precoding: BPSK of 36.211 table 7.1.1-1 has 1/√2 in both parts.
-pub const UNIT: u8 = 2;
+pub const UNIT: u16 = 2;
 
 /// The spreading sequence of an HI.
 fn spreading(cell: &Cell, hi: &HiCommand) -> Vec<Complex> {

@@ -66,7 +66,7 @@ pub struct HiCommand {
 #[derive(Clone, Copy, Debug, PartialEq, Eq)]
 pub struct UserCommand {
     pub rnti: usize,
-    /// Q: bits of a symbol.
+    /// Q: bits of a symbol; "modulation 8 joins Q" by document 02, #109.
     pub bits: usize,
     pub first: usize,
     pub count: usize,
@@ -179,7 +179,7 @@ fn hi(operand: &[u8], cell: &Cell, before: &[HiCommand]) -> Result<HiCommand, Re
 fn user(operand: &[u8], cell: &Cell, before: &[UserCommand]) -> Result<UserCommand, Refusal> {
     let rnti = 256 * operand[0] as usize + operand[1] as usize;
     let [bits, first, count] = [operand[2], operand[3], operand[4]].map(usize::from);
-    if rnti == 0 || ![2, 4, 6].contains(&bits) || count == 0 || first + count > cell.blocks {
+    if rnti == 0 || ![2, 4, 6, 8].contains(&bits) || count == 0 || first + count > cell.blocks {
         return Err(USER_FIELD);
     }
     // "RNTI or block used before".

@@ -55,16 +55,16 @@ pub fn plans() -> Vec<Vec<u8>> {
     plans
 }
 
-/// Plans as text, each with its refusal's number as worked out by hand from document 01 (0: accepted), and
+/// Plans as text, each with its refusal's number as worked out by hand from documents 01 and 02 (0: accepted), and
 /// why; a test holds `check` to these numbers. CELL and FRAME stand for the simplest ones.
-pub const LISTED: [(Refusal, &str, &str); 103] = [
+pub const LISTED: [(Refusal, &str, &str); 109] = [
     // Plans that are accepted.
     (0, "CELL FRAME  20 00 00  30 0001 02 00 0F  00", "the paper's example for gridcount"),
     (0, "CELL FRAME  00", "\"any HIs, any USERs\": there may be none"),
     (0, "10 01F7 0F 00 01 01  FRAME  00", "identity 503 is the last"),
     (
         0,
-        "10 01F7 64 01 04 0C  11 03FF 09 03  20 31 03  30 FFFF 06 63 01  00",
+        "10 01F7 64 01 04 0C  11 03FF 09 03  20 31 03  30 FFFF 08 63 01  00",
         "every field at its upper end; extended: 2 ceil(1200 / 48) = 50 groups; first + count = N",
     ),
     (0, "10 0000 64 00 02 0C  FRAME  20 18 07  00", "normal prefix: 25 groups, sequences to 7"),
@@ -82,9 +82,10 @@ pub const LISTED: [(Refusal, &str, &str); 103] = [
     (0, "10 0003 4B 00 02 06  11 0000 00 02  20 09 00  00", "N 75, g 6: ceil(450 / 48) = 10 groups"),
     (
         0,
-        "CELL FRAME  30 0001 06 05 05  30 0002 04 0A 05  30 0003 02 00 05  00",
+        "CELL FRAME  30 0001 06 05 05  30 0002 04 0A 03  30 0003 02 00 05  30 0004 08 0D 02  00",
         "users side by side, in no order of blocks, of every modulation",
     ),
+    (0, "CELL FRAME  30 0001 08 00 01  00", "modulation of 8 bits alone"),
     (
         0,
         "CELL  11 0001 05 03  30 2030 02 0E 01  30 1011 02 00 01  00",
@@ -179,8 +180,13 @@ pub const LISTED: [(Refusal, &str, &str); 103] = [
     // Refusal 6: a USER field.
     (6, "CELL FRAME  30 0000 02 00 01  00", "RNTI 0"),
     (6, "CELL FRAME  30 0001 00 00 01  00", "modulation of 0 bits"),
+    (6, "CELL FRAME  30 0001 01 00 01  00", "modulation of 1 bit: no user has BPSK"),
     (6, "CELL FRAME  30 0001 03 00 01  00", "modulation of 3 bits"),
-    (6, "CELL FRAME  30 0001 08 00 01  00", "modulation of 8 bits is not in this paper"),
+    (6, "CELL FRAME  30 0001 07 00 01  00", "modulation of 7 bits"),
+    (6, "CELL FRAME  30 0001 09 00 01  00", "modulation of 9 bits"),
+    (6, "CELL FRAME  30 0001 0A 00 01  00", "modulation of 10 bits"),
+    (6, "CELL FRAME  30 0001 10 00 01  00", "modulation of 16 bits"),
+    (6, "CELL FRAME  30 0001 FF 00 01  00", "modulation of 255 bits"),
     (6, "CELL FRAME  30 0001 02 00 00  00", "count 0"),
     (6, "CELL FRAME  30 0001 02 01 0F  00", "first + count = 16 = N + 1"),
     (6, "CELL FRAME  30 0001 02 0F 01  00", "first = N, count 1"),

@@ -6,6 +6,7 @@ use crate::generate::{payload_of_bits, Random};
 use crate::harness::unhex;
 use crate::owners::{layout, Layout, Owner};
 use crate::plan::{check, grid_length, Plan};
+use crate::precoding::port_of_symbol;
 use crate::read::Reader;
 use crate::Place;
 
@@ -28,12 +29,12 @@ pub struct Test {
     pub payload: Vec<u8>,
 }
 
-/// Units in document 01's order, for a wrong one.
-const UNITS: [u8; 9] = [0, 1, 2, 4, 10, 20, 42, 63, 84];
+/// The bytes of all units, ascending, for a wrong one.
+const UNIT_BYTES: [u8; 11] = [0, 1, 2, 4, 10, 20, 42, 63, 84, 170, 255];
 
 /// What byte `at` of a grid is changed to in a sweep: 0, one more, one less, and another unit or the opposite level.
 fn sweep_values(at: usize, byte: u8) -> [u8; 4] {
-    let next = UNITS.iter().position(|unit| *unit == byte).map_or(0, |i| UNITS[(i + 1) % UNITS.len()]);
+    let next = UNIT_BYTES.iter().position(|unit| *unit == byte).map_or(0, |i| UNIT_BYTES[(i + 1) % UNIT_BYTES.len()]);
     let other = if at % 3 == 0 { next } else { byte.wrapping_neg() };
     [0, byte.wrapping_add(1), byte.wrapping_sub(1), other]
 }
@@ -206,46 +207,84 @@ impl Example {
         vec![(self.at(port, place), unit)]
     }
 
+    /// A symbol with other levels, in the unit that it has; for transmit diversity (6.3.4.3) the conjugate of an even symbol
+    /// comes next on the other port, minus that of an odd one before.
+    fn symbol_put(&self, places: &[Place], j: usize, re: i8, im: i8) -> Vec<Change> {
+        let ports = self.plan.cell.ports;
+        let port = port_of_symbol(ports, j);
+        let at = self.at(port, places[j]);
+        let mut changes = vec![(at + 1, re as u8), (at + 2, im as u8)];
+        if ports > 1 {
+            let at = self.at(port + ports / 2, places[j ^ 1]);
+            let (re, im) = if j % 2 == 1 { (-re, im) } else { (re, -im) };
+            changes.extend([(at + 1, re as u8), (at + 2, im as u8)]);
+        }
+        changes
+    }
+
     /// An element that document 01 has, where none belongs.
     fn element_put(&self, port: usize, place: Place, element: [u8; 3]) -> Vec<Change> {
         let at = self.at(port, place);
         (0..3).map(|i| (at + i, element[i])).collect()
     }
 
-    fn test(&self) -> Test {
-        let ports = self.plan.cell.ports;
+    /// Legal elements in the wrong place: a user's first two, two users' first, a user's and PBCH's, two of PCFICH's.
+    fn exchanges(&self) -> Vec<Vec<Change>> {
         let users = &self.layout.users;
-        let mut lists = vec![
-            // Legal elements in the wrong place: a user's first two, two users' first, a user's and PBCH's.
+        vec![
             self.exchanged(users[0][0], users[0][1]),
             self.exchanged(users[0][0], users[1][0]),
+            self.exchanged(users[2][0], users[3][0]),
             self.exchanged(users[0][2], self.layout.pbch[0]),
             self.exchanged(self.layout.pcfich[0], self.layout.pcfich[3]),
-        ];
-        for port in 0..ports {
-            for places in [&self.layout.pbch, &self.layout.pcfich, &users[0], &users[2]] {
-                lists.push(self.other_unit(port, places[0], 2));
-                lists.push(self.other_unit(port, places[1], 84));
-                lists.push(self.nudged(port, places[2], 1));
-            }
-            // Held, idle, the reference and synchronisation signals: each byte.
-            let owners = [Owner::Held, Owner::Idle, Owner::Pss, Owner::Sss].into_iter();
-            for owner in owners.chain((0..ports).map(Owner::Crs)) {
-                let places = self.layout.places_of(owner);
-                for byte in 0..3 {
-                    lists.push(self.nudged(port, places[0], byte));
-                    lists.push(self.nudged(port, places[places.len() - 1], byte));
-                }
-            }
-            lists.push(self.element_put(port, self.layout.places_of(Owner::Idle)[3], [2, 1, 255]));
-            lists.push(self.element_put(port, self.layout.places_of(Owner::Held)[3], [63, 7, 0]));
-            // A sum that no bits give, and one with another unit.
-            let unit = &self.layout.phich[0];
-            for value in [0, 1, 2, 254, 8, 9] {
-                lists.push(self.element_put(port, unit[0], [2, value, value]));
-                lists.push(self.element_put(port, unit[5], [4, value, 0]));
+        ]
+    }
+
+    /// The greatest levels of 64QAM and of 256QAM and those next to them: a user's own, another order's, or no order's.
+    fn levels(&self) -> Vec<Vec<Change>> {
+        let mut lists = Vec::new();
+        for places in &self.layout.users {
+            for (j, level) in [7, 9, 15, 17, -9, -17, 8, -16].into_iter().enumerate() {
+                lists.push(self.symbol_put(places, j, level, 1));
+                lists.push(self.symbol_put(places, j, 1, level));
             }
         }
+        lists
+    }
+
+    /// One element changed on a port.
+    fn elements(&self, port: usize) -> Vec<Vec<Change>> {
+        let mut lists = Vec::new();
+        for places in [&self.layout.pbch, &self.layout.pcfich].into_iter().chain(&self.layout.users) {
+            lists.push(self.other_unit(port, places[0], 2));
+            for unit in [84, 170, 255] {
+                lists.push(self.other_unit(port, places[1], unit));
+            }
+            lists.push(self.nudged(port, places[2], 1));
+        }
+        // Held, idle, the reference and synchronisation signals: each byte.
+        let owners = [Owner::Held, Owner::Idle, Owner::Pss, Owner::Sss].into_iter();
+        for owner in owners.chain((0..self.plan.cell.ports).map(Owner::Crs)) {
+            let places = self.layout.places_of(owner);
+            for byte in 0..3 {
+                lists.push(self.nudged(port, places[0], byte));
+                lists.push(self.nudged(port, places[places.len() - 1], byte));
+            }
+        }
+        lists.push(self.element_put(port, self.layout.places_of(Owner::Idle)[3], [2, 1, 255]));
+        lists.push(self.element_put(port, self.layout.places_of(Owner::Held)[3], [63, 7, 0]));
+        // A sum that no bits give, and one with another unit.
+        let unit = &self.layout.phich[0];
+        for value in [0, 1, 2, 254, 8, 9] {
+            lists.push(self.element_put(port, unit[0], [2, value, value]));
+            lists.push(self.element_put(port, unit[5], [4, value, 0]));
+        }
+        lists
+    }
+
+    fn test(&self) -> Test {
+        let mut lists = [self.exchanges(), self.levels()].concat();
+        lists.extend((0..self.plan.cell.ports).flat_map(|port| self.elements(port)));
         calls(&self.bytes, &self.payload, lists)
     }
 }
@@ -253,9 +292,12 @@ impl Example {
 /// Grids of examples with one, two and four ports, changed where it must be seen.
 fn damaged() -> Vec<Test> {
     let texts = [
-        "10 0007 0F 00 01 01  11 0001 00 02  20 0000 20 0005  30 0011 02 00 05  30 0022 04 05 04  30 0033 06 09 04  00",
-        "10 0150 0F 01 02 06  11 0003 00 01  20 0000 20 0103  30 0011 06 00 07  30 0022 02 07 02  30 0033 04 0A 04  00",
-        "10 01F7 19 00 04 03  11 0002 00 03  20 0000 20 0007  30 0011 04 02 07  30 0022 06 0A 06  30 0033 02 11 05  00",
+        "10 0007 0F 00 01 01  11 0001 00 02  20 0000 20 0005 \
+         30 0011 02 00 03  30 0022 04 03 04  30 0033 06 07 04  30 0044 08 0B 03  00",
+        "10 0150 0F 01 02 06  11 0003 00 01  20 0000 20 0103 \
+         30 0011 08 00 04  30 0022 06 04 03  30 0033 02 07 02  30 0044 04 0A 04  00",
+        "10 01F7 19 00 04 03  11 0002 00 03  20 0000 20 0007 \
+         30 0011 04 02 05  30 0022 08 07 04  30 0033 06 0B 05  30 0044 02 11 05  00",
     ];
     texts.iter().zip(1..).map(|(text, seed)| Example::new(text, seed).test()).collect()
 }
@@ -275,11 +317,14 @@ fn refused_lengths() -> Vec<Test> {
     tests
 }
 
-/// Every byte of two small grids, of one port and of two, with PBCH, HIs and users of each modulation.
+/// Every byte of two small grids, of one port and of two, with PBCH, HIs and users of each modulation; the second has two
+/// users of one order one after the other.
 fn sweeps() -> Vec<Test> {
     let texts = [
-        "10 0014 0F 01 01 01  11 0001 00 02  20 0000 20 0102  30 0101 02 00 03  30 0202 04 03 04  30 0303 06 09 05  00",
-        "10 00C9 0F 01 02 01  11 0002 00 01  20 0001 20 0003  30 0101 06 00 08  30 0202 02 09 03  30 0303 04 0C 02  00",
+        "10 0014 0F 01 01 01  11 0001 00 02  20 0000 20 0102 \
+         30 0101 02 00 02  30 0202 08 02 03  30 0303 04 05 02  30 0404 06 09 03  00",
+        "10 00C9 0F 01 02 01  11 0002 00 01  20 0001 20 0003 \
+         30 0101 06 00 02  30 0202 08 02 02  30 0303 08 04 02  30 0404 02 09 03  30 0505 04 0C 02  00",
     ];
     let sweep = |(text, seed): (&&str, u64)| {
         let example = Example::new(text, seed);

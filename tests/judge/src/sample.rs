@@ -1,4 +1,4 @@
-//! Samples: elements as f32, by whole numbers (document 01, "Samples").
+//! Samples: elements as f32, by whole numbers (document 01, "Samples"; document 02, #109).
 
 use crate::plan::{Refusal, NO_ELEMENT};
 
@@ -11,7 +11,23 @@ pub enum Sample {
 }
 
 /// The units of levels.
-pub const LEVEL_UNITS: [u8; 7] = [1, 2, 4, 10, 20, 42, 84];
+pub const LEVEL_UNITS: [u16; 9] = [1, 2, 4, 10, 20, 42, 84, 170, 340];
+
+/// The byte that stands for a unit in an element: "340, whose unit byte is 255".
+pub fn unit_byte(unit: u16) -> u8 {
+    match unit {
+        340 => 255,
+        _ => u8::try_from(unit).expect("a unit of one byte"),
+    }
+}
+
+/// "Levels to ±15 are legal in these two units only", else to ±8.
+pub fn greatest_level(unit: u16) -> i8 {
+    match unit {
+        170 | 340 => 15,
+        _ => 8,
+    }
+}
 
 /// mantissa / 2^exponent with 2^23 ≤ mantissa < 2^24: a positive f32.
 #[derive(Clone, Copy, Debug, PartialEq, Eq)]
@@ -35,7 +51,7 @@ fn root(x: u64) -> u64 {
 }
 
 /// The f32 nearest 1/√u.
-pub fn gain(unit: u8) -> Positive {
+pub fn gain(unit: u16) -> Positive {
     let u = u64::from(unit);
     for exponent in 23..=31 {
         // 2^exponent / √u lies in mantissa .. mantissa + 1.
@@ -55,7 +71,7 @@ pub fn gain(unit: u8) -> Positive {
 }
 
 /// The bits of the f32 nearest level × gain, "rounded once", ties to even.
-pub fn scaled(level: i8, unit: u8) -> u32 {
+pub fn scaled(level: i8, unit: u16) -> u32 {
     if level == 0 {
         return 0; // +0.0
     }
@@ -78,22 +94,25 @@ pub fn scaled(level: i8, unit: u8) -> u32 {
 }
 
 /// The sample of three bytes, or 9.
-pub fn sample(unit: u8, i: u8, j: u8) -> Result<Sample, Refusal> {
+pub fn sample(byte: u8, i: u8, j: u8) -> Result<Sample, Refusal> {
     let (i, j) = (i as i8, j as i8);
-    match unit {
+    match byte {
         0 if i == 0 && j == 0 => Ok(Sample::Silence),
         63 if (0..=62).contains(&i) && j == 0 => Ok(Sample::Phase(i as u8)),
-        // "a level beyond ±8" is no element.
-        u if LEVEL_UNITS.contains(&u) && (-8..=8).contains(&i) && (-8..=8).contains(&j) => {
+        _ => {
+            let unit = LEVEL_UNITS.into_iter().find(|unit| unit_byte(*unit) == byte).ok_or(NO_ELEMENT)?;
+            let levels = -greatest_level(unit)..=greatest_level(unit);
+            if !levels.contains(&i) || !levels.contains(&j) {
+                return Err(NO_ELEMENT);
+            }
             Ok(Sample::Point { i: scaled(i, unit), j: scaled(j, unit) })
         }
-        _ => Err(NO_ELEMENT),
     }
 }
 
 /// The kind, I and J as the C calls number them, or minus 9.
-pub fn sample_numbers(unit: u8, i: u8, j: u8) -> [i64; 3] {
-    match sample(unit, i, j) {
+pub fn sample_numbers(byte: u8, i: u8, j: u8) -> [i64; 3] {
+    match sample(byte, i, j) {
         Ok(Sample::Silence) => [0, 0, 0],
         Ok(Sample::Phase(phase)) => [1, i64::from(phase), 0],
         Ok(Sample::Point { i, j }) => [2, i64::from(i), i64::from(j)],

@@ -59,7 +59,7 @@ const KINDS: [(bool, usize); 6] = [(false, 1), (false, 2), (false, 4), (true, 1)
 #[test]
 fn how_many() {
     let (accepted, refused) = (accepted(), refused());
-    assert_eq!((accepted.len(), refused.len()), (124, 33));
+    assert_eq!((accepted.len(), refused.len()), (130, 34));
     assert!(input(&calls()).len() < 300_000);
     assert!(accepted.iter().all(|a| a.call.lent == Lent::AsWanted));
     assert!(calls().iter().all(|call| call.grid_length() <= 201_601));
@@ -127,7 +127,7 @@ fn acknowledgements() {
 #[test]
 fn users() {
     let list = accepted();
-    for bits in [2, 4, 6] {
+    for bits in [2, 4, 6, 8] {
         let has = |a: &Accepted| a.plan.users.iter().any(|user| user.bits == bits);
         assert_eq!(set(&list, |a| has(a).then(|| a.kind())), BTreeSet::from(KINDS), "{bits} bits");
         // An odd element count, which only one port has.
@@ -135,8 +135,10 @@ fn users() {
         assert!(counts.any(|(user, count)| user.bits == bits && count % 2 == 1));
     }
     // As long as a section gets, with either prefix.
-    let longest = |a: &Accepted| a.plan.users.iter().any(|user| user.bits == 6 && user.count == 100);
+    let longest = |a: &Accepted| a.plan.users.iter().any(|user| user.bits == 8 && user.count == 100);
     assert_eq!(set(&list, |a| longest(a).then_some(a.plan.cell.extended)), BTreeSet::from([false, true]));
+    // The longest payload of any plan: 13 symbols of 1200 subcarriers, less 200 references in three of them, and 200 HIs.
+    assert_eq!(list.iter().map(|a| a.sections.length).max(), Some(13 * 1200 - 3 * 200 + 200 / 8));
     let each =
         |blocks: usize| move |a: &Accepted| a.plan.users.len() == blocks && a.plan.cell.blocks == blocks;
     assert!(list.iter().any(each(15)) && list.iter().any(each(100)));
@@ -153,6 +155,26 @@ fn users() {
     assert!(list.iter().any(|a| a.call.plan == null_symbol_plan()));
     let null = |a: &Accepted| a.plan.cell.ports == 4 && a.counts.iter().any(|count| count % 4 == 2);
     assert!(list.iter().filter(|a| null(a)).count() > 3);
+}
+
+/// 256QAM with every prefix and P: alone, and with other orders in subframes 0, 5 and another; and on every P each order
+/// before itself and before every other.
+#[test]
+fn orders() {
+    let list = accepted();
+    let alone = |a: &Accepted| a.plan.users.len() == 1 && a.plan.users[0].bits == 8;
+    assert_eq!(set(&list, |a| alone(a).then(|| a.kind())), BTreeSet::from(KINDS));
+    let orders = |a: &Accepted| -> Vec<usize> { a.plan.users.iter().map(|user| user.bits).collect() };
+    let mixed = |a: &Accepted| orders(a).contains(&8) && orders(a).iter().any(|bits| *bits != 8);
+    let sort = |a: &Accepted| [0, 5].iter().position(|f| *f == a.plan.frame.subframe).unwrap_or(2);
+    assert_eq!(set(&list, |a| mixed(a).then(|| (sort(a), a.kind()))), pairs(&[0, 1, 2], &KINDS));
+    for ports in [1, 2, 4] {
+        let mut neighbours = BTreeSet::new();
+        for a in list.iter().filter(|a| a.plan.cell.ports == ports) {
+            neighbours.extend(orders(a).windows(2).map(|two| (two[0], two[1])));
+        }
+        assert_eq!(neighbours, pairs(&[2, 4, 6, 8], &[2, 4, 6, 8]), "{ports} ports");
+    }
 }
 
 #[test]
@@ -258,8 +280,8 @@ fn the_output() {
     }
     assert_eq!(text.lines().count(), calls().len());
     // CELL FRAME END alone; the first refused plan.
-    assert!(text.lines().any(|line| line.starts_with("121 0 ")));
-    assert!(text.lines().any(|line| line == "125 refused 1 3106694912 2866538346"));
+    assert!(text.lines().any(|line| line.starts_with("127 0 ")));
+    assert!(text.lines().any(|line| line == "131 refused 1 3106694912 2866538346"));
 }
 
 #[test]

@@ -5,7 +5,6 @@ use judge::generate::{
     any_plan, commands, null_symbol_plan, right_payload, spare_set, wrong_length, Fixed, Random, Users,
     COMBINATIONS, HIS, USERS,
 };
-use judge::modulation::unit;
 use judge::owners::{layout, Layout, Owner};
 use judge::payload::Sections;
 use judge::plan::Plan;
@@ -13,9 +12,10 @@ use judge::precoding::{precode, precode_phich, PHICH_EVEN, PHICH_ODD};
 use judge::sequence::sequence;
 use judge::{build, check, crs, read, sync, Complex, Place};
 
-fn element(plan: &Plan, grid: &[u8], port: usize, place: Place) -> [i8; 3] {
+/// The unit's byte, I and J.
+fn element(plan: &Plan, grid: &[u8], port: usize, place: Place) -> [i32; 3] {
     let at = element_at(plan.cell.symbols(), plan.cell.subcarriers(), port, place);
-    [grid[at] as i8, grid[at + 1] as i8, grid[at + 2] as i8]
+    [i32::from(grid[at]), i32::from(grid[at + 1] as i8), i32::from(grid[at + 2] as i8)]
 }
 
 fn parts(bytes: &[u8]) -> (Plan, Layout, Sections) {
@@ -64,9 +64,25 @@ fn active(ports: usize, j: usize) -> &'static [usize] {
     }
 }
 
-/// Every element's unit by its owner; silence elsewhere.
+/// The unit byte of a user's elements: "Units 2, 10, 42 [..] units doubled"; "Unit 170 with one port; with diversity 340,
+/// whose unit byte is 255".
+fn user_unit_byte(bits: usize, ports: usize) -> i32 {
+    match (bits, ports) {
+        (2, 1) => 2,
+        (2, _) => 4,
+        (4, 1) => 10,
+        (4, _) => 20,
+        (6, 1) => 42,
+        (6, _) => 84,
+        (8, 1) => 170,
+        (8, _) => 255,
+        _ => panic!("no modulation of {bits} bits"),
+    }
+}
+
+/// Every element's unit byte by its owner; silence elsewhere.
 #[test]
-fn units_by_owner() {
+fn unit_bytes_by_owner() {
     let mut random = Random::new(33);
     for _ in 0..300 {
         let bytes = any_plan(&mut random);
@@ -79,33 +95,33 @@ fn units_by_owner() {
         for s in 0..cell.symbols() {
             for k in 0..cell.subcarriers() {
                 let place = Place { s, k };
-                let mut units = [0i8; 4];
+                let mut unit_bytes = [0; 4];
                 match layout.owner(place) {
-                    Owner::Crs(port) => units[port] = 2,
-                    Owner::Pss => units[0] = 63,
-                    Owner::Sss => units[0] = 1,
+                    Owner::Crs(port) => unit_bytes[port] = 2,
+                    Owner::Pss => unit_bytes[0] = 63,
+                    Owner::Sss => unit_bytes[0] = 1,
                     Owner::Pbch => {
                         let j = number(&layout.pbch, place);
-                        active(cell.ports, j).iter().for_each(|port| units[*port] = 2 * double);
+                        active(cell.ports, j).iter().for_each(|port| unit_bytes[*port] = 2 * double);
                     }
                     Owner::Pcfich => {
                         let j = number(&layout.pcfich, place);
-                        active(cell.ports, j).iter().for_each(|port| units[*port] = 2 * double);
+                        active(cell.ports, j).iter().for_each(|port| unit_bytes[*port] = 2 * double);
                     }
                     Owner::Phich(unit) => {
                         let quad = number(&layout.phich[unit], place) / 4;
                         let j = if (quad + unit) % 2 == 0 { 0 } else { 2 };
-                        active(cell.ports, j).iter().for_each(|port| units[*port] = 2 * double);
+                        active(cell.ports, j).iter().for_each(|port| unit_bytes[*port] = 2 * double);
                     }
                     Owner::User(user) => {
                         // Users' places are sorted.
                         let j = layout.users[user].binary_search(&place).unwrap();
-                        let own = (unit(plan.users[user].bits) * double as u8) as i8;
-                        active(cell.ports, j).iter().for_each(|port| units[*port] = own);
+                        let own = user_unit_byte(plan.users[user].bits, cell.ports);
+                        active(cell.ports, j).iter().for_each(|port| unit_bytes[*port] = own);
                     }
                     Owner::Held | Owner::Idle => {}
                 }
-                for (port, unit) in units.iter().enumerate().take(cell.ports) {
+                for (port, unit) in unit_bytes.iter().enumerate().take(cell.ports) {
                     let [u, i, j] = element(&plan, &grid, port, place);
                     assert_eq!(u, *unit, "{place:?} port {port} {:?}", layout.owner(place));
                     if u == 0 {
@@ -117,13 +133,14 @@ fn units_by_owner() {
     }
 }
 
-/// Document 01's formulas, without the tables.
+/// The formulas of document 01 and of document 02, #109, without the tables.
 fn level(bits: &[u8]) -> i32 {
     let sign: Vec<i32> = bits.iter().map(|bit| 1 - 2 * i32::from(*bit)).collect();
     match sign.len() {
         1 => sign[0],
         2 => sign[0] * (2 - sign[1]),
-        _ => sign[0] * (4 - sign[1] * (2 - sign[2])),
+        3 => sign[0] * (4 - sign[1] * (2 - sign[2])),
+        _ => sign[0] * (8 - sign[1] * (4 - sign[2] * (2 - sign[3]))),
     }
 }
 
@@ -139,10 +156,10 @@ fn channel(plan: &Plan, grid: &[u8], places: &[Place], d: &[(i32, i32)]) {
     assert_eq!(places.len(), d.len());
     for (j, place) in places.iter().enumerate() {
         let ports = active(plan.cell.ports, j);
-        let [_, re, im] = element(plan, grid, ports[0], *place).map(i32::from);
+        let [_, re, im] = element(plan, grid, ports[0], *place);
         assert_eq!((re, im), d[j]);
         if plan.cell.ports > 1 {
-            let [_, re, im] = element(plan, grid, ports[1], *place).map(i32::from);
+            let [_, re, im] = element(plan, grid, ports[1], *place);
             let other = if j % 2 == 0 { (-d[j + 1].0, d[j + 1].1) } else { (d[j - 1].0, -d[j - 1].1) };
             assert_eq!((re, im), other);
         }
@@ -209,10 +226,10 @@ fn channels_by_formula() {
                     (4, _) => vec![1, 3],
                     (ports, _) => (0..ports).collect(),
                 };
-                let [_, re, im] = element(&plan, &grid, ports[0], *place).map(i32::from);
+                let [_, re, im] = element(&plan, &grid, ports[0], *place);
                 assert_eq!((re, im), d[j]);
                 if ports.len() > 1 {
-                    let [_, re, im] = element(&plan, &grid, ports[1], *place).map(i32::from);
+                    let [_, re, im] = element(&plan, &grid, ports[1], *place);
                     let other =
                         if j % 2 == 0 { (-d[j + 1].0, d[j + 1].1) } else { (d[j - 1].0, -d[j - 1].1) };
                     assert_eq!((re, im), other);
@@ -240,7 +257,7 @@ fn references_by_formula() {
                 let place = Place { s, k };
                 if let Owner::Crs(port) = layout.owner(place) {
                     let m = k / 6 + 110 - cell.blocks;
-                    let level = |bit: u8| 1 - 2 * bit as i8;
+                    let level = |bit: u8| 1 - 2 * i32::from(bit);
                     assert_eq!(element(&plan, &grid, port, place), [2, level(c[2 * m]), level(c[2 * m + 1])]);
                 }
             }
@@ -249,9 +266,9 @@ fn references_by_formula() {
             for i in 0..62 {
                 let k = 6 * cell.blocks - 31 + i;
                 let pss = element(&plan, &grid, 0, Place { s: cell.slot_symbols() - 1, k });
-                assert_eq!(pss, [63, sync::pss(&cell)[i] as i8, 0]);
+                assert_eq!(pss, [63, sync::pss(&cell)[i] as i32, 0]);
                 let sss = element(&plan, &grid, 0, Place { s: cell.slot_symbols() - 2, k });
-                assert_eq!(sss, [1, sync::sss(&cell, &frame)[i] as i8, 0]);
+                assert_eq!(sss, [1, sync::sss(&cell, &frame)[i], 0]);
             }
         }
     }
@@ -312,7 +329,7 @@ fn an_empty_unit_keeps_its_unit() {
         let (plan, layout, _) = parts(&bytes);
         let (grid, count) = build(&bytes, &[], plan.cell.grid_length()).unwrap();
         assert_eq!(count, 0);
-        let found: Vec<[i8; 3]> =
+        let found: Vec<[i32; 3]> =
             (0..ports as usize).map(|port| element(&plan, &grid, port, layout.phich[0][0])).collect();
         assert_eq!(found, expected);
     }
@@ -453,6 +470,58 @@ fn one_sign_is_one_bit() {
         expected[sections.users[user].first_byte + bit / 8] ^= 0x80 >> (bit % 8);
         let count = layout.user_elements();
         assert_eq!(read(&bytes, &grid, payload.len()), Ok((expected, count)));
+    }
+}
+
+/// A user over all blocks.
+fn one_user(bits: u8, ports: u8) -> [u8; 19] {
+    [0x10, 0, 9, 15, 0, ports, 1, 0x11, 0, 0, 1, 1, 0x30, 0, 1, bits, 0, 15, 0]
+}
+
+/// A user of 64QAM or 256QAM on one port: which elements in place of its first one are those of another payload. Levels are
+/// odd and to 7 in unit 42, to 15 in unit 170.
+#[test]
+fn levels_beyond_the_order() {
+    let mut random = Random::new(41);
+    let of_six_bits = [([42, 7, -7], true), ([42, 9, 1], false), ([42, 15, 1], false), ([170, 7, 7], false)];
+    let of_eight =
+        [([170, 15, -15], true), ([170, 9, 1], true), ([170, 17, 1], false), ([170, 1, -16], false)];
+    for (bits, elements) in [(6, of_six_bits), (8, of_eight)] {
+        let bytes = one_user(bits, 1);
+        let payload = right_payload(&mut random, &bytes).unwrap();
+        let (plan, layout, _) = parts(&bytes);
+        let (grid, count) = build(&bytes, &payload, plan.cell.grid_length()).unwrap();
+        let at = element_at(plan.cell.symbols(), plan.cell.subcarriers(), 0, layout.users[0][0]);
+        for (element, legal) in elements {
+            let mut changed = grid.clone();
+            changed[at..at + 3].copy_from_slice(&element.map(|byte: i32| byte as u8));
+            match read(&bytes, &changed, payload.len()) {
+                Ok((found, _)) => {
+                    assert!(legal, "{element:?}");
+                    assert_eq!(build(&bytes, &found, grid.len()), Ok((changed, count)));
+                }
+                Err(refusal) => assert_eq!((refusal, legal), (13, false), "{element:?}"),
+            }
+        }
+    }
+}
+
+/// With diversity the byte of 256QAM's unit is 255: not 340 mod 256 = 84, nor that of unit 170.
+#[test]
+fn the_byte_of_unit_340() {
+    let mut random = Random::new(42);
+    for ports in [2, 4] {
+        let bytes = one_user(8, ports);
+        let payload = right_payload(&mut random, &bytes).unwrap();
+        let (plan, layout, _) = parts(&bytes);
+        let (grid, _) = build(&bytes, &payload, plan.cell.grid_length()).unwrap();
+        let units: Vec<usize> = (0..grid.len()).step_by(3).filter(|at| grid[*at] == 255).collect();
+        assert_eq!(units.len(), 2 * layout.user_elements());
+        for byte in [84, 170, 254] {
+            let mut changed = grid.clone();
+            units.iter().for_each(|at| changed[*at] = byte);
+            assert_eq!(read(&bytes, &changed, payload.len()), Err(13));
+        }
     }
 }
 

@@ -90,19 +90,20 @@ fn the_sequence_by_registers() {
     }
 }
 
-/// Document 01's formulas for I (even bits) and J (odd bits).
+/// The formulas of document 01 and of document 02, #109, for I (even bits) and J (odd bits).
 fn level(bits: &[i32]) -> i32 {
     let sign: Vec<i32> = bits.iter().map(|bit| 1 - 2 * bit).collect();
     match sign.len() {
         1 => sign[0],
         2 => sign[0] * (2 - sign[1]),
-        _ => sign[0] * (4 - sign[1] * (2 - sign[2])),
+        3 => sign[0] * (4 - sign[1] * (2 - sign[2])),
+        _ => sign[0] * (8 - sign[1] * (4 - sign[2] * (2 - sign[3]))),
     }
 }
 
 #[test]
 fn modulation_tables_are_those_of_the_formulas() {
-    for q in [2, 4, 6] {
+    for q in [2, 4, 6, 8] {
         assert_eq!(table(q).len(), 1 << q);
         for (at, (number, i, j)) in table(q).iter().enumerate() {
             assert_eq!(at, *number as usize);
@@ -116,6 +117,29 @@ fn modulation_tables_are_those_of_the_formulas() {
         assert_eq!(unmap_symbol(Complex::new(0, 1), q), None);
     }
     assert_eq!(map_symbol(&[1, 0, 1, 1, 1, 1]), Complex::new(-7, 7));
+}
+
+/// I by b0 b2 b4 b6 and J by b1 b3 b5 b7, worked out by hand.
+#[test]
+fn symbols_of_eight_bits_by_hand() {
+    let known = [
+        // 0000: 8 − (4 − (2 − 1)) = 5; 1111: −(8 + (4 + (2 + 1))) = −15.
+        ([0, 0, 0, 0, 0, 0, 0, 0], (5, 5)),
+        ([1, 1, 1, 1, 1, 1, 1, 1], (-15, -15)),
+        ([0, 1, 0, 1, 0, 1, 0, 1], (5, -15)),
+        // 1100: −(8 + (4 − (2 − 1))) = −11; 0110: 8 + (4 + (2 − 1)) = 13.
+        ([1, 0, 1, 1, 0, 1, 0, 0], (-11, 13)),
+        // 0011: 8 − (4 + (2 + 1)) = 1; 1001: −(8 − (4 − (2 + 1))) = −7.
+        ([0, 1, 0, 0, 1, 0, 1, 1], (1, -7)),
+    ];
+    for (bits, (i, j)) in known {
+        assert_eq!(map_symbol(&bits), Complex::new(i, j), "{bits:?}");
+    }
+    // Levels are odd and at most 15.
+    for (i, j) in [(0, 1), (1, 17), (-17, 1), (16, 3), (1, -16)] {
+        assert_eq!(unmap_symbol(Complex::new(i, j), 8), None);
+    }
+    assert_eq!(unmap_symbol(Complex::new(9, 1), 6), None);
 }
 
 #[test]

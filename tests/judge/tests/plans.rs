@@ -137,9 +137,10 @@ fn six_user() {
     assert_eq!(user("0001 02 FF FF"), 6);
     assert_eq!(user("0001 02 FF 02"), 6); // 257 is not 1
     assert_eq!(user("0000 02 00 01"), 6);
-    assert_eq!(user("FFFF 06 00 01"), 0);
+    assert_eq!(user("FFFF 08 00 01"), 0);
     for value in 0..=255u32 {
-        assert_eq!(user(&format!("0001 {value:02X} 00 01")), if [2, 4, 6].contains(&value) { 0 } else { 6 });
+        let expected = if [2, 4, 6, 8].contains(&value) { 0 } else { 6 };
+        assert_eq!(user(&format!("0001 {value:02X} 00 01")), expected);
     }
     // A bad field and an RNTI used before.
     assert_eq!(after_frame("30 0001 02 00 01 30 0001 03 01 01 00"), 6);
@@ -266,7 +267,7 @@ fn how_many_of_each() {
     for plan in plans() {
         counts[usize::from(check(&plan).err().unwrap_or(0))] += 1;
     }
-    assert_eq!(counts, [508, 1596, 807, 1086, 542, 247, 342, 152]);
+    assert_eq!(counts, [511, 1595, 808, 1086, 542, 247, 345, 152]);
     assert_eq!(plans(), plans());
     // The program's buffer.
     assert!(input(&plans()).len() < 600_000);
@@ -307,9 +308,9 @@ fn the_output() {
     let lines: Vec<&str> = text.lines().collect();
     assert_eq!(lines.len(), plans().len());
     assert_eq!(lines[0], "plan 1 0 cell 0 15 0 1 1 frame 0 1 1 hi 0 0 user 1 2 0 15");
-    assert_eq!(lines[3], "plan 4 0 cell 503 100 1 4 12 frame 1023 9 3 hi 49 3 user 65535 6 99 1");
-    assert_eq!(lines[11], "plan 12 1");
-    assert_eq!(lines[106], "plan 107 2");
+    assert_eq!(lines[3], "plan 4 0 cell 503 100 1 4 12 frame 1023 9 3 hi 49 3 user 65535 8 99 1");
+    assert_eq!(lines[12], "plan 13 1");
+    assert_eq!(lines[112], "plan 113 2");
 }
 
 #[test]

@@ -48,9 +48,9 @@ extern "C" {
     ) -> i64;
     fn mapper_owner(plan: *const u8, plan_len: usize, s: usize, k: usize, port: usize) -> i64;
     fn mapper_count(plan: *const u8, plan_len: usize, kind: usize) -> i64;
-    fn mapper_sample_kind(unit: u8, i: u8, j: u8) -> i64;
-    fn mapper_sample_i(unit: u8, i: u8, j: u8) -> i64;
-    fn mapper_sample_j(unit: u8, i: u8, j: u8) -> i64;
+    fn mapper_sample_kind(unit_byte: u8, i: u8, j: u8) -> i64;
+    fn mapper_sample_i(unit_byte: u8, i: u8, j: u8) -> i64;
+    fn mapper_sample_j(unit_byte: u8, i: u8, j: u8) -> i64;
 }
 
 impl Library {

@@ -5,13 +5,14 @@ use crate::found::Found;
 use crate::refusals::narrow;
 use crate::subject::{Filled, Subject};
 use judge::build::element_at;
-use judge::generate::{commands, right_payload, Random, HIS, USERS};
-use judge::modulation::{modulate, unit};
+use judge::generate::{commands, right_payload, Random, HIS, ORDERS, USERS};
+use judge::modulation::{map_symbol, unit};
 use judge::owners::{layout, Layout};
 use judge::plan::{check, Plan};
 use judge::precoding::port_of_symbol;
 use judge::read::Reader;
-use judge::Place;
+use judge::sample::unit_byte;
+use judge::{Complex, Place};
 use std::ops::Range;
 
 /// So many cases in a row change the grid of one plan.
@@ -20,8 +21,8 @@ pub const OF_ONE_PLAN: u64 = 40;
 /// A byte of the grid and its new value.
 type Change = (usize, u8);
 
-/// Units in document 01's order.
-const UNITS: [u8; 9] = [0, 1, 2, 4, 10, 20, 42, 63, 84];
+/// The bytes of all units.
+const UNIT_BYTES: [u8; 11] = [0, 1, 2, 4, 10, 20, 42, 63, 84, 170, 255];
 
 /// The sorts of change.
 #[derive(Clone, Copy, Debug, PartialEq, Eq)]
@@ -36,6 +37,8 @@ pub enum Sort {
     LegalOnOnePort,
     /// A level of another modulation, on each port that has a term of it.
     OtherModulation,
+    /// A level next to the greatest of its modulation, on each port that has a term of it.
+    Beyond,
     /// Two elements exchanged, on one port or on all.
     Exchange,
     /// Another unit, on one port or on all.
@@ -50,12 +53,13 @@ pub enum Sort {
     OtherPart,
 }
 
-pub const SORTS: [Sort; 11] = [
+pub const SORTS: [Sort; 12] = [
     Sort::AnyByte,
     Sort::Nudge,
     Sort::Legal,
     Sort::LegalOnOnePort,
     Sort::OtherModulation,
+    Sort::Beyond,
     Sort::Exchange,
     Sort::Unit,
     Sort::Silent,
@@ -63,6 +67,29 @@ pub const SORTS: [Sort; 11] = [
     Sort::OtherChannel,
     Sort::OtherPart,
 ];
+
+/// Any symbol of a modulation.
+fn any_symbol(random: &mut Random, q: usize) -> Complex {
+    let bits: Vec<u8> = (0..q).map(|_| random.byte() & 1).collect();
+    map_symbol(&bits)
+}
+
+/// Any symbol of any modulation.
+fn other_symbol(random: &mut Random, _: usize) -> Complex {
+    let q = random.pick(&ORDERS);
+    any_symbol(random, usize::from(q))
+}
+
+/// A symbol one of whose levels is one or two beyond the greatest of its modulation.
+fn symbol_beyond(random: &mut Random, q: usize) -> Complex {
+    let Complex { re, im } = any_symbol(random, q);
+    let beyond = ((1 << (q / 2)) + random.below(2) as i32) * random.pick(&[1, -1]);
+    if random.one_in(2) {
+        Complex::new(beyond, im)
+    } else {
+        Complex::new(re, beyond)
+    }
+}
 
 /// A plan with the grids of two payloads, and all that changing the first of them needs.
 pub struct Prepared {
@@ -154,14 +181,13 @@ impl Prepared {
     }
 
     /// A symbol of a channel gets another value: at its own place, and for transmit diversity at its partner's too.
-    /// One list of changes for each of the ports. `levels` is the Q of the new levels; the unit stays.
-    fn symbol(&self, random: &mut Random, levels: impl Fn(&mut Random, usize) -> usize) -> Vec<Vec<Change>> {
+    /// One list of changes for each of the ports. `value` gives the new levels by the channel's Q; the unit stays.
+    fn symbol(&self, random: &mut Random, value: impl Fn(&mut Random, usize) -> Complex) -> Vec<Vec<Change>> {
         let (places, q) = random.pick(&self.symbol_channels());
         let ports = self.plan.cell.ports;
-        let unit = if ports == 1 { unit(q) } else { 2 * unit(q) };
+        let unit = unit_byte(if ports == 1 { unit(q) } else { 2 * unit(q) });
         let j = random.below(places.len());
-        let bits: Vec<u8> = (0..levels(random, q)).map(|_| random.byte() & 1).collect();
-        let x = modulate(&bits, bits.len())[0];
+        let x = value(random, q);
         let bytes = |re: i32, im: i32| [unit, re as i8 as u8, im as i8 as u8];
         let port = port_of_symbol(ports, j);
         let mut lists = vec![self.replaced(port, places[j], &bytes(x.re, x.im))];
@@ -202,13 +228,13 @@ impl Prepared {
     }
 
     fn other_unit(&self, random: &mut Random) -> Vec<Change> {
-        let (place, value) = (self.place(random), random.pick(&UNITS));
+        let (place, value) = (self.place(random), random.pick(&UNIT_BYTES));
         self.ports(random).map(|port| (self.at(port, place), value)).collect()
     }
 
     /// A byte of a silent element: of an idle or held place, or of a port without a term.
     fn silent(&self, random: &mut Random) -> Vec<Change> {
-        let value = if random.one_in(2) { random.pick(&UNITS) } else { random.byte() };
+        let value = if random.one_in(2) { random.pick(&UNIT_BYTES) } else { random.byte() };
         loop {
             let at = self.at(self.port(random), self.place(random));
             // A plan may have no idle place but has silent elements on every port: in symbol 0 of port 1, or with one
@@ -245,12 +271,13 @@ impl Prepared {
         match sort {
             Sort::AnyByte => self.any_bytes(random),
             Sort::Nudge => self.nudge(random),
-            Sort::Legal => self.symbol(random, |_, q| q).concat(),
+            Sort::Legal => self.symbol(random, any_symbol).concat(),
             Sort::LegalOnOnePort => {
-                let lists = self.symbol(random, |_, q| q);
+                let lists = self.symbol(random, any_symbol);
                 lists[random.below(lists.len())].clone()
             }
-            Sort::OtherModulation => self.symbol(random, |random, _| random.pick(&[2, 4, 6])).concat(),
+            Sort::OtherModulation => self.symbol(random, other_symbol).concat(),
+            Sort::Beyond => self.symbol(random, symbol_beyond).concat(),
             Sort::Exchange => self.exchange(random),
             Sort::Unit => self.other_unit(random),
             Sort::Silent => self.silent(random),

@@ -29,7 +29,7 @@ fn what_is_changed_is_read_or_refused() {
         match sort {
             // All but PCFICH's symbols; a level of another modulation may be one of the channel's own.
             Sort::Legal | Sort::OtherChannel => assert!(2 * read > others, "{sort:?}: {read} of {others}"),
-            Sort::Unit | Sort::Silent => assert_eq!(read, 0, "{sort:?}"),
+            Sort::Beyond | Sort::Unit | Sort::Silent => assert_eq!(read, 0, "{sort:?}"),
             _ => assert!(read < others, "{sort:?}: {read} of {others}"),
         }
     }

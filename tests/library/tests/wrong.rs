@@ -6,6 +6,7 @@ use library::calls::Library;
 use library::found::Found;
 use library::sections::{named, SECTIONS};
 use std::cell::RefCell;
+use std::ops::Range;
 use std::slice;
 
 /// A buffer that is lent for reading; with length 0 its pointer may be NULL.
@@ -97,16 +98,16 @@ unsafe extern "C" fn count(plan: *const u8, length: usize, kind: usize) -> i64 {
     number(counts, |counts| counts.get(kind).copied().unwrap_or(0))
 }
 
-unsafe extern "C" fn sample_kind(unit: u8, i: u8, j: u8) -> i64 {
-    sample_numbers(unit, i, j)[0]
+unsafe extern "C" fn sample_kind(unit_byte: u8, i: u8, j: u8) -> i64 {
+    sample_numbers(unit_byte, i, j)[0]
 }
 
-unsafe extern "C" fn sample_i(unit: u8, i: u8, j: u8) -> i64 {
-    sample_numbers(unit, i, j)[1]
+unsafe extern "C" fn sample_i(unit_byte: u8, i: u8, j: u8) -> i64 {
+    sample_numbers(unit_byte, i, j)[1]
 }
 
-unsafe extern "C" fn sample_j(unit: u8, i: u8, j: u8) -> i64 {
-    sample_numbers(unit, i, j)[2]
+unsafe extern "C" fn sample_j(unit_byte: u8, i: u8, j: u8) -> i64 {
+    sample_numbers(unit_byte, i, j)[2]
 }
 
 const RIGHT: Library =
@@ -119,7 +120,12 @@ fn found(library: &Library, section: &str, cases: u64) -> Found {
 
 /// The first difference that a section finds contains this text.
 fn caught(library: Library, section: &str, cases: u64, text: &str) {
-    let found = found(&library, section, cases);
+    caught_among(library, section, 0..cases, text);
+}
+
+/// The first difference that these cases of a section find contains this text.
+fn caught_among(library: Library, section: &str, cases: Range<u64>, text: &str) {
+    let found = named(section).expect("a section").cases(&library, 1, cases);
     assert!(found.differences > 0, "nothing found, {text} expected");
     let told = found.text(section, 1);
     assert!(told.contains(text), "{text} expected, found:\n{told}");
@@ -185,8 +191,8 @@ fn wrong_numbers() {
     }
     caught(Library { count: kinds, ..RIGHT }, "owners", 1, "count of kind 4294967296");
 
-    unsafe extern "C" fn minus_zero(unit: u8, i: u8, j: u8) -> i64 {
-        sample_j(unit, i, j) | if (unit, j) == (1, 0) { 1 << 31 } else { 0 }
+    unsafe extern "C" fn minus_zero(unit_byte: u8, i: u8, j: u8) -> i64 {
+        sample_j(unit_byte, i, j) | if (unit_byte, j) == (1, 0) { 1 << 31 } else { 0 }
     }
     caught(Library { sample_j: minus_zero, ..RIGHT }, "samples", 70_000, "80000000");
 
@@ -257,6 +263,87 @@ fn wrong_bytes() {
         *plan.cast_mut() ^= 1
     });
     caught(Library { read: plan, ..RIGHT }, "grids", 1, "plan: 1 of ");
+}
+
+/// The samples of a unit byte.
+fn samples_of(unit_byte: u64) -> Range<u64> {
+    unit_byte << 16..(unit_byte + 1) << 16
+}
+
+/// The greatest level of one unit in another, and a gain by the byte in place of the unit.
+#[test]
+fn wrong_samples_of_256qam() {
+    unsafe extern "C" fn to_fifteen(unit_byte: u8, i: u8, j: u8) -> i64 {
+        sample_kind(if unit_byte == 84 { 255 } else { unit_byte }, i, j)
+    }
+    let library = Library { sample_kind: to_fifteen, ..RIGHT };
+    caught_among(library, "samples", samples_of(84), "sample of 54 00 09");
+
+    unsafe extern "C" fn to_eight(unit_byte: u8, i: u8, j: u8) -> i64 {
+        sample_kind(if unit_byte == 170 { 84 } else { unit_byte }, i, j)
+    }
+    let library = Library { sample_kind: to_eight, ..RIGHT };
+    caught_among(library, "samples", samples_of(170), "sample of aa 00 09");
+
+    unsafe extern "C" fn gain_of_the_byte(unit_byte: u8, i: u8, j: u8) -> i64 {
+        match sample_numbers(unit_byte, i, j) {
+            [2, _, _] if unit_byte == 255 => i64::from((f32::from(i as i8) / 255f32.sqrt()).to_bits()),
+            [_, i, _] => i,
+        }
+    }
+    let library = Library { sample_i: gain_of_the_byte, ..RIGHT };
+    caught_among(library, "samples", samples_of(255), "sample of ff 01 00");
+}
+
+/// The modulation of seven bits taken for that of eight.
+#[test]
+fn wrong_modulation() {
+    unsafe extern "C" fn seven(plan: *const u8, length: usize) -> i64 {
+        let mut bytes = from_raw_parts(plan, length).to_vec();
+        for at in 3..length {
+            if bytes[at - 3] == 0x30 && bytes[at] == 7 {
+                bytes[at] = 8;
+            }
+        }
+        number(judge::check(&bytes), |_| 0)
+    }
+    caught(Library { check: seven, ..RIGHT }, "refusals", 2000, "check: expected -6, found 0");
+}
+
+/// The levels I and J of a grid's elements in the units of 256QAM.
+fn levels_of_256qam(grid: &mut [u8]) -> impl Iterator<Item = &mut u8> {
+    let elements = grid.chunks_mut(3).filter(|element| [170, 255].contains(&element[0]));
+    elements.flat_map(|element| element[1..].iter_mut())
+}
+
+/// A wrong byte for unit 340, two levels exchanged, and a reader that takes 17 for 15.
+#[test]
+fn wrong_elements_of_256qam() {
+    spoils!(remainder, build, |answer, _p, _g, to, n| if answer > 0 {
+        let units = from_raw_parts_mut(to, n).iter_mut().step_by(3);
+        units.filter(|unit| **unit == 255).for_each(|unit| *unit = 84)
+    });
+    caught(Library { build: remainder, ..RIGHT }, "builds", 40, "build, answer ");
+
+    spoils!(exchanged, build, |answer, _p, _g, to, n| if answer > 0 {
+        let levels = levels_of_256qam(from_raw_parts_mut(to, n));
+        levels.filter(|level| [13, 15].contains(*level)).for_each(|level| *level ^= 2)
+    });
+    caught(Library { build: exchanged, ..RIGHT }, "builds", 40, "build, answer ");
+
+    unsafe extern "C" fn lenient(
+        p: *const u8,
+        pl: usize,
+        given: *const u8,
+        gl: usize,
+        to: *mut u8,
+        n: usize,
+    ) -> i64 {
+        let mut grid = from_raw_parts(given, gl).to_vec();
+        levels_of_256qam(&mut grid).filter(|level| **level == 17).for_each(|level| *level = 15);
+        write(judge::read(from_raw_parts(p, pl), &grid, n), to, n)
+    }
+    caught(Library { read: lenient, ..RIGHT }, "grids", 2000, "Beyond");
 }
 
 /// One reader takes any grid, one takes none.

@@ -1,4 +1,5 @@
-//! planexplain compared, line for line, with an explanation of plans written from document 01 ("Plan and payload", "Refusals").
+//! planexplain compared, line for line, with an explanation of plans written from document 01 ("Plan and payload", "Refusals") with
+//! document 02's #109.
 
 use judge::generate::{any_commands, damaged_plan, Random};
 use judge::harness::{hex, run};
@@ -129,8 +130,8 @@ fn user_fault(v: &[usize], before: &Before) -> Option<Fault> {
     if v[0] == 0 {
         return field(6, "RNTI", v[0], "1 to 65535");
     }
-    if ![2, 4, 6].contains(&v[1]) {
-        return field(6, "modulation", v[1], "2, 4 or 6");
+    if ![2, 4, 6, 8].contains(&v[1]) {
+        return field(6, "modulation", v[1], "2, 4, 6 or 8");
     }
     if v[3] == 0 {
         return field(6, "count", v[3], "at least 1");
@@ -203,8 +204,8 @@ fn words(name: &str, v: &[usize]) -> String {
         "FRAME" => format!("frame {}, subframe {}, CFI {}", v[0], v[1], v[2]),
         "HI" => format!("group {}, sequence {}", v[0], v[1]),
         "USER" => {
-            let modulation =
-                choice(&[(2, "QPSK"), (4, "16QAM"), (6, "64QAM")], v[1], format!("modulation {}", v[1]));
+            let names = [(2, "QPSK"), (4, "16QAM"), (6, "64QAM"), (8, "256QAM")];
+            let modulation = choice(&names, v[1], format!("modulation {}", v[1]));
             let blocks = match v[3] {
                 0 => format!("no block from {}", v[2]),
                 1 => format!("block {}", v[2]),
@@ -286,7 +287,7 @@ fn with_length(plan: &[u8]) -> Vec<u8> {
     [&length.to_be_bytes(), plan].concat()
 }
 
-/// A plan with a command of each sort, two HIs and three USERs.
+/// A plan with a command of each sort, two HIs and four USERs, one of each modulation.
 fn sample_plan(prefix: u8) -> Vec<Vec<u8>> {
     vec![
         vec![0x10, 0x01, 0xF7, 25, prefix, 2, 6],
@@ -296,6 +297,7 @@ fn sample_plan(prefix: u8) -> Vec<Vec<u8>> {
         vec![0x30, 0, 7, 2, 0, 5],
         vec![0x30, 0, 8, 4, 20, 5],
         vec![0x30, 0xFF, 0xFF, 6, 5, 1],
+        vec![0x30, 0, 9, 8, 6, 2],
         vec![0x00],
     ]
 }
@@ -406,7 +408,7 @@ const CLASHES: [(&[&[u8]], &str); 6] = [
     // An RNTI used before is not named where a field is refused.
     (
         &[&[0x30, 0, 7, 2, 0, 5], &[0x30, 0, 7, 3, 0, 5]],
-        "command 4, byte 18 of the plan, field modulation: 3; 2, 4 or 6",
+        "command 4, byte 18 of the plan, field modulation: 3; 2, 4, 6 or 8",
     ),
 ];
 

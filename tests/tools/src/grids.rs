@@ -1,9 +1,11 @@
 //! gridbuild and gridread: what they write on standard output, byte for byte, and the refusal's number on standard error. Inputs are a
 //! two-byte plan length, the plan, and the payload or the grid.
 
-use judge::generate::{any_plan, damaged_plan, gridcount_case, input, right_payload, Random};
+use judge::generate::{
+    any_plan, damaged_plan, gridcount_case, his, input, right_payload, Fixed, His, Random,
+};
 use judge::harness::{hex, Tally};
-use judge::plan::{Refusal, UNKNOWN_OR_SHORT};
+use judge::plan::{Refusal, END, UNKNOWN_OR_SHORT, USER};
 use std::fs::OpenOptions;
 use std::io::{Read, Write};
 use std::path::Path;
@@ -14,6 +16,9 @@ use std::time::Duration;
 
 const SEED: u64 = 1;
 const INPUTS: u64 = 300;
+
+/// The input with the longest payload; gridcount has special ones before it.
+const LONGEST: u64 = 12;
 
 /// A program that has not ended after so long is taken to hang.
 const PATIENCE: Duration = Duration::from_secs(20);
@@ -60,8 +65,20 @@ fn read_back(input: &[u8]) -> Answer {
     judge::read(plan, grid, judge::payload_length(plan)?).map(|(payload, _)| payload)
 }
 
-/// gridcount's inputs: accepted ones, damaged plans and payloads, inputs that are cut off.
+/// The plan with the longest payload of all: 200 HIs, and one user of 256QAM with 15,000 elements.
+fn longest_plan() -> Vec<u8> {
+    let fixed =
+        Fixed { identity: 503, blocks: 100, prefix: 0, ports: 1, g: 12, frame: 0, subframe: 1, cfi: 1 };
+    let his = his(&mut Random::new(SEED), &fixed.cell(), His::All);
+    [fixed.commands().concat(), his.concat(), vec![USER, 0, 1, 8, 0, 100, END]].concat()
+}
+
+/// gridcount's inputs: accepted ones, damaged plans and payloads, inputs that are cut off; and the longest payload.
 fn build_input(case: u64) -> Vec<u8> {
+    if case == LONGEST {
+        let plan = longest_plan();
+        return input(&plan, &right_payload(&mut Random::new(SEED), &plan).expect("an accepted plan"));
+    }
     let mut input = gridcount_case(SEED, case);
     if case % 60 == 59 {
         input.resize(TOO_LONG, 0);
@@ -73,6 +90,10 @@ fn read_input(case: u64) -> Vec<u8> {
     let mut random = Random::of_case(!SEED, case);
     if case == 0 {
         return READ_IN.to_vec();
+    }
+    if case == LONGEST {
+        let plan = longest_plan();
+        return input(&plan, &grid_of(&mut random, &plan));
     }
     let plan = any_plan(&mut random);
     let grid = grid_of(&mut random, &plan);

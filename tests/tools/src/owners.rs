@@ -40,7 +40,7 @@ fn name_and_mark(plan: &Plan, number: u16) -> (String, String) {
         }
         256..=355 => {
             let user = &plan.users[n - 256];
-            let modulation = ["QPSK", "16QAM", "64QAM"][user.bits / 2 - 1];
+            let modulation = ["QPSK", "16QAM", "64QAM", "256QAM"][user.bits / 2 - 1];
             (format!("user {}, RNTI {}, {modulation}", n - 256, user.rnti), format!("{:02}", n - 256))
         }
         512 => named("held", "--"),

@@ -74,11 +74,11 @@ mod tests {
 
     #[test]
     fn line_counts() {
-        // gold: 1 + 9 * 6 + 28; modulation: 84 + 3 * 17 * 17;
+        // gold: 1 + 9 * 6 + 28; modulation: 340 + 4 * 33 * 33;
         // sync: 3 + 168 + 102 * 2; crs: 2 * 5 * 4 * 3 * 3;
         // phich: 2 * 24 * 4; precoding: 5 + 12 + 32 + 24 + 36 * (1 + 2 + 4);
-        // sample: 7 + 7 * 17 + 256.
-        let counts = [83, 951, 375, 360, 192, 325, 382];
+        // sample: 9 + 9 * 33 + 256.
+        let counts = [83, 4696, 375, 360, 192, 325, 562];
         for (name, count) in NAMES.iter().zip(counts) {
             assert_eq!(section(name).unwrap().len(), count, "{name}");
         }

@@ -221,9 +221,14 @@ fn symbols(count: i32) -> Vec<Pair> {
         .collect()
 }
 
+/// The bytes as numbers. Document 02, #109: "with diversity 340, whose unit byte is 255".
 fn text(element: &Element) -> String {
     let (i, j) = element.value;
-    format!("{} {i},{j}", element.unit)
+    let byte = match element.unit {
+        340 => 255,
+        unit => unit,
+    };
+    format!("{byte} {i},{j}")
 }
 
 const CHANNELS: [(usize, i32); 4] = [(1, 5), (2, 6), (4, 8), (4, 6)];
@@ -231,7 +236,7 @@ const CHANNELS: [(usize, i32); 4] = [(1, 5), (2, 6), (4, 8), (4, 6)];
 pub fn lines() -> Vec<String> {
     let mut out = Vec::new();
     for (ports, m) in CHANNELS {
-        let y = channel(ports, &symbols(m), 42);
+        let y = channel(ports, &symbols(m), 170);
         for (j, place) in y.iter().enumerate() {
             for (p, element) in place.iter().enumerate() {
                 out.push(format!("td {ports} {m} {j} {p} {}", text(element)));

@@ -2,7 +2,7 @@
 use native.Mathlib.Omega.{arith}
 use mathlib.Core.Logic.{⊎-elim}
 use borrow.Author.Tests.{eqb-true, eqb-false}
-use Rattle.compare.proofs.Answers.{mark-few, all-same, other-unit, other-i, other-j}
+use Rattle.compare.proofs.Answers.{mark-few, all-same, other-byte, other-i, other-j}
 use Rattle.compare.proofs.compare_element.Statement.{statement}
 use Rattle.compare.proofs.compare_element.Tie as tie
 
@@ -31,7 +31,7 @@ returns-2 : tie.Need-returns-2
 returns-2 c =
     let c3 = c .before .before .before in
     ⊎-elim (λ x. other-j (c3 .args .a) (c3 .args .b) (x .0 .taken) (eqb-true _ _ (x .3 .taken)) (eqb-false _ _ (x .6 .left)))
-    (⊎-elim (λ x. other-i (c3 .args .a) (c3 .args .b) (x .0 .taken) (eqb-false _ _ (x .3 .left))) (λ x. other-unit (c3 .args .a) (c3 .args .b) (x .left))) (c .if1 .came)
+    (⊎-elim (λ x. other-i (c3 .args .a) (c3 .args .b) (x .0 .taken) (eqb-false _ _ (x .3 .left))) (λ x. other-byte (c3 .args .a) (c3 .args .b) (x .left))) (c .if1 .came)
 
 pub compare-element-spec : {M : Type 1} → statement M
 compare-element-spec = tie.close (tie.spec nonzero-of-requires nonzero-of-requires-2 add-t8 nonzero-of-requires-3 add-t10 returns returns-2)

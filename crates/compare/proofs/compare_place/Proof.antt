@@ -7,8 +7,8 @@ use Rattle.compare.proofs.Sending.{own-looked, other-looked, one-look, 
 use Rattle.compare.proofs.compare_place.Statement.{statement}
 use Rattle.compare.proofs.compare_place.Tie as tie
 
-unit-on-requires : tie.Need-unit-on-requires
-unit-on-requires c κs = c .before .pre .3
+unit-byte-on-requires : tie.Need-unit-byte-on-requires
+unit-byte-on-requires c κs = tt
 
 own-port-requires : tie.Need-own-port-requires
 own-port-requires c κs = tt
@@ -37,7 +37,7 @@ compare-at-requires c κs =
 returns : tie.Need-returns
 returns c =
     let c2 = c .before .before in let c3 = c2 .before in let c4 = c3 .before in let c5 = c4 .before in let c7 = c5 .before .before in
-    one-look (c7 .pre .0) (c7 .args .pair) (c7 .args .unit) (c7 .args .odd) (c7 .args .t) (c7 .args .d) (c7 .args .e) (c7 .pre .1) (c5 .unit-on .ensures) (c .if1 .taken)
+    one-look (c7 .pre .0) (c7 .args .pair) (c7 .args .unit) (c7 .args .odd) (c7 .args .t) (c7 .args .d) (c7 .args .e) (c7 .pre .1) (c5 .unit-byte-on .ensures) (c .if1 .taken)
     (c2 .element-of .ensures) (own-looked (c7 .pre .0) (c7 .args .pair) (c7 .args .t) (c7 .pre .1) (c3 .wide .ensures ∙ c4 .own-port .ensures) (c .before .compare-at .ensures))
 
 other-port-requires : tie.Need-other-port-requires
@@ -79,12 +79,12 @@ returns-2 : tie.Need-returns-2
 returns-2 c =
     let c2 = c .before .before in let c3 = c2 .before in let c4 = c3 .before in let c5 = c4 .before in let c6 = c5 .before in let c7 = c6 .before in let c8 = c7 .before in
     let c9 = c8 .before in let c10 = c9 .before in let c11 = c10 .before in let c13 = c11 .before .before in
-    two-looks (c13 .pre .0) (c13 .args .pair) (c13 .args .unit) (c13 .args .odd) (c13 .args .t) (c13 .args .d) (c13 .args .e) (c13 .pre .1) (c11 .unit-on .ensures) (c6 .if1 .left)
+    two-looks (c13 .pre .0) (c13 .args .pair) (c13 .args .unit) (c13 .args .odd) (c13 .args .t) (c13 .args .d) (c13 .args .e) (c13 .pre .1) (c11 .unit-byte-on .ensures) (c6 .if1 .left)
     (c3 .partner .ensures) (c8 .element-of .ensures) (c2 .element-of2 .ensures)
     (own-looked (c13 .pre .0) (c13 .args .pair) (c13 .args .t) (c13 .pre .1) (c9 .wide .ensures ∙ c10 .own-port .ensures) (c7 .compare-at .ensures))
     (other-looked (c13 .pre .0) (c13 .args .pair) (c13 .args .t) (c13 .pre .1) (c4 .wide2 .ensures ∙ c5 .other-port .ensures) (c .before .compare-at2 .ensures)) (c .together .ensures)
 
 pub compare-place-spec : {M : Type 1} → statement M
 compare-place-spec =
-    tie.close (tie.spec unit-on-requires own-port-requires wide-requires mul-own add-own element-of-requires compare-at-requires returns other-port-requires
+    tie.close (tie.spec unit-byte-on-requires own-port-requires wide-requires mul-own add-own element-of-requires compare-at-requires returns other-port-requires
     wide-requires-2 mul-other add-other partner-requires element-of-requires-2 compare-at-requires-2 together-requires returns-2)

@@ -7,10 +7,10 @@ use Rattle.constellation.proofs.set_elements.Statement.{statement}
 use Rattle.constellation.proofs.set_elements.Tie as tie
 
 abbrev Inv-loop : tie.InvT-loop
-Inv-loop t₀ q unit n x₀ t x = Entries q unit x t × (n ≤ x) × (x ≤ 256)
+Inv-loop t₀ q byte n x₀ t x = Entries q byte x t × (n ≤ x) × (x ≤ 256)
 
 abbrev μ-loop : tie.MeasureT-loop
-μ-loop t₀ q unit n x₀ t x = 256 - x
+μ-loop t₀ q byte n x₀ t x = 256 - x
 
 set-words-requires : tie.Need-set-words-requires Inv-loop μ-loop
 set-words-requires c κs = c .before .pre

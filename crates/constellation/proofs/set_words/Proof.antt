@@ -8,10 +8,10 @@ use Rattle.constellation.proofs.set_words.Statement.{statement}
 use Rattle.constellation.proofs.set_words.Tie as tie
 
 abbrev Inv-loop : tie.InvT-loop
-Inv-loop t₀ q unit k₀ t k = Entries k unit (2 ^ k) t × (k ≤ q) × (k % 2 ≡ 0)
+Inv-loop t₀ q byte k₀ t k = Entries k byte (2 ^ k) t × (k ≤ q) × (k % 2 ≡ 0)
 
 abbrev μ-loop : tie.MeasureT-loop
-μ-loop t₀ q unit k₀ t k = q - k
+μ-loop t₀ q byte k₀ t k = q - k
 
 word-requires : tie.Need-word-requires Inv-loop μ-loop
 word-requires c κs = tt
@@ -44,7 +44,7 @@ loop-again c =
 returns : tie.Need-returns Inv-loop μ-loop
 returns c =
     let c3 = c .before .before .before in
-    subst (λ (k : ℕ). Entries k (c3 .args .unit) (2 ^ k) (c .before .loop .t)) (omega arith) (c .before .loop .inv .0)
+    subst (λ (k : ℕ). Entries k (c3 .args .byte) (2 ^ k) (c .before .loop .t)) (omega arith) (c .before .loop .inv .0)
 
 pub set-words-spec : {M : Type 1} → statement M
 set-words-spec = tie.close (tie.spec Inv-loop μ-loop word-requires element-write-t loop-holds widen-all-requires add-k loop-less loop-again returns)

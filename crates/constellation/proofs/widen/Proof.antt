@@ -70,7 +70,7 @@ returns c =
     let c12 = c .before .before .before .before .before .before .before .before .before .before .before .before in
     let c13 = c .before .before .before .before .before .before .before .before .before .before .before .before .before in
     let c14 = c .before .before .before .before .before .before .before .before .before .before .before .before .before .before in
-    widened-by (c14 .pre .0) (c14 .pre .1) (c14 .pre .2) (c14 .pre .3) (c14 .fits .unit .fits)
+    widened-by (c14 .pre .0) (c14 .pre .1) (c14 .pre .2) (c14 .pre .3) (c14 .fits .byte .fits)
     (c11 .word .ensures .0) (c13 .power .ensures .0) (c12 .power2 .ensures .0)
     (c9 .less .ensures .0) (c8 .less2 .ensures .0) (c7 .less3 .ensures .0) (c6 .less4 .ensures .0)
     (c5 .three .ensures) (c4 .three2 .ensures) (c3 .three3 .ensures) (c2 .three4 .ensures) (c .set-four .ensures)

@@ -7,10 +7,10 @@ use Rattle.constellation.proofs.widen_all.Statement.{statement}
 use Rattle.constellation.proofs.widen_all.Tie as tie
 
 abbrev Inv-loop : tie.InvT-loop
-Inv-loop t₀ k unit n x₀ t x = Widened k unit x t × (x ≤ n)
+Inv-loop t₀ k byte n x₀ t x = Widened k byte x t × (x ≤ n)
 
 abbrev μ-loop : tie.MeasureT-loop
-μ-loop t₀ k unit n x₀ t x = n - x
+μ-loop t₀ k byte n x₀ t x = n - x
 
 power-requires : tie.Need-power-requires Inv-loop μ-loop
 power-requires c κs = omega arith

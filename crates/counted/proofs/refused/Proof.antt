@@ -1,5 +1,4 @@
 -- `counted::refused` meets its contract: the refusal's number, and no counts. Assumes nothing.
-use Prim.Native.Nat.{ℕ}
 use mathlib.Core.Path.{ap}
 use borrow.Author.Needs.{needs}
 use Rattle.base.specs.Tables.{table}

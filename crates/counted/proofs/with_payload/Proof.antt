@@ -1,6 +1,5 @@
 -- `counted::with_payload` meets its contract. Assumes nothing.
-use mathlib.Core.Path.{_≡_, refl, sym, _∙_}
-use native.Mathlib.Omega.{arith}
+use mathlib.Core.Path.{_∙_}
 use Rattle.counted.proofs.Ways.{wrong-length, spare-set, taken}
 use borrow.Author.Needs.{needs}
 use Rattle.counted.proofs.with_payload.Statement.{statement}

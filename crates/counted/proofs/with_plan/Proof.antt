@@ -1,6 +1,5 @@
 -- `counted::with_plan` meets its contract. Assumes nothing.
-use mathlib.Core.Path.{_≡_, refl, sym, _∙_}
-use native.Mathlib.Omega.{arith}
+use mathlib.Core.Path.{sym, _∙_}
 use Rattle.counted.proofs.Ways.{plan-is, plan-refused}
 use borrow.Author.Needs.{needs}
 use Rattle.counted.proofs.with_plan.Statement.{statement}

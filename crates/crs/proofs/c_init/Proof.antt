@@ -1,8 +1,8 @@
 -- `crs::c_init` meets its contract. Assumes nothing.
 use native.Mathlib.Omega.{arith}
-use mathlib.Core.Path.{_≡_, ap}
+use mathlib.Core.Path.{ap}
 use Prim.Native.Nat.{ℕ, _+_, _*_}
-use Rattle.crs.specs.Crs.{normalPrefix, crsInit}
+use Rattle.crs.specs.Crs.{crsInit}
 use Rattle.crs.proofs.Values.{init-fits, prefix-le}
 use borrow.Author.Needs.{needs}
 use Rattle.crs.proofs.c_init.Statement.{statement}

@@ -1,5 +1,5 @@
 -- `crs::n_cp` meets its contract. Assumes nothing.
-use mathlib.Core.Path.{_≡_, refl, sym, ap}
+use mathlib.Core.Path.{sym, ap}
 use Rattle.crs.specs.Crs.{normalPrefix}
 use Rattle.crs.proofs.Values.{prefix-extended}
 use Rattle.crs.proofs.n_cp.Statement.{statement}

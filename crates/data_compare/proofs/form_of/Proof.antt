@@ -14,7 +14,7 @@ shl-levels : tie.Need-shl-levels
 shl-levels c = search needs
 
 sub-t5 : tie.Need-sub-t5
-sub-t5 c = let p : 2 ^ (c .args .q / 2) ≤ 8 = pow-mono {j = 3} (omega (arith, c .pre)) in omega arith
+sub-t5 c = let p : 2 ^ (c .args .q / 2) ≤ 16 = pow-mono {j = 4} (omega (arith, c .pre)) in omega arith
 
 mul-t6 : tie.Need-mul-t6
 mul-t6 c = search needs
@@ -26,7 +26,7 @@ add-t9 : tie.Need-add-t9
 add-t9 c = search needs
 
 returns : tie.Need-returns
-returns c = let p : 2 ^ (c .args .q / 2) ≤ 8 = pow-mono {j = 3} (omega (arith, c .pre)) in form-made (c .args .q) (c .args .unit) (c .pre) (omega arith) (omega arith)
+returns c = let p : 2 ^ (c .args .q / 2) ≤ 16 = pow-mono {j = 4} (omega (arith, c .pre)) in form-made (c .args .q) (c .args .byte) (c .pre) (omega arith) (omega arith)
 
 pub form-of-spec : {M : Type 1} → statement M
 form-of-spec = tie.close (tie.spec cast-levels shl-levels sub-t5 mul-t6 mul-t8 add-t9 returns)

@@ -4,7 +4,6 @@ use mathlib.Core.Path.{sym, _∙_}
 use Prim.Native.Nat.{_+_, _*_, _/_}
 use Rattle.layout.proofs.Ways.{in-both, unit-first, unit-none, unit-second, unit-third}
 use Rattle.layout.proofs.Units.{units-fit}
-use borrow.Author.Needs.{needs}
 use Rattle.layout.proofs.unit_in.Statement.{statement}
 use Rattle.layout.proofs.unit_in.Tie as tie
 

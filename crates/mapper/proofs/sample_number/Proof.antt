@@ -35,12 +35,12 @@ enum-known-s-3 c = search needs
 bits-requires : tie.Need-bits-requires
 bits-requires c κs =
     let a = c .before .before .before .before .before .before .before .args in
-    first-no-nan (a .unit) (a .i) (a .j) _ (c .before .before .before .before .before .before .sample-at .ensures) _ (c .before .before .before .before .s .given .1) _ (c .before .s3 .given .1)
+    first-no-nan (a .byte) (a .i) (a .j) _ (c .before .before .before .before .before .before .sample-at .ensures) _ (c .before .before .before .before .s .given .1) _ (c .before .s3 .given .1)
 
 bits-requires-2 : tie.Need-bits-requires-2
 bits-requires-2 c κs =
     let a = c .before .before .before .before .before .before .before .before .args in
-    second-no-nan (a .unit) (a .i) (a .j) _ (c .before .before .before .before .before .before .before .sample-at .ensures) _
+    second-no-nan (a .byte) (a .i) (a .j) _ (c .before .before .before .before .before .before .before .sample-at .ensures) _
     (c .before .before .before .before .before .s .given .1) _ (c .before .before .s3 .given .1)
 
 nth-requires-2 : tie.Need-nth-requires-2
@@ -61,20 +61,20 @@ minus-requires c κs = search needs
 returns : tie.Need-returns
 returns c =
     let a = c .before .before .before .before .before .before .args in
-    plus-is 0 _ (is-silence (a .unit) (a .i) (a .j) _ (c .before .before .before .before .before .sample-at .ensures) _ (c .before .before .before .s .given .1) (a .n) (c .enum-told .given .1))
+    plus-is 0 _ (is-silence (a .byte) (a .i) (a .j) _ (c .before .before .before .before .before .sample-at .ensures) _ (c .before .before .before .s .given .1) (a .n) (c .enum-told .given .1))
 
 returns-2 : tie.Need-returns-2
 returns-2 c =
     let a = c .before .before .before .before .before .before .before .before .before .args in
     plus-back _ _ (c .plus .result) (c .plus .ok) (c .plus .ensures)
-    (is-phase (a .unit) (a .i) (a .j) _ (c .before .before .before .before .before .before .before .before .sample-at .ensures) _
+    (is-phase (a .byte) (a .i) (a .j) _ (c .before .before .before .before .before .before .before .before .sample-at .ensures) _
     (c .before .before .before .before .before .before .s .given .1) (a .n) _ _ (c .before .before .before .s2 .given .1) (c .before .nth .ensures))
 
 returns-3 : tie.Need-returns-3
 returns-3 c =
     let a = c .before .before .before .before .before .before .before .before .before .before .before .args in
     plus-back _ _ (c .plus2 .result) (c .plus2 .ok) (c .plus2 .ensures)
-    (is-pair (a .unit) (a .i) (a .j) _ (c .before .before .before .before .before .before .before .before .before .before .sample-at .ensures) _
+    (is-pair (a .byte) (a .i) (a .j) _ (c .before .before .before .before .before .before .before .before .before .before .sample-at .ensures) _
     (c .before .before .before .before .before .before .before .before .s .given .1)
     _ (c .before .before .before .before .before .s3 .given .1) (a .n) _ _ _ (c .before .before .before .bits .ensures) (c .before .before .bits2 .ensures) (c .before .nth2 .ensures))
 
@@ -82,7 +82,7 @@ returns-4 : tie.Need-returns-4
 returns-4 c =
     let a = c .before .before .before .before .args in
     minus-back _ _ (c .minus .result) (c .minus .ok) (c .minus .ensures)
-    (is-refused (a .unit) (a .i) (a .j) _ (c .before .before .before .sample-at .ensures) (a .n) (c .before .enum-told2 .given .1))
+    (is-refused (a .byte) (a .i) (a .j) _ (c .before .before .before .sample-at .ensures) (a .n) (c .before .enum-told2 .given .1))
 
 pub sample-number-spec : {M : Type 1} → statement M
 sample-number-spec =

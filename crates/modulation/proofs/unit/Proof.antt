@@ -19,9 +19,13 @@ returns-3 c = sym (ap unitOf (c .match .keys3))
 
 returns-4 : tie.Need-returns-4
 unfolding unitOf unitIn
-returns-4 c =
+returns-4 c = sym (ap unitOf (c .match .keys4))
+
+returns-5 : tie.Need-returns-5
+unfolding unitOf unitIn
+returns-5 c =
     let r = c .match .rest in
-    simp (ne-eqb _ _ (r .0 .0 .1), ne-eqb _ _ (r .0 .1), ne-eqb _ _ (r .1))
+    simp (ne-eqb _ _ (r .0 .0 .0 .1), ne-eqb _ _ (r .0 .0 .1), ne-eqb _ _ (r .0 .1), ne-eqb _ _ (r .1))
 
 pub unit-spec : {M : Type 1} → statement M
-unit-spec = tie.close (tie.spec returns returns-2 returns-3 returns-4)
+unit-spec = tie.close (tie.spec returns returns-2 returns-3 returns-4 returns-5)

@@ -7,13 +7,13 @@ use Rattle.modulation_vectors.proofs.back_lines.Statement.{statement}
 use Rattle.modulation_vectors.proofs.back_lines.Tie as tie
 
 abbrev Inv-loop : tie.InvT-loop
-Inv-loop q t d n₀ n = n ≤ 17
+Inv-loop q t d n₀ n = n ≤ 33
 
 abbrev μ-loop : tie.MeasureT-loop
-μ-loop q t d n₀ n = 17 - n
+μ-loop q t d n₀ n = 33 - n
 
-unit-requires : tie.Need-unit-requires Inv-loop μ-loop
-unit-requires c κs = search needs
+unit-byte-requires : tie.Need-unit-byte-requires Inv-loop μ-loop
+unit-byte-requires c κs = search needs
 
 set-elements-requires : tie.Need-set-elements-requires Inv-loop μ-loop
 set-elements-requires c κs = let entry = c .before .before in (refl, entry .pre .0, omega (arith, entry .pre .2))
@@ -44,5 +44,5 @@ returns c = search needs
 
 pub back-lines-spec : {M : Type 1} → statement M
 back-lines-spec =
-    tie.close (tie.spec Inv-loop μ-loop unit-requires set-elements-requires set-axis-requires loop-holds level-requires back-row-requires add-n loop-less
+    tie.close (tie.spec Inv-loop μ-loop unit-byte-requires set-elements-requires set-axis-requires loop-holds level-requires back-row-requires add-n loop-less
     loop-again returns)

@@ -5,16 +5,16 @@ use Rattle.modulation_vectors.proofs.back_row.Statement.{statement}
 use Rattle.modulation_vectors.proofs.back_row.Tie as tie
 
 abbrev Inv-loop : tie.InvT-loop
-Inv-loop q t d i n₀ n = n ≤ 17
+Inv-loop q t d i n₀ n = n ≤ 33
 
 abbrev μ-loop : tie.MeasureT-loop
-μ-loop q t d i n₀ n = 17 - n
+μ-loop q t d i n₀ n = 33 - n
 
 loop-holds : tie.Need-loop-holds Inv-loop μ-loop
 loop-holds c = search needs
 
-unit-requires : tie.Need-unit-requires Inv-loop μ-loop
-unit-requires c κs = search needs
+unit-byte-requires : tie.Need-unit-byte-requires Inv-loop μ-loop
+unit-byte-requires c κs = search needs
 
 cast-back-line : tie.Need-cast-back-line Inv-loop μ-loop
 cast-back-line c = search needs
@@ -51,5 +51,5 @@ returns c = search needs
 
 pub back-row-spec : {M : Type 1} → statement M
 back-row-spec =
-    tie.close (tie.spec Inv-loop μ-loop loop-holds unit-requires cast-back-line mul-back-line add-back-line level-requires mul-back-line-2 add-back-line-2
+    tie.close (tie.spec Inv-loop μ-loop loop-holds unit-byte-requires cast-back-line mul-back-line add-back-line level-requires mul-back-line-2 add-back-line-2
     back-line-requires add-n loop-less loop-again returns)

@@ -12,8 +12,8 @@ Inv-loop q words t w₀ w = Unit {0}
 abbrev μ-loop : tie.MeasureT-loop
 μ-loop q words t w₀ w = words - w
 
-unit-requires : tie.Need-unit-requires Inv-loop μ-loop
-unit-requires c κs = search needs
+unit-byte-requires : tie.Need-unit-byte-requires Inv-loop μ-loop
+unit-byte-requires c κs = search needs
 
 set-elements-requires : tie.Need-set-elements-requires Inv-loop μ-loop
 set-elements-requires c κs = let entry = c .before .before in (refl, entry .pre .0, omega (arith, entry .pre .2))
@@ -37,4 +37,4 @@ returns : tie.Need-returns Inv-loop μ-loop
 returns c = search needs
 
 pub map-lines-spec : {M : Type 1} → statement M
-map-lines-spec = tie.close (tie.spec Inv-loop μ-loop unit-requires set-elements-requires loop-holds map-line-requires add-w loop-less loop-again returns)
+map-lines-spec = tie.close (tie.spec Inv-loop μ-loop unit-byte-requires set-elements-requires loop-holds map-line-requires add-w loop-less loop-again returns)

@@ -1,5 +1,5 @@
 -- `precoding_vectors::fill` writes place by place into a grid that stays as long as it was. Assumes nothing.
-use mathlib.Core.Path.{_≡_, sym, ap, _∙_}
+use mathlib.Core.Path.{sym, ap, _∙_}
 use Prim.Native.Nat.{_-_, _≤_}
 use native.Mathlib.Omega.{arith}
 use lib.ListN.{length}
@@ -42,8 +42,7 @@ pair-requires c κs = search needs
 put-place-requires : tie.Need-put-place-requires Inv-loop μ-loop
 put-place-requires c κs =
     let t = c .before .before .before .before .before in
-    let s = t .before .before .before .before .before .before .before in
-    (t .before .loop .inv .0, t .loop-test .taken, c .before .before .symbol2 .ensures, s .pre .3)
+    (t .before .loop .inv .0, t .loop-test .taken, c .before .before .symbol2 .ensures)
 
 add-j : tie.Need-add-j Inv-loop μ-loop
 add-j c = search needs

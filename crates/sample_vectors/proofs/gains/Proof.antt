@@ -5,10 +5,10 @@ use Rattle.sample_vectors.proofs.gains.Statement.{statement}
 use Rattle.sample_vectors.proofs.gains.Tie as tie
 
 abbrev Inv-loop : tie.InvT-loop
-Inv-loop k₀ k = k ≤ 7
+Inv-loop k₀ k = k ≤ 9
 
 abbrev μ-loop : tie.MeasureT-loop
-μ-loop k₀ k = 7 - k
+μ-loop k₀ k = 9 - k
 
 loop-holds : tie.Need-loop-holds Inv-loop μ-loop
 loop-holds c = search needs

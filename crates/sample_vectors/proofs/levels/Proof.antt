@@ -5,10 +5,10 @@ use Rattle.sample_vectors.proofs.levels.Statement.{statement}
 use Rattle.sample_vectors.proofs.levels.Tie as tie
 
 abbrev Inv-loop : tie.InvT-loop
-Inv-loop k₀ k = k ≤ 119
+Inv-loop k₀ k = k ≤ 297
 
 abbrev μ-loop : tie.MeasureT-loop
-μ-loop k₀ k = 119 - k
+μ-loop k₀ k = 297 - k
 
 loop-holds : tie.Need-loop-holds Inv-loop μ-loop
 loop-holds c = search needs

@@ -5,10 +5,10 @@ use Rattle.sample_vectors.proofs.tally.Statement.{statement}
 use Rattle.sample_vectors.proofs.tally.Tie as tie
 
 abbrev Inv-loop : tie.InvT-loop
-Inv-loop unit c₀ n₀ c n = n ≤ 65536
+Inv-loop byte c₀ n₀ c n = n ≤ 65536
 
 abbrev μ-loop : tie.MeasureT-loop
-μ-loop unit c₀ n₀ c n = 65536 - n
+μ-loop byte c₀ n₀ c n = 65536 - n
 
 loop-holds : tie.Need-loop-holds Inv-loop μ-loop
 loop-holds c = search needs
