@@ -1,4 +1,4 @@
--- Three bytes that are an element: those of a unit of the table with levels up to its limit. Assumes nothing.
+-- The bytes of units differ; three bytes that are an element: those of a unit of the table with levels up to its limit. Assumes nothing.
 use mathlib.Core.Path.{_≡_, refl, sym, ap, _∙_}
 use mathlib.Core.Bool.{Bool, true, false, not, _&&_}
 use Prim.Native.Nat.{ℕ, _≤_}
@@ -7,11 +7,22 @@ use lib.Dec.{T, eqb, leb, leb→le}
 use lib.Ieee.Fits.{and-l, and-r}
 use lib.IntN.{natAbs}
 use Rattle.base.specs.Bytes.{signedOf}
+use Rattle.base.proofs.Computed.{every}
 use Rattle.sample.specs.declared.UnitRow.{UnitRow}
-use Rattle.sample.specs.declared.Scale.the-variants.{Levels}
+use Rattle.sample.specs.declared.Scale.{Scale}
+use Rattle.sample.specs.declared.Scale.the-variants.{Levels, Nothing}
 use Rattle.sample.specs.Units.{unitRows, scaleOf}
 use Rattle.sample.specs.Refusal.{noElement}
 use Rattle.sample.proofs.Table.{found, has-byte}
+
+-- each unit has a byte of its own: the row found by it is that unit's
+abbrev isUnit : Scale → ℕ → Bool
+isUnit (Levels r) u = eqb (r .unit) u
+isUnit Nothing u = false
+
+pub own-bytes : T (every (λ (r : UnitRow). isUnit (scaleOf (r .byte)) (r .unit)) unitRows)
+unfolding scaleOf
+own-bytes = tt
 
 -- neither silence nor a phase has a row, and every limit is a signed byte
 abbrev levelled : UnitRow → Bool
