@@ -28,6 +28,7 @@ use Rattle.grid.proofs.Accumulating.{writing}
 use Rattle.grid.proofs.Writing.{none, same, whole}
 use Rattle.subframe.specs.Grid.{elementNumbered, gridOf}
 use Rattle.subframe.proofs.Bytes.{length-by-port}
+use Rattle.subframe.proofs.OwnerBits.{order-of}
 use Rattle.data_write.specs.Sent.{TableOf}
 use Rattle.control.proofs.ControlOwners.{part-levels, his-known}
 use Rattle.schedule.specs.Schedule.{TurnOf, channelCount, channelAt, Among, startPair, presentIn, sendsOf, sentOf, sentBelow, allSend, sectionOf, SumsOf, partOf, lentTo}
@@ -44,7 +45,6 @@ use Rattle.schedule.proofs.Turns.{turn-of, first-in, begins}
 use Rattle.schedule.proofs.Steps.{start-few}
 use Rattle.schedule.proofs.Values.{value, sums-of, section-room, bits-of}
 use Rattle.channel_write.specs.Channels.{LevelsIn, TableFor, ChannelIn}
-use Rattle.channel_write.proofs.Filling.{order-ok}
 use Rattle.build.specs.Filling.{Ready, Shared, Having, OrderOr, orderFor, TurnReady}
 use Rattle.build.proofs.Answers.{plan-room}
 
@@ -76,7 +76,7 @@ module _ {p : Plan} {ch : Channel} {have : ℕ} {t masks sums bits grid : List �
   orders Pbch y = record { new = λ n. (refl, omega arith, omega arith) }
   orders Pcfich y = record { new = λ n. absurd (n refl) }
   orders (Phich m) y = record { new = λ n. absurd (n refl) }
-  orders (User u) y = record { new = λ n. order-ok (u .order) (begins w p (ok .plan) (ok .number) (User u) tt y .2 .order) }
+  orders (User u) y = record { new = λ n. order-of (u .order) (begins w p (ok .plan) (ok .number) (User u) tt y .2 .order) }
 
   tables : {s : List ℕ} (c : Channel) → TurnOf w p (ok .number) c → Having (p .cell .ports) (orderFor have c) s → TableFor p c s
   unfolding orderFor TableFor Among unitOf unitIn
@@ -86,7 +86,7 @@ module _ {p : Plan} {ch : Channel} {have : ℕ} {t masks sums bits grid : List �
   tables Pcfich y x = tt
   tables (Phich m) y x = tt
   tables (User u) y x =
-      let o = order-ok (u .order) (begins w p (ok .plan) (ok .number) (User u) tt y .2 .order) in x .table (λ z. omega (arith, z, o .1))
+      let o = order-of (u .order) (begins w p (ok .plan) (ok .number) (User u) tt y .2 .order) in x .table (λ z. omega (arith, z, o .1))
 
   module _ {order : ℕ} (eo : order ≡ orderFor have ch) where
     pub turn-order : OrderOr have order

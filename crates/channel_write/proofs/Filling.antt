@@ -6,7 +6,7 @@ use mathlib.Core.Bool.{true, false}
 use mathlib.Core.List.{List, [], _∷_}
 use native.Mathlib.Omega.{arith}
 use borrow.Author.Tests.{eqb-true}
-use lib.Dec.{leb, eqb, leb→le, eqb→eq}
+use lib.Dec.{eqb, eqb→eq}
 use lib.ListN.{length, take, drop}
 use types.Run.{OneOf}
 use denote.Enum.Declared.{tagOf}
@@ -14,9 +14,9 @@ use Rattle.gold.specs.declared.Registers.{Registers}
 use Rattle.gold.specs.Steps.{after}
 use Rattle.phich.specs.Spreading.{spreadLength}
 use Rattle.phich.proofs.Scrambled.{part-is}
-use Rattle.modulation.specs.Symbols.{Order, unitOf}
-use Rattle.plan.specs.Lists.{oneOf, Among as IsOneOf}
-use Rattle.plan.specs.Fields.{portCounts, orders}
+use Rattle.modulation.specs.Symbols.{unitOf}
+use Rattle.plan.specs.Lists.{oneOf}
+use Rattle.plan.specs.Fields.{portCounts}
 use Rattle.plan.specs.CommandLists.{usersOf, nthUser}
 use Rattle.plan.specs.Valid.{Valid, CellIn, FrameIn, UserIn}
 use Rattle.plan.specs.declared.Cell.{Cell}
@@ -32,7 +32,7 @@ use Rattle.counts.proofs.UserElements.{user-elements}
 use Rattle.payload.specs.Payload.{pbchBitCount}
 use Rattle.grid.specs.Writing.{Written}
 use Rattle.grid.proofs.Writing.{same}
-use Rattle.subframe.proofs.OwnerBits.{pbch-both}
+use Rattle.subframe.proofs.OwnerBits.{pbch-both, order-of}
 use Rattle.areas.specs.Areas.{areaCount, pbchArea, userArea}
 use Rattle.areas.specs.Tables.{RowMasks}
 use Rattle.areas.specs.declared.Area.{Area}
@@ -50,14 +50,6 @@ use Rattle.schedule.proofs.Senders.{present-sends}
 use Rattle.schedule.proofs.Turns as turns
 use Rattle.schedule.proofs.Owners.{user-in as one-of}
 use Rattle.channel_write.specs.Channels.{bitsUsed, LevelsIn, TableFor, ChannelIn, SequenceIn}
-
--- ---- a user's order is a modulation's
-pub order-ok : (q : ℕ) → IsOneOf q orders → Order q
-order-ok q h = (
-  eqb→eq (q % 2) 0 (among-holds (λ (n : ℕ). eqb (n % 2) 0) orders q tt h),
-  leb→le 2 q (among-holds (λ (n : ℕ). leb 2 n) orders q tt h),
-  leb→le q 8 (among-holds (λ (n : ℕ). leb n 8) orders q tt h),
-)
 
 -- ---- a cell has one, two or four ports
 not-three : (c : Cell) → CellIn c → c .ports ≡ 3 → ⊥
@@ -143,7 +135,7 @@ module _ {p : Plan} {ch : Channel} {t masks bits grid : List ℕ} (ok : ChannelI
               frame = v .frame;
               rows = omega arith;
               halves = omega (arith, h .last);
-              order = order-ok (u .order) (h .order);
+              order = order-of (u .order) (h .order);
               room = ok .room;
             };
         signals = λ many. (many, not-three (p .cell) (v .cell));

@@ -1,2 +1,2 @@
--- Laws that the proofs cite. For the crates above: Filling.order-ok.
-pub mod Filling
+-- Laws that the proofs cite.
+mod Filling

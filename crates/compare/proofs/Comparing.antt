@@ -13,6 +13,7 @@ use lib.ListN.{length, getD}
 use Rattle.base.proofs.Tests.{by-test, clash, or-left, or-right}
 use Rattle.base.specs.declared.Element.{Element}
 use Rattle.base.specs.Bytes.{silent}
+use Rattle.base.proofs.Bytes.{element-is}
 use Rattle.grid.specs.Elements.{elementIn}
 use Rattle.grid.specs.Writing.{Room}
 use Rattle.compare.specs.declared.Seen.{Seen}
@@ -198,7 +199,7 @@ same-element a b h =
     let x = eqb-true (a .byte) (b .byte) (and-left (eqb (a .byte) (b .byte)) (eqb (a .i) (b .i)) (and-left (eqb (a .byte) (b .byte) && eqb (a .i) (b .i)) (eqb (a .j) (b .j)) h)) in
     let y = eqb-true (a .i) (b .i) (and-right (eqb (a .byte) (b .byte)) (eqb (a .i) (b .i)) (and-left (eqb (a .byte) (b .byte) && eqb (a .i) (b .i)) (eqb (a .j) (b .j)) h)) in
     let z = eqb-true (a .j) (b .j) (and-right (eqb (a .byte) (b .byte) && eqb (a .i) (b .i)) (eqb (a .j) (b .j)) h) in
-    ap₂ {C = Element} (λ (u v : ℕ). record { byte = u; i = v; j = a .j }) x y ∙ ap {B = Element} (λ (w : ℕ). record { byte = b .byte; i = b .i; j = w }) z
+    element-is x y z
 
 pub element-same : (a b : Element) → a ≡ b → sameElement a b ≡ true
 element-same a b h = rw (eq-eqb (a .byte) (b .byte) (ap (λ (x : Element). x .byte) h), eq-eqb (a .i) (b .i) (ap (λ (x : Element). x .i) h), eq-eqb (a .j) (b .j) (ap (λ (x : Element). x .j) h)) refl

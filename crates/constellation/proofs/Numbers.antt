@@ -1,7 +1,7 @@
 -- THE LAWS OF PAIRS: levels are odd; two elements as one number, and their partners by one exclusive or. For every unit byte. Assumes
 -- nothing.
 use Prim.Native.Nat.{ℕ, zero, suc, _+_, _-_, _*_, _/_, _%_, _^_, _≤_, _<_}
-use mathlib.Core.Path.{_≡_, refl, sym, ap, ap₂, _∙_}
+use mathlib.Core.Path.{_≡_, refl, sym, ap, _∙_}
 use mathlib.Core.Bool.{Bool, true, false, cond}
 use mathlib.Core.List.{List, [], _∷_}
 use native.Mathlib.Nat.{pow-succ'}
@@ -14,6 +14,7 @@ use lib.ListN.{length, getD}
 use Rattle.base.specs.declared.Element.{Element}
 use Rattle.base.specs.declared.Pair.{Pair}
 use Rattle.base.specs.Bytes.{byteOf, elementOf}
+use Rattle.base.proofs.Bytes.{element-is}
 use Rattle.base.proofs.Fits.{flip-abs}
 use Rattle.modulation.specs.Symbols.{bitsOf, evens, odds, level, modulationSymbol}
 use Rattle.modulation.proofs.Places.{evens-cons}
@@ -74,10 +75,6 @@ byte-xor : (v c k : ℕ) → bitXor v c / 2 ^ k % 256 ≡ bitXor (v / 2 ^ k % 25
 byte-xor v c k = ap (λ (x : ℕ). x % 256) (xor-shr v c k) ∙ xor-mod (v / 2 ^ k) (c / 2 ^ k) 8
 
 -- ---- elements
-element-same : {x y : Element} → x .byte ≡ y .byte → x .i ≡ y .i → x .j ≡ y .j → x ≡ y
-element-same {x} {y} e f g =
-    ap (λ (u : ℕ). record { byte = u; i = x .i; j = x .j }) e ∙ ap₂ (λ (i j : ℕ). record { byte = y .byte; i = i; j = j }) f g
-
 -- one
 module _ (u : ℕ) (lu : u < 256) (d : Pair) (o : OddLevels d) {a : ℕ} (ea : a ≡ elementNumber u d) where
   bytes : (a ≡ threeBytes u (byteOf (d .re)) (byteOf (d .im))) × (byteOf (d .re) < 256) × (byteOf (d .im) < 256)
@@ -89,7 +86,7 @@ module _ (u : ℕ) (lu : u < 256) (d : Pair) (o : OddLevels d) {a : ℕ} (ea : a
 
   pub one-element : elementFrom a ≡ elementOf u d
   unfolding elementFrom elementOf
-  one-element = element-same (omega (arith, bytes)) (omega (arith, bytes)) (omega (arith, bytes))
+  one-element = element-is (omega (arith, bytes)) (omega (arith, bytes)) (omega (arith, bytes))
 
 -- two as one number
 joint-few : (a b : ℕ) → a < 16777216 → b < 16777216 → jointOf a b < 281474976710656
@@ -101,7 +98,7 @@ module _ {a b : ℕ} (la : a < 16777216) (lb : b < 16777216) where
 
   pub joint-low : elementFrom (jointOf a b) ≡ elementFrom a
   unfolding elementFrom
-  joint-low = element-same (omega arith) (omega arith) (omega arith)
+  joint-low = element-is (omega arith) (omega arith) (omega arith)
 
   pub joint-high : elementFrom (upper (jointOf a b)) ≡ elementFrom b
   joint-high = let h : upper (jointOf a b) ≡ b = omega arith in ap elementFrom h
@@ -116,7 +113,7 @@ xor-element :
       j = bitXor (elementFrom v .j) (c / 65536 % 256);
     }
 unfolding elementFrom
-xor-element v c = element-same (xor-mod v c 8) (byte-xor v c 8) (byte-xor v c 16)
+xor-element v c = element-is (xor-mod v c 8) (byte-xor v c 8) (byte-xor v c 16)
 
 module _
     (u : ℕ) (lu : u < 256) (d e : Pair) (od : OddLevels d) (oe : OddLevels e) {a b : ℕ} (ea : a ≡ elementNumber u d)
@@ -140,7 +137,7 @@ module _
       xor-element (jointOf b a) minusBits
       ∙ ap (λ (x : Element). record { byte = bitXor (x .byte) 0; i = bitXor (x .i) 254; j = bitXor (x .j) 0 })
       (joint-low lb la ∙ one-element u lu e oe eb)
-      ∙ element-same (xor-zero-r u) (minus-odd (e .re) (oe .small-re) (oe .odd-re)) (xor-zero-r (byteOf (e .im)))
+      ∙ element-is (xor-zero-r u) (minus-odd (e .re) (oe .small-re) (oe .odd-re)) (xor-zero-r (byteOf (e .im)))
 
   -- the conjugate of d
   pub partners-second : elementFrom (upper (partnersOf a b)) ≡ elementOf u (partnerOf 1 d)
@@ -150,7 +147,7 @@ module _
       ∙ xor-element (upper (jointOf b a)) (upper minusBits)
       ∙ ap (λ (x : Element). record { byte = bitXor (x .byte) 0; i = bitXor (x .i) 0; j = bitXor (x .j) 254 })
       (joint-high lb la ∙ one-element u lu d od ea)
-      ∙ element-same (xor-zero-r u) (xor-zero-r (byteOf (d .re))) (minus-odd (d .im) (od .small-im) (od .odd-im))
+      ∙ element-is (xor-zero-r u) (xor-zero-r (byteOf (d .re))) (minus-odd (d .im) (od .small-im) (od .odd-im))
 
 -- ---- in a table of an order, for the words of two symbols
 other-apart : (P portPair : ℕ) → 2 ≤ P → otherPort P portPair ≡ ownPort P portPair → ⊥

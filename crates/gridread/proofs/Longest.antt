@@ -3,13 +3,11 @@ use Prim.Native.Nat.{ℕ, _+_, _*_, _≤_}
 use mathlib.Core.Path.{_≡_, refl, sym, ap, _∙_}
 use mathlib.Core.Bool.{Bool, true, false}
 use mathlib.Core.List.{List, [], _∷_}
-use native.Mathlib.Nat.{mul-le-mul}
 use native.Mathlib.Omega.{arith}
-use lib.Dec.{eqb, leb, leb→le}
+use lib.Dec.{eqb}
 use lib.ListN.{length, take}
 use lib.Seq.{length-take-le}
 use Rattle.plan.specs.Lists.{Every}
-use Rattle.plan.specs.Fields.{orders}
 use Rattle.plan.specs.Answers.{Answer, given}
 use Rattle.plan.specs.Check.{checkOf}
 use Rattle.plan.specs.CommandLists.{usersOf}
@@ -20,18 +18,18 @@ use Rattle.plan.specs.declared.User.{User}
 use Rattle.plan.specs.declared.Plan.{Plan}
 use Rattle.plan.specs.declared.Checked.{Checked}
 use Rattle.plan.specs.declared.Checked.the-variants.{Plan as accepted, Refused as refused}
-use Rattle.plan.proofs.OneOf.{among-holds}
 use Rattle.plan.proofs.Answers.{no-number}
 use Rattle.plan.proofs.Valid.{valid}
 use Rattle.plan.proofs.Counts.{his-most, users-most}
 use Rattle.base.specs.Choice.{if_then_else_}
 use Rattle.counts.specs.Sums.{sumOf}
-use Rattle.counts.specs.Users.{userElements, allElements}
+use Rattle.counts.specs.Users.{allElements}
 use Rattle.counts.proofs.UserSizes.{users-few}
 use Rattle.payload.specs.Sections.{bytesOf}
 use Rattle.payload.specs.Payload.{pbchBitCount, heads, payloadLength}
-use Rattle.payload.specs.Loops.{computedBitCount, computedSections}
+use Rattle.payload.specs.Loops.{computedSections}
 use Rattle.payload.proofs.Sections.{sections-computed}
+use Rattle.payload.proofs.Lengths.{bits-most}
 use Rattle.mapper.specs.Calls.{answerWith, numberAnswer, payloadLengthOf}
 use Rattle.mapper.specs.declared.Number.{Number}
 use Rattle.mapper.specs.declared.Number.the-variants.{Is}
@@ -46,15 +44,10 @@ broadcast-most c f = pick (eqb (f .subframe) 0) (eqb (c .prefix) 1)
     pick true false = omega arith
     pick false u = omega arith
 
-user-bits-most : (c : Cell) (f : Frame) (u : User) → UserIn c u → computedBitCount c f u ≤ 8 * userElements c f (u .first) (u .count)
-unfolding computedBitCount
-user-bits-most c f u h =
-    mul-le-mul {n₂ = 8} {m₂ = userElements c f (u .first) (u .count)} (leb→le (u .order) 8 (among-holds (λ n. leb n 8) orders (u .order) tt (h .order))) (omega arith)
-
 users-bytes-most : (c : Cell) (f : Frame) (us : List User) → Every (UserIn c) us → 8 * bytesOf (computedSections c f us) ≤ 8 * allElements c f us + 7 * length us
 unfolding computedSections bytesOf allElements sumOf
 users-bytes-most c f [] h = omega arith
-users-bytes-most c f (u ∷ us) h = omega (arith, user-bits-most c f u (h .0), users-bytes-most c f us (h .1))
+users-bytes-most c f (u ∷ us) h = omega (arith, bits-most c f u (h .0), users-bytes-most c f us (h .1))
 
 -- ---- the payload
 module _ (w : List ℕ) where

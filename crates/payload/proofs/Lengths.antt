@@ -68,7 +68,7 @@ grid-is p n s q en es eq = rw (en, es, eq) refl
 order-most : (c : Cell) (u : User) → UserIn c u → u .order ≤ 8
 order-most c u h = leb→le (u .order) 8 (among-holds (λ n. leb n 8) orders (u .order) tt (h .order))
 
-bits-most : (c : Cell) (f : Frame) (u : User) → UserIn c u → computedBitCount c f u ≤ 8 * userElements c f (u .first) (u .count)
+pub bits-most : (c : Cell) (f : Frame) (u : User) → UserIn c u → computedBitCount c f u ≤ 8 * userElements c f (u .first) (u .count)
 unfolding computedBitCount
 bits-most c f u h = mul-le-mul {n₂ = 8} {m₂ = userElements c f (u .first) (u .count)} (order-most c u h) (omega arith)
 

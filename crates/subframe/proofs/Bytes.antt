@@ -8,6 +8,7 @@ use lib.ListN.{length, getD}
 use Rattle.base.proofs.Rows.{at-div, at-mod, row-inside}
 use Rattle.base.specs.declared.Element.{Element}
 use Rattle.base.specs.Bytes.{byteIn}
+use Rattle.base.proofs.Bytes.{element-is}
 use Rattle.base.proofs.Tables.{table-at, table-length}
 use Rattle.plan.specs.declared.Plan.{Plan}
 use Rattle.layout.specs.Owners.{symbols, carriers}
@@ -18,12 +19,8 @@ use Rattle.subframe.specs.Elements.{elementAt}
 use Rattle.subframe.specs.Grid.{elementNumbered, gridOf}
 
 -- ---- three bytes are an element
-element-of : {x y : Element} → x .byte ≡ y .byte → x .i ≡ y .i → x .j ≡ y .j → x ≡ y
-element-of {x} {y} e f g =
-    ap₂ (λ (u i : ℕ). record { byte = u; i = i; j = x .j }) e f ∙ ap (λ (j : ℕ). record { byte = y .byte; i = y .i; j = j }) g
-
 pub element-same : {x y : Element} → ((b : ℕ) → b < 3 → byteIn x b ≡ byteIn y b) → x ≡ y
-element-same h = element-of (h 0 (omega arith)) (h 1 (omega arith)) (h 2 (omega arith))
+element-same h = element-is (h 0 (omega arith)) (h 1 (omega arith)) (h 2 (omega arith))
 
 -- ---- numbers
 -- (p×S+s)×W+k is place s×W+k of port p, where each port has S×W

@@ -2,12 +2,12 @@
 -- plan check's answer.
 use Prim.Native.Nat.{ℕ, suc, _+_, _*_, _/_, _%_, _<_, suc-le-suc}
 use mathlib.Core.Path.{_≡_, refl, sym, ap, _∙_}
-use mathlib.Core.Logic.{_↔_, inl, inr}
+use mathlib.Core.Logic.{_↔_}
 use mathlib.Core.Bool.{Bool, true, false}
 use mathlib.Core.List.{List, [], _∷_}
 use native.Mathlib.Nat.{zero-lt-suc, mul-suc, mul-comm, mul-le-mul-left, div-add-mod, div-lt-iff-lt-mul, mod-lt}
 use native.Mathlib.Omega.{arith}
-use lib.Dec.{eqb}
+use lib.Dec.{eqb, leb, eqb→eq, leb→le}
 use lib.ListN.{length, getD}
 use Rattle.base.specs.Bits.{bitAt}
 use Rattle.modulation.specs.Symbols.{Order}
@@ -21,6 +21,7 @@ use Rattle.plan.specs.Valid.{UserIn}
 use Rattle.plan.specs.declared.Plan.{Plan}
 use Rattle.plan.specs.declared.Checked.the-variants.{Plan as accepted}
 use Rattle.plan.proofs.Listed.{every-at}
+use Rattle.plan.proofs.OneOf.{among-holds}
 use Rattle.plan.proofs.Valid.{valid}
 use Rattle.base.specs.Choice.{if_then_else_}
 use Rattle.layout.specs.declared.Owner.{Owner}
@@ -72,12 +73,13 @@ pbch-twice true true = refl
 pbch-twice true false = refl
 pbch-twice false b = refl
 
-order-of : (q : ℕ) → Among q orders → Order q
-order-of q (inl e) = omega arith
-order-of q (inr (inl e)) = omega arith
-order-of q (inr (inr (inl e))) = omega arith
-order-of q (inr (inr (inr (inl e)))) = omega arith
-order-of q (inr (inr (inr (inr e)))) = absurd e
+-- a user's order is a modulation's
+pub order-of : (q : ℕ) → Among q orders → Order q
+order-of q h = (
+  eqb→eq (q % 2) 0 (among-holds (λ (n : ℕ). eqb (n % 2) 0) orders q tt h),
+  leb→le 2 q (among-holds (λ (n : ℕ). leb 2 n) orders q tt h),
+  leb→le q 8 (among-holds (λ (n : ℕ). leb n 8) orders q tt h),
+)
 
 module _ (w : List ℕ) (p : Plan) where
   pub user-size : (i : ℕ) → i < length (usersOf w p) → length (ownerBits w p (UserOf i)) ≡ nthUser w p i .order * countOf w p (UserOf i)
