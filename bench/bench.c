@@ -209,6 +209,7 @@ static const struct scenario ROWS[] = {
     {"100 users 64QAM, N 100, P 4", 100, 4, 6, 100},
     {"1 user QPSK, N 100, P 1", 100, 1, 2, 1},
     {"15 users 64QAM, N 15, P 4", 15, 4, 6, 15},
+    {"6 users 64QAM, N 6, P 4", 6, 4, 6, 6},
     {"200 HIs, no user, N 100, P 4", 100, 4, 6, 0, 200},
     {"64QAM, P 4, C mod 3 = 0", 100, 4, 6, 1, .identity = 102},
     {"64QAM, P 4, C mod 3 = 1", 100, 4, 6, 1, .identity = 100},
@@ -219,7 +220,9 @@ static const struct scenario ROWS[] = {
     {"64QAM, N 100, P 1", 100, 1, 6, 1},
     {"256QAM, N 100, P 1", 100, 1, 8, 1},
     {"no user, N 15, P 1", 15, 1, 6, 0},
+    {"no user, N 6, P 1", 6, 1, 6, 0},
     {"Width: 1 user 64QAM, P 2", 0},
+    {"6", 6, 2, 6, 1},              /* with one control symbol more than the others */
     {"15", 15, 2, 6, 1},
     {"25", 25, 2, 6, 1},
     {"50", 50, 2, 6, 1},

@@ -1,4 +1,4 @@
-/* The downlink mapper of document 01, with document 02's #109, in plain C11. Section numbers are those of TS 36.211.
+/* The downlink mapper of document 01, with document 02's #102 and #109, in plain C11. Section numbers are those of TS 36.211.
 
    How it is made fast: the sequence comes 48 bits at a time; a section becomes one byte for each symbol, and symbols become
    elements by tables; the grid is filled symbol row by symbol row, so that a row is silenced and filled while it is in the cache.
@@ -240,6 +240,7 @@ struct user {
 struct plan {
     unsigned identity, blocks, extended, ports, sixths;
     unsigned frame, subframe, cfi;
+    unsigned control;                      /* symbols of the control region */
     unsigned slot, symbols, groups, sequences;
     unsigned n_his, n_users;
     const uint8_t *his;                    /* the first HI command */
@@ -249,9 +250,14 @@ struct plan {
     struct user users[MAX_BLOCKS];
 };
 
-static bool one_of(unsigned x, unsigned a, unsigned b, unsigned c, unsigned d, unsigned e)
+static bool one_of(unsigned x, unsigned a, unsigned b, unsigned c, unsigned d)
 {
-    return x == a || x == b || x == c || x == d || x == e;
+    return x == a || x == b || x == c || x == d;
+}
+
+static bool is_width(unsigned n)
+{
+    return one_of(n, 6, 15, 25, 50) || n == 75 || n == 100;
 }
 
 static int take_cell(struct plan *p, const uint8_t *c)
@@ -261,8 +267,8 @@ static int take_cell(struct plan *p, const uint8_t *c)
     p->extended = c[4];
     p->ports = c[5];
     p->sixths = c[6];
-    if (p->identity > 503 || !one_of(p->blocks, 15, 25, 50, 75, 100) || p->extended > 1
-        || !one_of(p->ports, 1, 2, 4, 4, 4) || !one_of(p->sixths, 1, 3, 6, 12, 12))
+    if (p->identity > 503 || !is_width(p->blocks) || p->extended > 1
+        || !one_of(p->ports, 1, 2, 4, 4) || !one_of(p->sixths, 1, 3, 6, 12))
         return 3;
     p->slot = p->extended ? 6 : 7;
     p->symbols = 2 * p->slot;
@@ -276,6 +282,7 @@ static int take_frame(struct plan *p, const uint8_t *c)
     p->frame = c[1] << 8 | c[2];
     p->subframe = c[3];
     p->cfi = c[4];
+    p->control = p->blocks == 6 ? p->cfi + 1 : p->cfi;
     return p->frame > 1023 || p->subframe > 9 || p->cfi < 1 || p->cfi > 3 ? 4 : 0;
 }
 
@@ -305,7 +312,7 @@ static uint64_t block_mask(unsigned first, unsigned count, unsigned w)
 static int take_user(struct plan *p, const uint8_t *c)
 {
     unsigned rnti = c[1] << 8 | c[2], q = c[3], first = c[4], count = c[5];
-    if (rnti == 0 || !one_of(q, 2, 4, 6, 8, 8) || count == 0 || first + count > p->blocks)
+    if (rnti == 0 || !one_of(q, 2, 4, 6, 8) || count == 0 || first + count > p->blocks)
         return 6;
     uint64_t low = block_mask(first, count, 0), high = block_mask(first, count, 1);
     bool used = (low & p->blocks_used[0]) || (high & p->blocks_used[1]);
@@ -426,7 +433,7 @@ static unsigned max_of(unsigned a, unsigned b) { return a > b ? a : b; }
 static unsigned count_elements(struct plan *p)
 {
     unsigned per_half = 0, per_centre_half = 0, sum = 0;
-    for (unsigned s = p->cfi; s < p->symbols; s++) {
+    for (unsigned s = p->control; s < p->symbols; s++) {
         unsigned places = user_shape(p, s).places;
         per_half += places;
         per_centre_half += centre_taken(p, s) ? places : 0;
@@ -879,7 +886,7 @@ static void put_row(struct plan *p, uint8_t *const row[], unsigned s, struct con
     if (has_pbch(p, s))
         c->pbch_done += put_halves(p, row, p->blocks - CENTRE_HALVES / 2, CENTRE_HALVES, pbch_shape(p, s - p->slot),
                                    c->pbch + c->pbch_done, c->pbch_done, &QPSK);
-    if (s >= p->cfi)
+    if (s >= p->control)
         put_users(p, row, s, c);
 }
 
@@ -888,7 +895,7 @@ static void get_row(const struct plan *p, const uint8_t *const row[], unsigned s
     if (has_pbch(p, s))
         get_halves(p, row, p->blocks - CENTRE_HALVES / 2, CENTRE_HALVES, pbch_shape(p, s - p->slot),
                    c->pbch + c->pbch_done, c->pbch_done, &QPSK);
-    if (s >= p->cfi)
+    if (s >= p->control)
         get_users(p, row, s, c);
 }
 

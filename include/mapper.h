@@ -29,9 +29,10 @@
  * Plan
  *   Commands of one byte, in hexadecimal here, with operands of fixed widths, big-endian, in this order:
  *
- *     10   CELL, once: identity (2 bytes, 0 to 503), blocks N (15, 25, 50, 75, 100), prefix (0 normal, 1 extended), ports P (1, 2, 4),
+ *     10   CELL, once: identity (2 bytes, 0 to 503), blocks N (6, 15, 25, 50, 75, 100), prefix (0 normal, 1 extended), ports P (1, 2, 4),
  *          N_g in sixths (1, 3, 6, 12)
- *     11   FRAME, once: frame number (2 bytes, 0 to 1023), subframe (0 to 9), CFI (1 to 3)
+ *     11   FRAME, once: frame number (2 bytes, 0 to 1023), subframe (0 to 9), CFI (1 to 3): the control region, where no user has
+ *          elements, is the first CFI symbols, the first CFI + 1 where N is 6
  *     20   HI, any number: PHICH group, sequence
  *     30   USER, any number: RNTI (2 bytes, 1 to 65535), bits of a symbol (2, 4, 6, 8), first block, number of blocks (1 or more)
  *     00   END
@@ -84,9 +85,10 @@ extern "C" {
 int64_t mapper_check(const uint8_t *plan, size_t plan_len);
 
 /*
- * The length of a plan's grid in bytes: 36 * N * S * P, with N blocks, S symbols (14, with the extended prefix 12) and P ports. An element
- * on port p, symbol s, subcarrier k is the three bytes at ((p * S + s) * 12 * N + k) * 3: the byte of a unit u, then I and J as signed
- * bytes, for (I + jJ) / sqrt(u). The byte is u itself, but 255 for unit 340 (256QAM on two or four ports). Unit 63 is a phase instead,
+ * The length of a plan's grid in bytes: 36 * N * S * P, with N blocks, S symbols (14, with the extended prefix 12) and P ports; 2592 at
+ * least (6 blocks, extended prefix, one port), 201600 at most (100 blocks, normal prefix, four ports). An element on port p, symbol s,
+ * subcarrier k is the three bytes at ((p * S + s) * 12 * N + k) * 3: the byte of a unit u, then I and J as signed bytes, for
+ * (I + jJ) / sqrt(u). The byte is u itself, but 255 for unit 340 (256QAM on two or four ports). Unit 63 is a phase instead,
  * exp(-2j * pi * I / 63) with I from 0 to 62 and J 0; unit 0 is silence, 0 0 0. mapper_sample_* take such three bytes.
  *
  * Answers the length, or -1 to -7.

@@ -1,5 +1,5 @@
 /* How deep mapper_build and mapper_read go on the stack. Each call runs on a stack of its own that was painted before, on the plans that
-   ask most of it; the deepest byte that lost its paint tells the depth. Fails above the limit. */
+   ask most of it and on one of the narrowest cell; the deepest byte that lost its paint tells the depth. Fails above the limit. */
 #include <stdbool.h>
 #include <stdio.h>
 #include <stdlib.h>
@@ -26,18 +26,18 @@ static void append(const uint8_t *bytes, size_t n)
     plan_len += n;
 }
 
-/* The widest cell: 100 blocks, four ports, as many PHICH groups as can be; the blocks shared out evenly. */
-static void make(uint8_t prefix, uint8_t subframe, bool his, unsigned users, uint8_t bits)
+/* Four ports, as many PHICH groups as can be; the blocks shared out evenly. */
+static void make(uint8_t blocks, uint8_t prefix, uint8_t subframe, bool his, unsigned users, uint8_t bits)
 {
-    uint8_t groups = prefix ? 50 : 25, sequences = prefix ? 4 : 8;
+    uint8_t groups = (12 * blocks + 47) / 48 << prefix, sequences = prefix ? 4 : 8;
     plan_len = 0;
-    append((uint8_t[]){0x10, 1, 247, 100, prefix, 4, 12}, 7);
+    append((uint8_t[]){0x10, 1, 247, blocks, prefix, 4, 12}, 7);
     append((uint8_t[]){0x11, 3, 255, subframe, 1}, 5);
     for (uint8_t group = 0; his && group < groups; group++)
         for (uint8_t sequence = 0; sequence < sequences; sequence++)
             append((uint8_t[]){0x20, group, sequence}, 3);
     for (unsigned i = 0; i < users; i++)
-        append((uint8_t[]){0x30, 0x12 + i, 0x34 + i, bits, i * 100 / users, 100 / users}, 6);
+        append((uint8_t[]){0x30, 0x12 + i, 0x34 + i, bits, i * blocks / users, blocks / users}, 6);
     append((uint8_t[]){0}, 1);
     int64_t of_payload = mapper_payload_len(plan, plan_len), of_grid = mapper_grid_len(plan, plan_len);
     if (of_payload < 0 || of_payload > MAX_PAYLOAD || of_grid < 0 || of_grid > MAX_GRID) {
@@ -107,21 +107,22 @@ int main(void)
 {
     static const struct {
         const char *what;
-        uint8_t prefix, subframe;
+        uint8_t blocks, prefix, subframe;
         bool his;
         unsigned users;
         uint8_t bits;
     } PLANS[] = {
-        {"one user, 64QAM", 0, 1, false, 1, 6},
-        {"one user, 256QAM", 0, 1, false, 1, 8},
-        {"100 users", 0, 1, false, 100, 6},
-        {"200 HIs", 0, 1, true, 0, 6},
-        {"subframe 0, 200 HIs, 100 users", 0, 0, true, 100, 6},
-        {"extended, subframe 0, HIs, 100 users", 1, 0, true, 100, 8},
+        {"one user, 64QAM", 100, 0, 1, false, 1, 6},
+        {"one user, 256QAM", 100, 0, 1, false, 1, 8},
+        {"100 users", 100, 0, 1, false, 100, 6},
+        {"200 HIs", 100, 0, 1, true, 0, 6},
+        {"subframe 0, 200 HIs, 100 users", 100, 0, 0, true, 100, 6},
+        {"extended, subframe 0, HIs, 100 users", 100, 1, 0, true, 100, 8},
+        {"6 blocks, subframe 0, HIs, 6 users", 6, 0, 0, true, 6, 8},
     };
     size_t most = 0;
     for (size_t i = 0; i < sizeof PLANS / sizeof PLANS[0]; i++) {
-        make(PLANS[i].prefix, PLANS[i].subframe, PLANS[i].his, PLANS[i].users, PLANS[i].bits);
+        make(PLANS[i].blocks, PLANS[i].prefix, PLANS[i].subframe, PLANS[i].his, PLANS[i].users, PLANS[i].bits);
         size_t bytes = all_calls(PLANS[i].what);
         most = bytes > most ? bytes : most;
     }

@@ -68,7 +68,7 @@ module _ (w : List ℕ) (p : Plan) (ok : checkOf w ≡ accepted p) where
   abbrev N : ℕ
   N = p .cell .blocks
 
-  wide : 15 ≤ p .cell .blocks
+  wide : 6 ≤ p .cell .blocks
   wide = blocks-least (p .cell) (valid w p ok .cell)
 
   split : (k : ℕ) → 6 * (k / 6) + k % 6 ≡ k

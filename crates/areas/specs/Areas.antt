@@ -65,7 +65,7 @@ pbchArea c f =
       leaves = false;
     }
 
--- a user's: "its blocks, symbols s ≥ CFI, not owned above"
+-- a user's: "its blocks, symbols s ≥ CFI, not owned above", CFI + 1 at six blocks (document 02, #102)
 abbrev pub userArea : Cell → Frame → User → Area
 userArea c f u =
     record {

@@ -36,7 +36,7 @@ struct RowSpans {
     end: usize,
 }
 
-// PBCH's places. Every accepted plan has 15 blocks or more.
+// PBCH's places. Every accepted plan has six blocks or more.
 pub fn pbch_area(cell: Cell, frame: Frame) -> Area
     requires { ⌜ 6 ≤ cell .blocks ⌝ }
     ensures { λ r. ⌜ r ≡ pbchArea cell frame ⌝ }

@@ -82,7 +82,7 @@ module _ {p : Plan} {ch : Channel} {t masks bits grid : List ℕ} (ok : ChannelI
   zeroth e = eqb-true (p .frame .subframe) 0 (subst (λ (c : Channel). presentIn p c ≡ true) e (ok .present))
 
   pub pbch-wide : 6 ≤ p .cell .blocks
-  pbch-wide = omega (arith, blocks-least (p .cell) (v .cell))
+  pbch-wide = blocks-least (p .cell) (v .cell)
 
   pub pbch-in : {own : List ℕ} (a : Area) → ch ≡ Pbch → a ≡ pbchArea (p .cell) (p .frame) → RowMasks (p .cell) (p .frame) 4 false 14 own → FillIn a 2 t own grid
   unfolding TableFor

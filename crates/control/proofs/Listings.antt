@@ -16,7 +16,8 @@ use Rattle.places.specs.Places.{placeNumber, symbolAt, carrierAt, placesOf}
 use Rattle.places.proofs.Numbers.{first-row}
 use Rattle.places.proofs.Quads.{Groups, place-below, quads-at}
 use Rattle.places.proofs.Channels.{format-groups, unit-groups}
-use Rattle.places.proofs.Listing.{pcfich-is, phich-is, by-quads}
+use Rattle.layout.proofs.GroupShape.{pcfich-first}
+use Rattle.places.proofs.Listing.{phich-is, by-quads}
 use Rattle.control.specs.Control.{pcfichIndex, phichIndex}
 
 -- the place of index 4i + k: subcarrier of symbol 0
@@ -36,7 +37,7 @@ module _ (c : Cell) (ok : CellIn c) where
   some-places = omega (arith, some-carriers, first-row c)
 
   pub six : 6 ≤ c .blocks
-  six = omega (arith, blocks-least c ok)
+  six = blocks-least c ok
 
   pub pcfich-groups : Groups 4 (2 * c .blocks) (formatGroup c) (isFormat c)
   pcfich-groups = format-groups c six
@@ -47,7 +48,7 @@ module _ (c : Cell) (ok : CellIn c) where
   unfolding pcfichIndex
   pcfich-listed =
       by-quads c 4 (formatGroup c) (isFormat c) some-carriers pcfich-groups
-      (λ (t : ℕ). pcfich c (symbolAt c t) (carrierAt c t)) (λ t. pcfich-is c (symbolAt c t) (carrierAt c t))
+      (λ (t : ℕ). pcfich c (symbolAt c t) (carrierAt c t)) (λ t. pcfich-first c (symbolAt c t) (carrierAt c t))
 
   module _ (m : ℕ) (in-m : m < mappingUnits c) where
     pub unit-few : m < 256

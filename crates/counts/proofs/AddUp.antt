@@ -17,6 +17,7 @@ use Rattle.plan.specs.Valid.{Valid}
 use Rattle.plan.specs.declared.Plan.{Plan}
 use Rattle.plan.specs.declared.Checked.the-variants.{Plan as accepted}
 use Rattle.plan.proofs.Valid.{valid}
+use Rattle.plan.proofs.Counts.{units-most}
 use Rattle.base.specs.Choice.{if_then_else_, indicator}
 use Rattle.layout.specs.Owners.{symbols, carriers, above, owns, owners}
 use Rattle.layout.proofs.Lists.{In, here, there}
@@ -28,7 +29,6 @@ use Rattle.counts.specs.Sums.{sumTo, sumOf}
 use Rattle.layout.proofs.OneOwner.{fit, one-owner}
 use Rattle.counts.specs.Counts.{countOf, kindOf, kinds, kindCount}
 use Rattle.counts.proofs.Sums.{sum-const, swap, list-same}
-use Rattle.counts.proofs.Ranges.{big, few-units}
 
 -- ---- no owner is in the list twice: it is in the order of these codes
 abbrev code : Owner → ℕ
@@ -81,7 +81,7 @@ rises w p ok = (
                   (
                     omega arith,
                     rise-units (mappingUnits (p .cell)) 10 10 1010 Phich (table (length (usersOf w p)) UserOf) (λ i. refl) (omega arith)
-                        (omega (arith, few-units (p .cell) (ok .cell .sixths) (big (p .cell .blocks) (ok .cell .blocks) .1)))
+                        (omega (arith, units-most (p .cell) (ok .cell)))
                         (λ d l. rise-users (length (usersOf w p)) 1010 d UserOf (λ i. refl) l),
                   ),
                 ),

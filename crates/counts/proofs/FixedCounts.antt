@@ -17,11 +17,12 @@ use Rattle.plan.specs.declared.Checked.the-variants.{Plan as accepted}
 use Rattle.base.specs.Choice.{if_then_else_, indicator}
 use Rattle.plan.specs.declared.Cell.{Cell}
 use Rattle.plan.specs.declared.Frame.{Frame}
-use Rattle.layout.specs.Rules.{slotLength, inSlot, crsSymbol, crsBelow, centre, inPbchArea, pbch, elementGroup, inGroup, isFormat, pcfich, mappingUnitHas, phich}
+use Rattle.layout.specs.Rules.{slotLength, inSlot, crsSymbol, crsBelow, centre, inPbchArea, pbch, groupSize, elementGroup, inGroup, isFormat, pcfich, mappingUnitHas, phich}
 use Rattle.layout.specs.Owners.{symbols, carriers, fixedRule, owns}
 use Rattle.layout.proofs.Few.{blocks-least, sixths-most}
 use Rattle.layout.proofs.Pilot.{slot-length, hits}
 use Rattle.layout.proofs.Units.{units-fit}
+use Rattle.layout.proofs.GroupShape.{inFirst, pcfich-first, phich-first}
 use Rattle.layout.specs.declared.Owner.the-variants.{Pbch, Pcfich, Phich}
 use Rattle.counts.specs.Sums.{sumTo}
 use Rattle.counts.specs.Counts.{countOf}
@@ -57,11 +58,13 @@ first-only (suc zero) f l h = omega arith
 first-only (suc (suc n)) f l h = omega (arith, first-only (suc n) f (omega arith) h, h (suc n) (omega arith))
 
 -- what has some groups of symbol 0 has four places of each
-group-places : (c : Cell) (G : ℕ → Bool) → sumTo (symbols c) (λ s. sumTo (carriers c) (λ k. indicator (inGroup c s k && G (elementGroup c s k)))) ≡ sumTo (2 * c .blocks) (λ t. indicator (G t)) * 4
-unfolding inGroup elementGroup
-group-places c G =
+group-places : (c : Cell) (r : ℕ → ℕ → Bool) (G : ℕ → Bool) → ((s k : ℕ) → r s k ≡ inFirst c G s k)
+    → sumTo (symbols c) (λ s. sumTo (carriers c) (λ k. indicator (r s k))) ≡ sumTo (2 * c .blocks) (λ t. indicator (G t)) * 4
+unfolding inGroup elementGroup groupSize
+group-places c r G same =
     let z : carriers c ≡ 6 * (2 * c .blocks) = omega arith in
-    first-only (symbols c) _ (omega (arith, slot-length c)) (λ s m. sum-none (carriers c) _ (λ k n. rw (ne-eqb s 0 (λ e. omega arith)) refl))
+    first-only (symbols c) _ (omega (arith, slot-length c)) (λ s m. sum-none (carriers c) _ (λ k n. rw (same s k, ne-eqb s 0 (λ e. omega arith)) refl))
+    ∙ sum-same (carriers c) _ _ (λ k n. ap indicator (same 0 k))
     ∙ rw z (group-row (c .identity) (2 * c .blocks) G)
 
 -- ---- PBCH: what the reference signals of P ports leave of the centre in a symbol
@@ -102,17 +105,18 @@ module _ (c : Cell) (f : Frame) (wide : 6 ≤ c .blocks) where
 
 module _ (w : List ℕ) (p : Plan) (e : checkOf w ≡ accepted p) where
   wide : 6 ≤ p .cell .blocks
-  wide = omega (arith, blocks-least w p e)
+  wide = blocks-least w p e
 
   pub pcfich-count : countOf w p Pcfich ≡ 16
-  unfolding countOf owns fixedRule pcfich
-  pcfich-count = group-places (p .cell) (isFormat (p .cell)) ∙ rw (four-formats (p .cell) wide) refl
+  unfolding countOf owns fixedRule
+  pcfich-count = group-places (p .cell) (pcfich (p .cell)) (isFormat (p .cell)) (pcfich-first (p .cell)) ∙ rw (four-formats (p .cell) wide) refl
 
   pub phich-count : (m : ℕ) → m < mappingUnits (p .cell) → countOf w p (Phich m) ≡ 12
-  unfolding countOf owns fixedRule phich mappingUnitHas
+  unfolding countOf owns fixedRule
   phich-count m l =
       let third = units-fit (p .cell) (sixths-most w p e) wide in
-      rw (lt-ltb m (mappingUnits (p .cell)) l) (group-places (p .cell) (mappingUnitHas (p .cell) m 0) ∙ rw (three-groups (p .cell) wide m 0 (omega arith)) refl)
+      group-places (p .cell) (phich (p .cell) m) (mappingUnitHas (p .cell) m 0) (λ s k. phich-first (p .cell) s k m ∙ rw (lt-ltb m (mappingUnits (p .cell)) l) refl)
+      ∙ rw (three-groups (p .cell) wide m (omega arith)) refl
 
   pub pbch-count : countOf w p Pbch ≡ (if eqb (p .frame .subframe) 0 then (if eqb (p .cell .prefix) 1 then 216 else 240) else 0)
   unfolding countOf owns fixedRule

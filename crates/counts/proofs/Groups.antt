@@ -65,9 +65,9 @@ module _ (c : Cell) (big : 6 ≤ c .blocks) where
       (apart 0 1 (omega arith) (omega arith)) (apart 0 2 (omega arith) (omega arith)) (apart 1 2 (omega arith) (omega arith))
       (g 3) (small 3) (apart 0 3 (omega arith) (omega arith)) (apart 1 3 (omega arith) (omega arith)) (apart 2 3 (omega arith) (omega arith))
 
-  pub three-groups : (m s : ℕ) → m < groupsLeft c / 3 → sumTo (2 * c .blocks) (λ t. indicator (mappingUnitHas c m s t)) ≡ 3
+  pub three-groups : (m : ℕ) → m < groupsLeft c / 3 → sumTo (2 * c .blocks) (λ t. indicator (mappingUnitHas c m 0 t)) ≡ 3
   unfolding mappingUnitHas
-  three-groups m s third =
+  three-groups m third =
       let g = quadGroup c m in
       let small = unit-small c big m in
       let apart = unit-apart c big m third in

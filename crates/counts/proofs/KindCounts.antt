@@ -21,6 +21,7 @@ use Rattle.plan.specs.declared.Plan.{Plan}
 use Rattle.plan.specs.declared.Checked.the-variants.{Plan as accepted}
 use Rattle.plan.proofs.Listed.{and-right}
 use Rattle.plan.proofs.Valid.{valid}
+use Rattle.plan.proofs.Counts.{blocks-least}
 use Rattle.base.specs.Choice.{if_then_else_, indicator}
 use Rattle.plan.specs.declared.Cell.{Cell}
 use Rattle.plan.specs.declared.Frame.{Frame}
@@ -37,7 +38,6 @@ use Rattle.counts.specs.Kinds.{crsElements, syncElements, pbchElements, 
 use Rattle.counts.proofs.Logic.{agree, agreed, implies, follows, everyWay, by-table}
 use Rattle.counts.proofs.Sums.{six, by-six, sum-same, sum-none, sum-const, sum-add, sum-times, list-append}
 use Rattle.counts.proofs.Halves.{within, in-range, lowered, parted, away}
-use Rattle.counts.proofs.Ranges.{big}
 use Rattle.layout.proofs.Fixed.{used-centre}
 use Rattle.counts.proofs.AddUp.{kinds-add-up}
 use Rattle.counts.proofs.FixedCounts.{open-row, pcfich-count, phich-count, pbch-count}
@@ -241,7 +241,7 @@ module _ (w : List ℕ) (p : Plan) where
     N = p .cell .blocks
 
     wide : 6 ≤ N
-    wide = let z = big N (valid w p e .cell .blocks) in omega arith
+    wide = blocks-least (p .cell) (valid w p e .cell)
 
     port-count : (q : ℕ) → countOf w p (Crs q) ≡ indicator (ltb q (p .cell .ports)) * (if ltb q 2 then 4 else 2) * (2 * N)
     unfolding countOf owns fixedRule

@@ -15,13 +15,13 @@ use Rattle.plan.specs.declared.Frame.{Frame}
 use Rattle.plan.specs.declared.Plan.{Plan}
 use Rattle.plan.specs.declared.Checked.the-variants.{Plan as accepted}
 use Rattle.plan.proofs.Valid.{valid}
+use Rattle.plan.proofs.Counts.{blocks-most}
 use Rattle.base.specs.Choice.{if_then_else_}
 use Rattle.layout.specs.Owners.{symbols, carriers}
 use Rattle.layout.proofs.Pilot.{slot-length}
 use Rattle.counts.specs.Sums.{sumTo}
 use Rattle.counts.specs.Counts.{kinds, kindCount}
 use Rattle.counts.specs.Kinds.{crsElements, syncElements, pbchElements, holes, heldElements}
-use Rattle.counts.proofs.Ranges.{big, few-units}
 use Rattle.counts.proofs.AddUp.{kinds-add-up}
 use Rattle.counts.proofs.KindCounts.{crs-kind, pss-kind, sss-kind, pbch-kind, pcfich-kind, phich-kind, held-kind, idle-kind}
 
@@ -94,9 +94,6 @@ places-most : (n S : ℕ) → n ≤ 255 → S ≤ 14 → 12 * n * S ≤ 42840
 places-most n S l m = le-trans (mul-le-mul-left (12 * n) m) (let z : 12 * n * 14 ≤ 42840 = omega arith in z)
 
 -- ---- the nine counts
-pub units-few : (w : List ℕ) (p : Plan) → checkOf w ≡ accepted p → (units : ℕ) → units ≡ mappingUnits (p .cell) → units ≤ 1000
-units-few w p ok units e = let v = valid w p ok in omega (arith, few-units (p .cell) (v .cell .sixths) (big (p .cell .blocks) (v .cell .blocks) .1))
-
 module _ (w : List ℕ) (p : Plan) (ok : checkOf w ≡ accepted p)
     (crs sync pbch units users held : ℕ) (e0 : crs ≡ crsElements (p .cell)) (e1 : sync ≡ syncElements (p .frame)) (e3 : pbch ≡ pbchElements (p .cell) (p .frame))
     (e5 : units ≡ mappingUnits (p .cell)) (e6 : users ≡ kindCount w p 6) (e7 : held ≡ heldElements (p .cell) (p .frame)) where
@@ -127,8 +124,7 @@ module _ (w : List ℕ) (p : Plan) (ok : checkOf w ≡ accepted p)
 
   pub owned-few : owned ≤ 42840
   owned-few =
-      let v = valid w p ok in
-      let b = big (p .cell .blocks) (v .cell .blocks) in
+      let b = blocks-most (p .cell) (valid w p ok .cell) in
       let z = slot-length (p .cell) in
       le-trans owned-most (places-most (p .cell .blocks) (symbols (p .cell)) (omega arith) (omega arith))
 

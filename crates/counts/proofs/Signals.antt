@@ -1,5 +1,5 @@
--- Reference signals: of six subcarriers in a row the ports below P have `signals`, 0 to 2. Assumes nothing.
-use Prim.Native.Nat.{ℕ, _+_, _-_, _*_, _%_, _≤_, _<_}
+-- Reference signals: of six subcarriers in a row the ports below P have `signals`. Assumes nothing.
+use Prim.Native.Nat.{ℕ, _+_, _-_, _*_, _%_, _<_}
 use mathlib.Core.Path.{_≡_, refl, sym, _∙_}
 use mathlib.Core.Logic.{_⊎_, inl, inr}
 use mathlib.Core.Bool.{Bool, true, false, not, _&&_, and-true, and-false}
@@ -89,12 +89,3 @@ signals-pair c P s two =
     second : (P ≡ 2) ⊎ (P ≡ 4) → indicator (ltb 2 P) + indicator (ltb 3 P) ≡ signals c P s → (signals c P s ≡ 0) ⊎ (signals c P s ≡ 2)
     second (inl e) z = inl (sym z ∙ rw e refl)
     second (inr e) z = inr (sym z ∙ rw e refl)
-
-pub signals-few : (c : Cell) (P s : ℕ) → signals c P s ≤ 2
-signals-few c P s = let q = refs c P s in rw (← q .sum) (most (q .u) (q .v))
-  where
-    most : (u v : Bool) → indicator u + indicator v ≤ 2
-    most true true = omega arith
-    most true false = omega arith
-    most false true = omega arith
-    most false false = omega arith

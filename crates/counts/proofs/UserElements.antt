@@ -25,7 +25,7 @@ use Rattle.plan.proofs.Listed.{every-at}
 use Rattle.plan.proofs.Valid.{valid}
 use Rattle.base.specs.Choice.{indicator}
 use Rattle.layout.specs.Rules.{slotLength, slotOf, crs, crsBelow, crsOfFour, crsAny, marked, centre, used, pss, sss, inSyncArea, heldBySync, inPbchArea, pbch, heldByPbch, held}
-use Rattle.layout.specs.Rules.{inGroup, pcfich, phich}
+use Rattle.layout.specs.Rules.{pcfich, phich}
 use Rattle.layout.specs.Owners.{symbols, carriers, controlSymbols, fixedRule, above, free, userHas, userRule, blocksHave, owns}
 use Rattle.layout.specs.declared.Owner.{Owner}
 use Rattle.layout.specs.declared.Owner.the-variants.{Phich, User as UserOf}
@@ -36,6 +36,8 @@ use Rattle.counts.proofs.Logic.{by-table, agree, agreed}
 use Rattle.counts.proofs.Sums.{sum-same, sum-none, sum-times, by-six}
 use Rattle.layout.proofs.Fixed.{used-centre}
 use Rattle.layout.proofs.Pilot.{hits}
+use Rattle.layout.proofs.GroupShape.{pcfich-first, phich-first}
+use Rattle.layout.proofs.ControlRegion.{region-least}
 use Rattle.counts.proofs.Signals.{Refs, refs, half-left}
 use Rattle.counts.proofs.Halves.{within, central, blocks-half, centre-half, halves-are}
 
@@ -65,13 +67,8 @@ spread : (x y c : Bool) → (x || y) && c ≡ x && c || y && c
 spread x y c = agreed _ _ (by-table 3 (λ x y c. agree ((x || y) && c) (x && c || y && c)) tt x y c)
 
 module _ (c : Cell) (f : Frame) (s k : ℕ) (late : 0 < s) where
-  no-group : inGroup c s k ≡ false
-  unfolding inGroup
-  no-group = rw (ne-eqb s 0 (λ e. omega arith)) refl
-
   no-unit : (m : ℕ) → phich c m s k ≡ false
-  unfolding phich
-  no-unit m = rw (no-group, and-false) refl
+  no-unit m = phich-first c s k m ∙ rw (ne-eqb s 0 (λ e. omega arith)) (and-false (ltb m (mappingUnits c)))
 
   no-units : (n : ℕ) (g : ℕ → ℕ) → noneOf (λ (o : Owner). fixedRule c f o s k) (table n (λ i. Phich (g i))) ≡ true
   unfolding noneOf table fixedRule
@@ -79,8 +76,7 @@ module _ (c : Cell) (f : Frame) (s k : ℕ) (late : 0 < s) where
   no-units (suc n) g = rw (no-unit (g 0)) (no-units n (λ i. g (suc i)))
 
   no-format : pcfich c s k ≡ false
-  unfolding pcfich
-  no-format = rw no-group refl
+  no-format = pcfich-first c s k ∙ rw (ne-eqb s 0 (λ e. omega arith)) refl
 
   -- no owner above the users: no reference signal, and neither the area of the marks nor PBCH's
   pub area-free : free c f s k ≡ not (crsAny c s k) && not (inSyncArea c f s k || inPbchArea c f s k)
@@ -153,11 +149,10 @@ module _ (w : List ℕ) (p : Plan) (ok : Valid w p) (d : User) (i : ℕ) (li : i
         ∙ mul-comm _ _)
 
   row : Row ≡ rowElements (p .cell) (p .frame) (u .first) (u .count) s
-  unfolding controlSymbols
   row =
       by-test (ltb s (controlSymbols (p .cell) (p .frame)))
       (λ e. early-row (ltb-true _ _ e))
-      (λ e. let z : p .frame .cfi ≤ s = ltb-false _ _ e in late-row z (omega (arith, ok .frame .some)))
+      (λ e. let z = ltb-false _ _ e in late-row z (omega (arith, region-least (p .cell) (p .frame), ok .frame .some)))
 
 -- THE LAW: user i's element count, for any d (there is a user i)
 pub user-elements : (w : List ℕ) (p : Plan) → checkOf w ≡ accepted p → (d : User) (i : ℕ) → i < length (usersOf w p)

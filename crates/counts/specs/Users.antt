@@ -33,7 +33,7 @@ centreHalves c first count = min (2 * (first + count)) (c .blocks + 6) - max (2 
 unfoldable pub halves : Cell → ℕ → ℕ → Bool → ℕ
 halves c first count t = 2 * count - (if t then centreHalves c first count else 0)
 
--- a user's places in symbol s: "its blocks, symbols s ≥ CFI, not owned above"
+-- a user's places in symbol s: "its blocks, symbols s ≥ CFI, not owned above", CFI + 1 at six blocks (document 02, #102)
 unfoldable pub rowElements : Cell → Frame → ℕ → ℕ → ℕ → ℕ
 rowElements c f first count s =
     if ltb s (controlSymbols c f) then 0 else (6 - signals c (c .ports) s) * halves c first count (taken c f s)

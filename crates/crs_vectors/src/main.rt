@@ -84,6 +84,7 @@ fn widths(prefix: u8, blocks: u8)
 }
 
 fn prefixes(prefix: u8) {
+    widths(prefix, 6);
     widths(prefix, 15);
     widths(prefix, 25);
     widths(prefix, 50);

@@ -9,7 +9,7 @@ use Rattle.plan.proofs.Valid.{valid}
 use Rattle.plan.proofs.Counts as counts
 
 module _ (w : List ℕ) (p : Plan) (ok : checkOf w ≡ accepted p) where
-  pub blocks-least : 15 ≤ p .cell .blocks
+  pub blocks-least : 6 ≤ p .cell .blocks
   blocks-least = counts.blocks-least (p .cell) (valid w p ok .cell)
 
   pub blocks-most : p .cell .blocks ≤ 100

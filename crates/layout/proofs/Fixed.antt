@@ -3,18 +3,15 @@
 use Prim.Native.Nat.{ℕ, _+_, _*_, _/_, _%_, _≤_, _<_}
 use mathlib.Core.Path.{_≡_, refl, sym, _∙_}
 use mathlib.Core.Logic.{_⊎_, inl, inr}
-use mathlib.Core.Bool.{true, false, not, _&&_, _||_, and-false}
+use mathlib.Core.Bool.{Bool, true, false, not, _&&_, _||_, and-false}
 use native.Mathlib.Omega.{arith}
 use lib.Dec.{leb, ltb, eqb}
-use borrow.Author.Tests.{eq-eqb, ne-eqb, lt-ltb, le-ltb, le-leb, eqb-true, eqb-false, ltb-true, ltb-false, leb-true, not-true}
+use borrow.Author.Tests.{eq-eqb, ne-eqb, lt-ltb, le-ltb, le-leb, eqb-true, ltb-true, ltb-false, leb-true, not-true}
 use Rattle.base.proofs.Tests.{clash, both, or-cases, or-left, or-right, is-not, on-if}
 use Rattle.base.specs.Choice.{if_then_else_}
 use Rattle.layout.specs.Rules.{
   slotLength,
   inSlot,
-  crsSymbol,
-  crsShift,
-  standsAt,
   crsOf,
   crs,
   crsOfFour,
@@ -32,9 +29,9 @@ use Rattle.layout.specs.Rules.{
   heldByPbch,
   held,
 }
-use Rattle.layout.specs.Rules.{inGroup, elementGroup, isFormat, pcfich, isLeft, mappingUnitHas, phich}
+use Rattle.layout.specs.Rules.{groupSize, elementGroup, inGroup, isFormat, pcfich, isLeft, mappingUnitHas, phich}
 use Rattle.layout.specs.Owners.{fixedRule}
-use Rattle.layout.specs.Chain.{pilotOf, pilot, number, takes, groupAt, controlAt, fixedAt, isIdle}
+use Rattle.layout.specs.Chain.{pilot, number, takes, groupAt, controlAt, fixedAt, isIdle}
 use Rattle.plan.specs.Fields.{mappingUnits}
 use Rattle.plan.specs.declared.Cell.{Cell}
 use Rattle.plan.specs.declared.Frame.{Frame}
@@ -43,25 +40,17 @@ use Rattle.layout.specs.declared.Mark.the-variants.{Primary, Secondary}
 use Rattle.layout.specs.declared.Owner.{Owner}
 use Rattle.layout.specs.declared.Owner.the-variants.{Crs, Sync, Pbch, Pcfich, Phich, User as UserOf, Held, Idle}
 use Rattle.plan.proofs.Listed.{and-left, and-right}
-use Rattle.layout.proofs.Pilot.{slot-length, crs-is, below-is}
+use Rattle.layout.proofs.Pilot.{slot-length, late-unused, crs-is, below-is}
 use Rattle.layout.proofs.Groups.{number-small}
+use Rattle.layout.proofs.GroupShape.{kept-clear, pcfich-first, phich-first}
 use Rattle.layout.proofs.Units.{units-fit, unit-has, unit-at, unit-sound}
 
--- no reference signal in the last two symbols of a slot, nor in the four places of a control group
+-- no reference signal in the last two symbols of a slot
 pilot-late : (c : Cell) (s k : ℕ) → s < slotLength c → slotLength c ≤ s + 2 → pilot c s k ≡ 4
-unfolding pilot crsSymbol inSlot
+unfolding pilot inSlot
 pilot-late c s k l m =
-    let L = slotLength c in
-    let h = slot-length c in
-    rw (lt-ltb s L l, ne-eqb s 0 (λ e. omega arith), ne-eqb (s + 3) L (λ e. omega arith), ne-eqb s 1 (λ e. omega arith)) refl
-
-pilot-quad : (c : Cell) (s k : ℕ) → s ≡ 0 → eqb (k % 3) (c .identity % 3) ≡ false → pilot c s k ≡ 4
-unfolding pilot pilotOf crsSymbol crsShift inSlot standsAt
-pilot-quad c s k e d =
-    let C = c .identity in
-    let h = slot-length c in
-    let n : (k % 3 ≡ C % 3) → ⊥ = eqb-false _ _ d in
-    rw (lt-ltb s (slotLength c) (omega arith), eq-eqb s 0 e, ne-eqb (k % 6) ((0 + C) % 6) (λ q. n (omega arith)), ne-eqb (k % 6) ((3 + C) % 6) (λ q. n (omega arith))) refl
+    let z : slotLength c ≤ inSlot c s + 2 = rw (lt-ltb s (slotLength c) l) m in
+    rw (late-unused c 0 s z, late-unused c 2 s z) refl
 
 -- what the marks use lies in the centre
 pub used-centre : (c : Cell) (k : ℕ) → used c k ≡ true → centre c k ≡ true
@@ -191,30 +180,40 @@ module _ (c : Cell) (f : Frame) (s k : ℕ) (fit : Fit c k) where
   in-group : k / 6 < 2 * N
   in-group = omega (arith, fit .inside)
 
-  in-quad : inGroup c s k ≡ true → fixedAt c f s k ≡ groupAt c (k / 6)
-  unfolding inGroup fixedAt controlAt
-  in-quad e =
-      let z : s ≡ 0 = eqb-true _ _ (and-left (eqb s 0) (not (eqb (k % 3) (C % 3))) e) in
-      let w : eqb (k % 3) (C % 3) ≡ false = not-true _ (and-right (eqb s 0) (not (eqb (k % 3) (C % 3))) e) in
-      rw (pilot-quad c s k z w, le-ltb 4 (c .ports) (fit .ports), eq-eqb s 0 z, w) refl
+  -- a place of a group of symbol 0
+  abbrev kept : Bool
+  kept = inGroup c 0 k
+
+  in-quad : eqb s 0 ≡ true → kept ≡ true → fixedAt c f s k ≡ groupAt c (k / 6)
+  unfolding inGroup groupSize fixedAt controlAt
+  in-quad z e =
+      let w : eqb (k % 3) (C % 3) ≡ false = not-true _ e in
+      let v : 4 ≤ q = ltb-false q 4 (sym (below-is c s k 4 (omega arith)) ∙ kept-clear c 4 s k w) in
+      rw (le-ltb q (c .ports) (omega (arith, fit .ports)), z, w) refl
 
   at-pcfich : pcfich c s k ≡ true → At Pcfich
-  unfolding pcfich groupAt elementGroup
-  at-pcfich e = in-quad (and-left (inGroup c s k) (isFormat c (k / 6)) e) ∙ rw (and-right (inGroup c s k) (isFormat c (k / 6)) e) refl
+  unfolding groupAt elementGroup groupSize
+  at-pcfich e =
+      let b = isFormat c (k / 6) in
+      let e₁ : eqb s 0 && (kept && b) ≡ true = sym (pcfich-first c s k) ∙ e in
+      let e₂ = and-right (eqb s 0) (kept && b) e₁ in
+      in-quad (and-left (eqb s 0) (kept && b) e₁) (and-left kept b e₂) ∙ rw (and-right kept b e₂) refl
 
   at-phich : (m : ℕ) → phich c m s k ≡ true → At (Phich m)
-  unfolding phich groupAt elementGroup isLeft
+  unfolding groupAt isLeft elementGroup groupSize
   at-phich m e =
       let a = ltb m (mappingUnits c) in
-      let b = inGroup c s k in
+      let u = mappingUnitHas c m 0 (k / 6) in
       let d = not (isFormat c (k / 6)) in
       let t = takes c m (number c (k / 6)) in
-      let ab : a && b ≡ true = and-left (a && b) (mappingUnitHas c m s (k / 6)) e in
-      let dt : d && t ≡ true = sym (unit-has c (fit .wide) m (k / 6) in-group s) ∙ and-right (a && b) (mappingUnitHas c m s (k / 6)) e in
+      let e₁ : a && (eqb s 0 && (kept && u)) ≡ true = sym (phich-first c s k m) ∙ e in
+      let e₂ = and-right a (eqb s 0 && (kept && u)) e₁ in
+      let e₃ = and-right (eqb s 0) (kept && u) e₂ in
+      let dt : d && t ≡ true = sym (unit-has c (fit .wide) m (k / 6) in-group) ∙ and-right kept u e₃ in
       let z : 6 ≤ N = fit .wide in
-      in-quad (and-right a b ab)
+      in-quad (and-left (eqb s 0) (kept && u) e₂) (and-left kept u e₃)
       ∙ rw (not-true (isFormat c (k / 6)) (and-left d t dt))
-      (unit-at c (omega arith) (units-fit c (fit .sixths) (fit .wide)) m (ltb-true _ _ (and-left a b ab)) (number c (k / 6)) (and-right d t dt))
+      (unit-at c (omega arith) (units-fit c (fit .sixths) (fit .wide)) m (ltb-true _ _ (and-left a (eqb s 0 && (kept && u)) e₁)) (number c (k / 6)) (and-right d t dt))
 
   -- a rule that holds is the owner's that fixedAt names
   pub fixed-at : (o : Owner) → fixedRule c f o s k ≡ true → fixedAt c f s k ≡ o
@@ -244,17 +243,14 @@ module _ (c : Cell) (f : Frame) (s k : ℕ) (fit : Fit c k) where
       both e (crs-is c s k q (omega (arith, fit .ports)) ∙ eq-eqb q q refl)
 
   module _ (z : eqb s 0 ≡ true) (w : eqb (k % 3) (C % 3) ≡ false) where
-    quad : inGroup c s k ≡ true
-    unfolding inGroup
-    quad = both z (is-not _ w)
-
     ok-pcfich : isFormat c (k / 6) ≡ true → Ok Pcfich
-    unfolding fixedRule pcfich elementGroup
-    ok-pcfich e i = both quad e
+    unfolding fixedRule inGroup elementGroup groupSize
+    ok-pcfich e i = pcfich-first c s k ∙ both z (both (is-not _ w) e)
 
     ok-phich : isFormat c (k / 6) ≡ false → (m : ℕ) → m < mappingUnits c → takes c m (number c (k / 6)) ≡ true → Ok (Phich m)
-    unfolding fixedRule phich elementGroup isLeft
-    ok-phich e m l t i = both (both (lt-ltb _ _ l) quad) (unit-has c (fit .wide) m (k / 6) in-group s ∙ both (is-not _ e) t)
+    unfolding fixedRule isLeft inGroup elementGroup groupSize
+    ok-phich e m l t i =
+        phich-first c s k m ∙ both (lt-ltb _ _ l) (both z (both (is-not _ w) (unit-has c (fit .wide) m (k / 6) in-group ∙ both (is-not _ e) t)))
 
     ok-group : Ok (groupAt c (k / 6))
     unfolding groupAt isLeft

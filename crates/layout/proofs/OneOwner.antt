@@ -6,7 +6,6 @@ use mathlib.Core.Path.{_≡_, refl, sym}
 use mathlib.Core.Logic.{_↔_}
 use mathlib.Core.Bool.{true}
 use mathlib.Core.List.{List}
-use native.Mathlib.Omega.{arith}
 use Rattle.plan.specs.Check.{checkOf}
 use Rattle.plan.specs.declared.Plan.{Plan}
 use Rattle.plan.specs.declared.Checked.the-variants.{Plan as accepted}
@@ -21,7 +20,7 @@ use Rattle.layout.proofs.Partition as partition
 -- what the inner laws ask of a cell and a subcarrier
 pub fit : (w : List ℕ) (p : Plan) → checkOf w ≡ accepted p → (k : ℕ) → k < carriers (p .cell) → Fit (p .cell) k
 fit w p ok k in-k =
-    record { wide = omega (arith, blocks-least w p ok); ports = ports-most w p ok; sixths = sixths-most w p ok; inside = in-k }
+    record { wide = blocks-least w p ok; ports = ports-most w p ok; sixths = sixths-most w p ok; inside = in-k }
 
 -- the owner that the code finds is the one whose rule holds
 pub owner-is :

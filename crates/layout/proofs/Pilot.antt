@@ -5,7 +5,7 @@ use mathlib.Core.Bool.{Bool, true, false, _&&_, _||_, and-true, and-false, or-fa
 use native.Mathlib.Omega.{arith}
 use lib.Dec.{ltb, eqb}
 use borrow.Author.Tests.{ne-eqb, le-ltb, eqb-true}
-use Rattle.base.proofs.Tests.{by-test, clash}
+use Rattle.base.proofs.Tests.{by-test, clash, on-if}
 use Rattle.plan.specs.declared.Cell.{Cell}
 use Rattle.layout.specs.Rules.{slotLength, inSlot, crsSymbol, crsShift, standsAt, crsOf, crsBelow}
 use Rattle.base.specs.Choice.{if_then_else_}
@@ -15,6 +15,14 @@ use Rattle.layout.specs.Chain.{pilotOf, pilot}
 pub slot-length : (c : Cell) → (6 ≤ slotLength c) × (slotLength c ≤ 7)
 unfolding slotLength
 slot-length c = by-test (eqb (c .prefix) 1) (λ t. rw t (omega arith, omega arith)) (λ t. rw t (omega arith, omega arith))
+
+pub slot-short : (c : Cell) → eqb (c .prefix) 1 ≡ true → slotLength c ≡ 6
+unfolding slotLength
+slot-short c e = rw e refl
+
+pub slot-long : (c : Cell) → eqb (c .prefix) 1 ≡ false → slotLength c ≡ 7
+unfolding slotLength
+slot-long c e = rw e refl
 
 pub symbols-most : (c : Cell) → symbols c ≤ 14
 symbols-most c = omega (arith, slot-length c)
@@ -55,6 +63,15 @@ crsFirst c p s = (crsShift c p s + c .identity) % 6
 
 abbrev pub hits : Bool → Bool → ℕ → ℕ → Bool
 hits u v x r = u && eqb r x || v && eqb r ((x + 3) % 6)
+
+-- no reference signal in the last two symbols of a slot
+pub late-unused : (c : Cell) (p s : ℕ) → slotLength c ≤ inSlot c s + 2 → crsSymbol c p s ≡ false
+unfolding crsSymbol
+late-unused c p s late =
+    let l = inSlot c s in
+    let L = slotLength c in
+    let h = slot-length c in
+    rw (ne-eqb l 0 (λ e. omega arith), ne-eqb (l + 3) L (λ e. omega arith), ne-eqb l 1 (λ e. omega arith)) (on-if (λ (b : Bool). b ≡ false) (ltb p 2) (λ e. refl) (λ e. refl))
 
 module _ (c : Cell) (s : ℕ) where
   -- ports 0 and 1 use the same symbols, and so do 2 and 3, which are others

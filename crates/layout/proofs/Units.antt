@@ -77,9 +77,9 @@ module _ (c : Cell) (big : 6 ≤ c .blocks) (m : ℕ) where
     group-test i = nth-test (isLeft c) (2 * c .blocks) (quadNumber c m i) t in-t (numbered i)
 
     -- the unit has a group where it is left and the unit takes its number
-    pub unit-has : (s : ℕ) → mappingUnitHas c m s t ≡ isLeft c t && takes c m (number c t)
+    pub unit-has : mappingUnitHas c m 0 t ≡ isLeft c t && takes c m (number c t)
     unfolding mappingUnitHas takes
-    unit-has s =
+    unit-has =
         rw (group-test 0, group-test 1, group-test 2)
         (spread (isLeft c t) (eqb (number c t) (quadNumber c m 0)) (eqb (number c t) (quadNumber c m 1)) (eqb (number c t) (quadNumber c m 2)))
 

@@ -4,7 +4,7 @@
 use Prim.Native.Nat.{ℕ, zero, suc, _+_, _*_, _<_}
 use mathlib.Core.Bool.{Bool, false, _&&_}
 use mathlib.Core.List.{List, [], _∷_, _++_}
-use lib.Dec.{leb, ltb}
+use lib.Dec.{leb, ltb, eqb}
 use lib.ListN.{length}
 use Rattle.base.specs.Tables.{table}
 use Rattle.plan.specs.Lists.{noneOf}
@@ -14,7 +14,7 @@ use Rattle.plan.specs.declared.Cell.{Cell}
 use Rattle.plan.specs.declared.Frame.{Frame}
 use Rattle.plan.specs.declared.User.{User}
 use Rattle.plan.specs.declared.Plan.{Plan}
-use Rattle.base.specs.Choice.{firstOf}
+use Rattle.base.specs.Choice.{if_then_else_, firstOf}
 use Rattle.layout.specs.Rules.{slotLength, slotOf, crs, pss, sss, pbch, held, pcfich, phich}
 use Rattle.layout.specs.declared.Mark.the-variants.{Primary, Secondary}
 use Rattle.layout.specs.declared.Owner.{Owner}
@@ -66,9 +66,10 @@ above c = Crs 0 ∷ Crs 1 ∷ Crs 2 ∷ Crs 3 ∷ Sync Primary ∷ Sync Secondar
 unfoldable pub free : Cell → Frame → ℕ → ℕ → Bool
 free c f s k = noneOf (λ (o : Owner). fixedRule c f o s k) (above c)
 
--- how many symbols the control region has: the CFI
+-- how many symbols the control region has: "N = 6 joins the widths, and there the control region is CFI + 1 symbols; at other widths it
+-- is CFI" (document 02, #102)
 unfoldable pub controlSymbols : Cell → Frame → ℕ
-controlSymbols c f = f .cfi
+controlSymbols c f = if eqb (c .blocks) 6 then f .cfi + 1 else f .cfi
 
 -- subcarrier k lies in the user's blocks in slot n, here the same blocks in both; and in those of user i
 unfoldable pub blocksHave : User → ℕ → ℕ → Bool
@@ -79,7 +80,7 @@ userHas [] i n k = false
 userHas (u ∷ us) zero n k = blocksHave u n k
 userHas (u ∷ us) (suc i) n k = userHas us i n k
 
--- "USER: its blocks, symbols s ≥ CFI, not owned above"
+-- "USER: its blocks, symbols s ≥ CFI, not owned above"; "User elements .. follow the new meaning" (#102): CFI + 1 at six blocks
 unfoldable pub userRule : List ℕ → Plan → ℕ → ℕ → ℕ → Bool
 userRule w p i s k =
     userHas (usersOf w p) i (slotOf (p .cell) s) k && leb (controlSymbols (p .cell) (p .frame)) s && free (p .cell) (p .frame) s k

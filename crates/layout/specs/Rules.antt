@@ -95,23 +95,33 @@ heldByPbch c f s k = inPbchArea c f s k && crsOfFour c s k && not (crsAny c s k)
 unfoldable pub held : Cell → Frame → ℕ → ℕ → Bool
 held c f s k = heldBySync c f s k || heldByPbch c f s k
 
--- ---- control groups: "Symbol 0 has 2N groups of six subcarriers; a group's four places skip k with k mod 3 = C mod 3, also for
--- one port". The group of subcarrier k in symbol s, and whether (s, k) is one of a group's four places
+-- ---- control groups: "Symbol 0 has 2N groups of six subcarriers". Document 02: "Symbols 1 and 2 have three groups of four per block,
+-- symbol 1 with four ports two groups of six" (#108); "A fourth control symbol has three groups of four per block in the normal prefix,
+-- two groups of six in the extended one" (#102). The subcarriers of a group of control symbol s, 0 to 3 (36.211 6.2.4)
+unfoldable pub groupSize : Cell → ℕ → ℕ
+groupSize c s = if eqb s 0 || (eqb s 1 && eqb (c .ports) 4) || (eqb s 3 && eqb (c .prefix) 1) then 6 else 4
+
+-- the group of subcarrier k in control symbol s, and whether (s, k) is one of a group's four places: of six, "a group's four places skip
+-- k with k mod 3 = C mod 3, also for one port"
 unfoldable pub elementGroup : Cell → ℕ → ℕ → ℕ
-elementGroup c s k = k / 6
+elementGroup c s k = k / groupSize c s
 
 unfoldable pub inGroup : Cell → ℕ → ℕ → Bool
-inGroup c s k = eqb s 0 && not (eqb (k % 3) (c .identity % 3))
+inGroup c s k = eqb (groupSize c s) 4 || not (eqb (k % 3) (c .identity % 3))
 
--- document 01's quad: what fills a group's four places. "PCFICH quad i: group (C+floor(iN/2)) mod 2N", i = 0..3
+-- document 01's quad: what fills a group's four places. "PCFICH quad i: group (C+floor(iN/2)) mod 2N", i = 0..3, of symbol 0
 unfoldable pub formatGroup : Cell → ℕ → ℕ
 formatGroup c i = (c .identity + i * c .blocks / 2) % (2 * c .blocks)
 
 unfoldable pub isFormat : Cell → ℕ → Bool
 isFormat c t = eqb t (formatGroup c 0) || eqb t (formatGroup c 1) || eqb t (formatGroup c 2) || eqb t (formatGroup c 3)
 
+-- PCFICH has group t of symbol s
+unfoldable pub formatHas : Cell → ℕ → ℕ → Bool
+formatHas c s t = eqb s 0 && isFormat c t
+
 unfoldable pub pcfich : Cell → ℕ → ℕ → Bool
-pcfich c s k = inGroup c s k && isFormat c (elementGroup c s k)
+pcfich c s k = inGroup c s k && formatHas c s (elementGroup c s k)
 
 -- ---- PHICH, of unit m: "With h = 2N−4 groups left in ascending order, quad i of unit m takes number (C+m+floor(ih/3)) mod h", i = 0..2.
 -- h, and whether group t is left
@@ -130,7 +140,7 @@ quadGroup c m i = nth (isLeft c) (2 * c .blocks) (quadNumber c m i)
 
 -- unit m has group t of symbol s
 unfoldable pub mappingUnitHas : Cell → ℕ → ℕ → ℕ → Bool
-mappingUnitHas c m s t = eqb t (quadGroup c m 0) || eqb t (quadGroup c m 1) || eqb t (quadGroup c m 2)
+mappingUnitHas c m s t = eqb s 0 && (eqb t (quadGroup c m 0) || eqb t (quadGroup c m 1) || eqb t (quadGroup c m 2))
 
 unfoldable pub phich : Cell → ℕ → ℕ → ℕ → Bool
 phich c m s k = ltb m (mappingUnits c) && inGroup c s k && mappingUnitHas c m s (elementGroup c s k)

@@ -225,7 +225,7 @@ fn in_broadcast(cell: Cell, frame: Frame, s: usize, k: usize) -> bool
     }
 }
 
-// The group of PCFICH's quad i. Every accepted plan has 15 blocks or more.
+// The group of PCFICH's quad i. Every accepted plan has six blocks or more.
 pub fn format_group(cell: Cell, i: usize) -> usize
     requires { ⌜ (6 ≤ cell .blocks) × (i < 4) ⌝ }
     ensures { λ r. ⌜ r ≡ formatGroup cell i ⌝ }
@@ -364,11 +364,12 @@ fn user_from(plan: &[u8], start: usize, count: usize, k: usize) -> Owner
     Owner::Idle
 }
 
-// The number of symbols of the control region.
+// The number of symbols of the control region, one more than the CFI where the cell has six blocks.
 pub fn control_symbols(cell: Cell, frame: Frame) -> usize
     ensures { λ r. ⌜ r ≡ controlSymbols cell frame ⌝ }
 {
-    frame.cfi as usize
+    let cfi = frame.cfi as usize;
+    if cell.blocks == 6 { cfi + 1 } else { cfi }
 }
 
 // The owner of a place, for whoever asks for many. Whoever calls has p from the plan check of these bytes, and asks inside the grid.

@@ -13,9 +13,9 @@ format-some : (c : Cell) (t : ℕ) → isFormat c t ≡ isSome (formatGroup c) 4
 unfolding isFormat
 format-some c t = refl
 
-unit-some : (c : Cell) (m s t : ℕ) → mappingUnitHas c m s t ≡ isSome (quadGroup c m) 3 t
+unit-some : (c : Cell) (m t : ℕ) → mappingUnitHas c m 0 t ≡ isSome (quadGroup c m) 3 t
 unfolding mappingUnitHas
-unit-some c m s t = refl
+unit-some c m t = refl
 
 module _ (c : Cell) (big : 6 ≤ c .blocks) where
   pub format-groups : Groups 4 (2 * c .blocks) (formatGroup c) (isFormat c)
@@ -31,7 +31,7 @@ module _ (c : Cell) (big : 6 ≤ c .blocks) where
   unit-groups m third =
       record {
         small = λ i l. unit-small c big m i;
-        has-group = λ i l. unit-some c m 0 (quadGroup c m i) ∙ some-in (quadGroup c m) 3 (quadGroup c m i) i l refl;
+        has-group = λ i l. unit-some c m (quadGroup c m i) ∙ some-in (quadGroup c m) 3 (quadGroup c m i) i l refl;
         apart = all-apart (quadGroup c m) 3 (unit-apart c big m third);
-        some = λ g l e. in-some (quadGroup c m) 3 g (sym (unit-some c m 0 g) ∙ e);
+        some = λ g l e. in-some (quadGroup c m) 3 g (sym (unit-some c m g) ∙ e);
       }

@@ -18,6 +18,7 @@ use Rattle.plan.proofs.Valid.{valid}
 use Rattle.layout.specs.Rules.{slotOf, standsAt, crsOf, crsBelow, crsAny, middle, centre, inSyncArea, inPbchArea, pbch}
 use Rattle.layout.specs.Owners.{controlSymbols, blocksHave, userHas, userRule, free, fixedRule, owns}
 use Rattle.layout.specs.declared.Owner.the-variants.{Pbch, User as UserOf}
+use Rattle.layout.proofs.ControlRegion.{region-least}
 use Rattle.counts.proofs.UserElements.{area-free}
 use Rattle.places.specs.Halves.{without, openPlace, openOfFour, inPbch, takenHalf, openTo}
 
@@ -74,8 +75,7 @@ lost : (x y f z v : Bool) → x && false && f ≡ y && false && z && v
 lost x y f z v = simp and-false
 
 late-symbol : (c : Cell) (f : Frame) (s : ℕ) → 1 ≤ f .cfi → leb (controlSymbols c f) s ≡ true → 0 < s
-unfolding controlSymbols
-late-symbol c f s h e = omega (arith, leb-true (f .cfi) s e)
+late-symbol c f s h e = omega (arith, region-least c f, leb-true (controlSymbols c f) s e)
 
 -- PBCH's: those without reference signals of four ports, or none
 pub pbch-half : (w : List ℕ) (p : Plan) (s b r : ℕ) → r < 6 → owns w p Pbch s (6 * b + r) ≡ inPbch (p .cell) (p .frame) s b && openOfFour (p .cell) s r

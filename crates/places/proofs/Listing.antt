@@ -3,7 +3,7 @@
 use Prim.Native.Nat.{ℕ, _+_, _*_, _/_, _%_, _≤_, _<_}
 use mathlib.Core.Path.{_≡_, refl, sym, ap, _∙_, subst}
 use mathlib.Core.Logic.{_↔_}
-use mathlib.Core.Bool.{Bool, true, false, not, _&&_, and-assoc}
+use mathlib.Core.Bool.{Bool, true, false, _&&_}
 use mathlib.Core.List.{List}
 use native.Mathlib.Nat.{mod-lt, mod-eq-of-lt, div-eq-of-lt, div-add-mod', zero-mul}
 use native.Mathlib.Omega.{arith}
@@ -22,6 +22,7 @@ use Rattle.layout.specs.declared.Owner.{Owner}
 use Rattle.layout.specs.declared.Owner.the-variants.{Crs, Sync, Pbch, Pcfich, Phich, User as UserOf, Held, Idle}
 use Rattle.layout.proofs.Few.{blocks-least, blocks-most, sixths-most}
 use Rattle.layout.proofs.Units.{units-fit}
+use Rattle.layout.proofs.GroupShape.{inFirst, pcfich-first, phich-first}
 use Rattle.base.specs.Counts.{cnt, Listed}
 use Rattle.places.specs.Quads.{quadPlace, quadsPlace, quadsIndex, InQuads}
 use Rattle.places.specs.Places.{placeNumber, symbolAt, carrierAt, placesOf, ownsAt, FillingOrder, ascending, placeOrder, placeBy, indexBy, placeOf, indexOf, PlacesListed}
@@ -61,24 +62,14 @@ module _ (own rule : ℕ → Bool) (W T m : ℕ) (at index : ℕ → ℕ) (some 
         again = λ t h e. let a = l .again (t % W) (mod-lt t some) (in-rule t e) in omega (arith, zero-mul W, in-row t e);
       }
 
--- ---- the rules of PCFICH and of a PHICH unit, at a place
+-- ---- the rule of a PHICH unit, at a place
 module _ (c : Cell) where
-  pub pcfich-is : (s k : ℕ) → pcfich c s k ≡ inGroup c s k && isFormat c (elementGroup c s k)
-  unfolding pcfich
-  pcfich-is s k = refl
-
-  pub phich-is : (m s k : ℕ) → m < mappingUnits c → phich c m s k ≡ inGroup c s k && mappingUnitHas c m 0 (elementGroup c s k)
-  unfolding phich mappingUnitHas
-  phich-is m s k h = rw (lt-ltb m (mappingUnits c) h) refl
+  pub phich-is : (m s k : ℕ) → m < mappingUnits c → phich c m s k ≡ inFirst c (mappingUnitHas c m 0) s k
+  phich-is m s k h = phich-first c s k m ∙ rw (lt-ltb m (mappingUnits c) h) refl
 
   phich-none : (m s k : ℕ) → mappingUnits c ≤ m → phich c m s k ≡ false
   unfolding phich
   phich-none m s k h = rw (le-ltb m (mappingUnits c) h) refl
-
-  -- groups are symbol 0's
-  in-first : (has : ℕ → Bool) (s k : ℕ) → inGroup c s k && has (elementGroup c s k) ≡ eqb s 0 && (inGroup c 0 k && has (elementGroup c 0 k))
-  unfolding inGroup elementGroup
-  in-first has s k = and-assoc (eqb s 0) (not (eqb (k % 3) (c .identity % 3))) (has (k / 6))
 
 -- index 4i + j of PCFICH and of a unit
 module _ (w : List ℕ) (p : Plan) where
@@ -93,31 +84,28 @@ module _ (w : List ℕ) (p : Plan) where
 -- ---- a channel of quads with the rule of its groups
 module _ (c : Cell) (n : ℕ) (group : ℕ → ℕ) (has : ℕ → Bool) (some : 0 < carriers c) (gs : Groups n (2 * c .blocks) group has) where
   pub by-quads :
-      (own : ℕ → Bool) → ((t : ℕ) → own t ≡ inGroup c (symbolAt c t) (carrierAt c t) && has (elementGroup c (symbolAt c t) (carrierAt c t)))
+      (own : ℕ → Bool) → ((t : ℕ) → own t ≡ inFirst c has (symbolAt c t) (carrierAt c t))
       → Listed own (placesOf c) (4 * n) (λ (j : ℕ). placeNumber c 0 (quadsPlace c group j)) (λ (t : ℕ). quadsIndex c n group (carrierAt c t))
   by-quads own same =
       row-listed own (λ (k : ℕ). inGroup c 0 k && has (elementGroup c 0 k)) (carriers c) (placesOf c) (4 * n) (quadsPlace c group) (quadsIndex c n group) some (first-row c)
-      (λ t. same t ∙ in-first c has (symbolAt c t) (carrierAt c t)) (quads-listed c n group has gs)
+      same (quads-listed c n group has gs)
 
   at-quads :
-      (s k : ℕ) → k < carriers c → (r : Bool) → r ≡ inGroup c s k && has (elementGroup c s k)
+      (s k : ℕ) → k < carriers c → (r : Bool) → r ≡ inFirst c has s k
       → (r ≡ true) ↔ ((s ≡ 0) × InQuads c n group k)
   at-quads s k in-k r e = (to, from)
     where
       exactly : (inGroup c 0 k && has (elementGroup c 0 k) ≡ true) ↔ InQuads c n group k
       exactly = quads-exactly c n group has gs k in-k
 
-      first : r ≡ eqb s 0 && (inGroup c 0 k && has (elementGroup c 0 k))
-      first = e ∙ in-first c has s k
-
       to : r ≡ true → (s ≡ 0) × InQuads c n group k
       to h =
           let a = inGroup c 0 k && has (elementGroup c 0 k) in
-          let both : eqb s 0 && a ≡ true = sym first ∙ h in
+          let both : eqb s 0 && a ≡ true = sym e ∙ h in
           (eqb-true s 0 (and-left (eqb s 0) a both), exactly .0 (and-right (eqb s 0) a both))
 
       from : (s ≡ 0) × InQuads c n group k → r ≡ true
-      from h = first ∙ rw (eq-eqb s 0 (h .0)) (exactly .1 (h .1))
+      from h = e ∙ rw (eq-eqb s 0 (h .0)) (exactly .1 (h .1))
 
 -- places that are listed are as many as the owner's count says
 counted : (w : List ℕ) (p : Plan) (o : Owner) (m : ℕ) → Listed (ownsAt w p o) (placesOf (p .cell)) m (placeOf w p o) (indexOf w p o) → PlacesListed w p o
@@ -129,15 +117,15 @@ module _ (w : List ℕ) (p : Plan) (ok : checkOf w ≡ accepted p) where
 
   -- what the functions require
   pub ranges : (6 ≤ p .cell .blocks) × (2 * p .cell .blocks < 512) × (mappingUnits (p .cell) < 256)
-  ranges = (omega (arith, blocks-least w p ok), omega (arith, blocks-most w p ok), omega (arith, blocks-most w p ok, units-fit (p .cell) (sixths-most w p ok) (omega (arith, blocks-least w p ok))))
+  ranges = (blocks-least w p ok, omega (arith, blocks-most w p ok), omega (arith, blocks-most w p ok, units-fit (p .cell) (sixths-most w p ok) (blocks-least w p ok)))
 
   pub pcfich-groups : Groups 4 (2 * p .cell .blocks) (formatGroup (p .cell)) (isFormat (p .cell))
-  pcfich-groups = format-groups (p .cell) (omega (arith, blocks-least w p ok))
+  pcfich-groups = format-groups (p .cell) (blocks-least w p ok)
 
   pub phich-groups : (m : ℕ) → m < mappingUnits (p .cell) → Groups 3 (2 * p .cell .blocks) (quadGroup (p .cell) m) (mappingUnitHas (p .cell) m 0)
   phich-groups m h =
-      unit-groups (p .cell) (omega (arith, blocks-least w p ok)) m
-      (omega (arith, units-fit (p .cell) (sixths-most w p ok) (omega (arith, blocks-least w p ok))))
+      unit-groups (p .cell) (blocks-least w p ok) m
+      (omega (arith, units-fit (p .cell) (sixths-most w p ok) (blocks-least w p ok)))
 
   pcfich-at : (t : ℕ) → ownsAt w p Pcfich t ≡ pcfich (p .cell) (symbolAt (p .cell) t) (carrierAt (p .cell) t)
   unfolding ownsAt owns fixedRule
@@ -151,7 +139,7 @@ module _ (w : List ℕ) (p : Plan) (ok : checkOf w ≡ accepted p) where
   unfolding placeOf indexOf placeBy indexBy placeOrder
   pcfich-listed =
       by-quads (p .cell) 4 (formatGroup (p .cell)) (isFormat (p .cell)) some-carriers pcfich-groups (ownsAt w p Pcfich)
-      (λ t. pcfich-at t ∙ pcfich-is (p .cell) (symbolAt (p .cell) t) (carrierAt (p .cell) t))
+      (λ t. pcfich-at t ∙ pcfich-first (p .cell) (symbolAt (p .cell) t) (carrierAt (p .cell) t))
 
   phich-listed :
       (m : ℕ) → m < mappingUnits (p .cell)
@@ -194,7 +182,7 @@ module _ (w : List ℕ) (p : Plan) (ok : checkOf w ≡ accepted p) where
   pub pcfich-exactly : (s k : ℕ) → k < carriers (p .cell) → (owns w p Pcfich s k ≡ true) ↔ ((s ≡ 0) × InQuads (p .cell) 4 (formatGroup (p .cell)) k)
   unfolding owns fixedRule
   pcfich-exactly s k in-k =
-      at-quads (p .cell) 4 (formatGroup (p .cell)) (isFormat (p .cell)) some-carriers pcfich-groups s k in-k (pcfich (p .cell) s k) (pcfich-is (p .cell) s k)
+      at-quads (p .cell) 4 (formatGroup (p .cell)) (isFormat (p .cell)) some-carriers pcfich-groups s k in-k (pcfich (p .cell) s k) (pcfich-first (p .cell) s k)
 
   pub phich-exactly :
       (m : ℕ) → m < mappingUnits (p .cell) → (s k : ℕ) → k < carriers (p .cell)

@@ -1,9 +1,9 @@
--- A group has four places, and a channel of quads has just the places of its quads' groups, each once; index and place undo each other.
--- Assumes groups of symbol 0.
+-- A group of any symbol has four places, and a channel of quads has just the places of its quads' groups, each once; index and place
+-- undo each other. Assumes of a channel that its groups are symbol 0's.
 use Prim.Native.Nat.{ℕ, _+_, _-_, _*_, _/_, _%_, _≤_, _<_}
 use mathlib.Core.Path.{_≡_, refl, sym, ap, ap₂, _∙_}
 use mathlib.Core.Logic.{_↔_}
-use mathlib.Core.Bool.{Bool, true, false, not, _&&_, and-true, and-false}
+use mathlib.Core.Bool.{Bool, true, false, not, _&&_, _||_, and-true, and-false}
 use native.Mathlib.Omega.{arith}
 use lib.Dec.{T, eqb, ltb, eqb→eq}
 use lib.Ieee.Bits.{is-true}
@@ -15,7 +15,8 @@ use Rattle.base.proofs.Counts.{cnt-none, cnt-add, cnt-same, cnt-skip, cnt-lt, n
 use Rattle.base.proofs.Tests.{both}
 use Rattle.plan.specs.declared.Cell.{Cell}
 use Rattle.plan.proofs.Listed.{and-left, and-right}
-use Rattle.layout.specs.Rules.{elementGroup, inGroup}
+use Rattle.layout.specs.Rules.{groupSize, elementGroup, inGroup}
+use Rattle.layout.proofs.GroupShape.{by-size}
 use Rattle.layout.specs.Owners.{carriers}
 use Rattle.places.specs.Quads.{groupHas, quadPlace, quadIndex, quadsPlace, quadsIndex, InQuads}
 
@@ -54,49 +55,89 @@ module _ (c : Cell) (s k : ℕ) (in-k : k < carriers c) (kept : inGroup c s k �
   unfolding quadPlace quadIndex
   index-place = nth-of (groupHas c s (elementGroup c s k)) (carriers c) k own-group in-k
 
--- ---- the four places of a group of symbol 0: of six subcarriers all but two, v is C mod 3
-abbrev keeps : ℕ → ℕ → Bool
-keeps v r = not (eqb (r % 3) v)
+-- ---- the four places of a group: all of four subcarriers, and of six all but two, v is C mod 3
+abbrev keeps : ℕ → ℕ → ℕ → Bool
+keeps z v r = eqb z 4 || not (eqb (r % 3) v)
 
-four-kept : T (allBelow (λ (v : ℕ). eqb (cnt (keeps v) 6) 4) 3)
+abbrev fourOf : ℕ → ℕ → Bool
+fourOf z v = eqb (cnt (keeps z v) z) 4
+
+six-kept : T (allBelow (fourOf 6) 3)
+unfolding cnt
+six-kept = tt
+
+four-kept : T (allBelow (fourOf 4) 3)
 unfolding cnt
 four-kept = tt
 
+module _ (c : Cell) (s : ℕ) where
+  abbrev z : ℕ
+  z = groupSize c s
+
+  kept-four : (v : ℕ) → v < 3 → cnt (keeps z v) z ≡ 4
+  kept-four v l =
+      by-size (λ (z : ℕ). cnt (keeps z v) z ≡ 4) c s (eqb→eq _ 4 (below-at (fourOf 6) 3 six-kept v l)) (eqb→eq _ 4 (below-at (fourOf 4) 3 four-kept v l))
+
+  kept-on : (v t r : ℕ) → keeps z v (z * t + r) ≡ keeps z v r
+  kept-on v t r = by-size (λ (z : ℕ). keeps z v (z * t + r) ≡ keeps z v r) c s (let x : (6 * t + r) % 3 ≡ r % 3 = omega arith in rw x refl) refl
+
+  group-on : (t r : ℕ) → r < z → (z * t + r) / z ≡ t
+  group-on t r = by-size (λ (z : ℕ). r < z → (z * t + r) / z ≡ t) c s (λ l. omega arith) (λ l. omega arith)
+
+  group-around : (t k : ℕ) → k / z ≡ t → (z * t ≤ k) × (k < z * t + z)
+  group-around t k = by-size (λ (z : ℕ). k / z ≡ t → (z * t ≤ k) × (k < z * t + z)) c s (λ e. (omega arith, omega arith)) (λ e. (omega arith, omega arith))
+
+  -- the groups fill the symbol: 12N is a multiple of six and of four
+  last-group : (t : ℕ) → t < carriers c / z → z * t + z ≤ carriers c
+  last-group t = by-size (λ (z : ℕ). t < carriers c / z → z * t + z ≤ carriers c) c s (λ l. omega arith) (λ l. omega arith)
+
+  pub group-below : (k : ℕ) → k < carriers c → elementGroup c s k < carriers c / z
+  unfolding elementGroup
+  group-below k l = by-size (λ (z : ℕ). k / z < carriers c / z) c s (omega arith) (omega arith)
+
+  module _ (t : ℕ) (in-t : t < carriers c / z) where
+    abbrev v : ℕ
+    v = c .identity % 3
+
+    in-size : (r : ℕ) → r < z → groupHas c s t (z * t + r) ≡ keeps z v r
+    unfolding groupHas inGroup elementGroup
+    in-size r h = rw (kept-on v t r, eq-eqb _ _ (group-on t r h)) (and-true (keeps z v r))
+
+    outside : (k : ℕ) → ((z * t ≤ k) × (k < z * t + z) → ⊥) → groupHas c s t k ≡ false
+    unfolding groupHas elementGroup
+    outside k n = rw (ne-eqb (k / z) t (λ e. n (group-around t k e))) (and-false (inGroup c s k))
+
+    up-to : (d : ℕ) → d ≤ z → cnt (groupHas c s t) (z * t + d) ≡ cnt (keeps z v) d
+    up-to d h =
+        let y : 0 + z * t ≡ z * t = omega arith in
+        let none : cnt (groupHas c s t) (0 + z * t) ≡ cnt (groupHas c s t) 0 = cnt-skip (groupHas c s t) 0 (z * t) (λ k a b. outside k (λ e. omega (arith, e .0))) in
+        cnt-add (groupHas c s t) (z * t) d
+        ∙ ap₂ _+_ (ap (cnt (groupHas c s t)) (sym y) ∙ none ∙ cnt-none (groupHas c s t))
+        (cnt-same (λ (r : ℕ). groupHas c s t (z * t + r)) (keeps z v) d (λ r l. in-size r (omega arith)))
+        ∙ (let x : 0 + cnt (keeps z v) d ≡ cnt (keeps z v) d = omega arith in x)
+
+    -- THE LAW: a group of any symbol has four places
+    pub four : cnt (groupHas c s t) (carriers c) ≡ 4
+    four =
+        let l = last-group t in-t in
+        let e : z * t + z + (carriers c - (z * t + z)) ≡ carriers c = omega arith in
+        ap (cnt (groupHas c s t)) (sym e)
+        ∙ cnt-skip (groupHas c s t) (z * t + z) (carriers c - (z * t + z)) (λ k a b. outside k (λ d. omega (arith, d .1)))
+        ∙ up-to z (omega arith)
+        ∙ kept-four v (omega arith)
+
+pub index-small : (c : Cell) (s k : ℕ) → k < carriers c → inGroup c s k ≡ true → quadIndex c s k < 4
+index-small c s k h e = omega (arith, index-below c s k h e, four c s (elementGroup c s k) (group-below c s k h))
+
+-- ---- symbol 0 has 2N groups
+first-groups : (c : Cell) → carriers c / groupSize c 0 ≡ 2 * c .blocks
+unfolding groupSize
+first-groups c = omega arith
+
 module _ (c : Cell) (t : ℕ) (in-t : t < 2 * c .blocks) where
-  abbrev v : ℕ
-  v = c .identity % 3
-
-  in-six : (r : ℕ) → r < 6 → groupHas c 0 t (6 * t + r) ≡ keeps v r
-  unfolding groupHas inGroup elementGroup
-  in-six r h =
-      let e : (6 * t + r) % 3 ≡ r % 3 = omega arith in
-      let d : (6 * t + r) / 6 ≡ t = omega arith in
-      rw (e, eq-eqb _ _ d) (and-true (keeps v r))
-
-  outside : (k : ℕ) → (k / 6 ≡ t → ⊥) → groupHas c 0 t k ≡ false
-  unfolding groupHas elementGroup
-  outside k n = rw (ne-eqb (k / 6) t n) (and-false (inGroup c 0 k))
-
-  up-to : (d : ℕ) → d ≤ 6 → cnt (groupHas c 0 t) (6 * t + d) ≡ cnt (keeps v) d
-  up-to d h =
-      let z : cnt (groupHas c 0 t) (0 + 6 * t) ≡ cnt (groupHas c 0 t) 0 = cnt-skip (groupHas c 0 t) 0 (6 * t) (λ k a b. outside k (λ e. omega arith)) in
-      let y : 0 + 6 * t ≡ 6 * t = omega arith in
-      cnt-add (groupHas c 0 t) (6 * t) d
-      ∙ ap₂ _+_ (ap (cnt (groupHas c 0 t)) (sym y) ∙ z ∙ cnt-none (groupHas c 0 t)) (cnt-same (λ (r : ℕ). groupHas c 0 t (6 * t + r)) (keeps v) d (λ r l. in-six r (omega arith)))
-      ∙ (let x : 0 + cnt (keeps v) d ≡ cnt (keeps v) d = omega arith in x)
-
-  -- a group has four places
-  pub four : cnt (groupHas c 0 t) (carriers c) ≡ 4
-  four =
-      let e : 6 * t + 6 + (carriers c - (6 * t + 6)) ≡ carriers c = omega arith in
-      ap (cnt (groupHas c 0 t)) (sym e)
-      ∙ cnt-skip (groupHas c 0 t) (6 * t + 6) (carriers c - (6 * t + 6)) (λ k a b. outside k (λ d. omega arith))
-      ∙ up-to 6 (omega arith)
-      ∙ eqb→eq _ 4 (below-at (λ (v : ℕ). eqb (cnt (keeps v) 6) 4) 3 four-kept v (omega arith))
-
   module _ (j : ℕ) (in-j : j < 4) where
     small : j < cnt (groupHas c 0 t) (carriers c)
-    small = omega (arith, four)
+    small = omega (arith, four c 0 t (omega (arith, first-groups c)))
 
     pub place-group : elementGroup c 0 (quadPlace c 0 t j) ≡ t
     place-group = group-place c 0 t j small
@@ -110,36 +151,29 @@ module _ (c : Cell) (t : ℕ) (in-t : t < 2 * c .blocks) where
     pub place-index : quadIndex c 0 (quadPlace c 0 t j) ≡ j
     place-index = index-of-place c 0 t j small
 
--- the group of a subcarrier of the grid, and its index there
-pub group-below : (c : Cell) (k : ℕ) → k < carriers c → elementGroup c 0 k < 2 * c .blocks
-unfolding elementGroup
-group-below c k h = omega arith
-
-pub index-small : (c : Cell) (k : ℕ) → k < carriers c → inGroup c 0 k ≡ true → quadIndex c 0 k < 4
-index-small c k h e = omega (arith, index-below c 0 k h e, four c (elementGroup c 0 k) (group-below c k h))
-
 -- the j-th place by its offset: two of each three subcarriers
 unfoldable offset : ℕ → ℕ → ℕ
 offset v j = 3 * (j / 2) + j % 2 + indicator (ltb v (j % 2 + 1))
 
 abbrev offsetIs : ℕ → ℕ → Bool
-offsetIs v j = eqb (cnt (keeps v) (offset v j)) j && keeps v (offset v j) && ltb (offset v j) 6
+offsetIs v j = eqb (cnt (keeps 6 v) (offset v j)) j && keeps 6 v (offset v j) && ltb (offset v j) 6
 
 offsets : T (allBelow (λ (v : ℕ). allBelow (offsetIs v) 4) 3)
 unfolding cnt offset
 offsets = tt
 
 pub place-is : (c : Cell) (t j : ℕ) → t < 2 * c .blocks → j < 4 → quadPlace c 0 t j ≡ 6 * t + (3 * (j / 2) + j % 2 + indicator (ltb (c .identity % 3) (j % 2 + 1)))
-unfolding quadPlace offset
+unfolding quadPlace offset groupSize
 place-is c t j in-t h =
     let v = c .identity % 3 in
     let r = offset v j in
-    let a = eqb (cnt (keeps v) r) j in
+    let a = eqb (cnt (keeps 6 v) r) j in
     let e = is-true (offsetIs v j) (below-at (offsetIs v) 4 (below-at (λ (v : ℕ). allBelow (offsetIs v) 4) 3 offsets v (omega arith)) j h) in
-    let ab = and-left (a && keeps v r) (ltb r 6) e in
-    let l : r < 6 = ltb-true r 6 (and-right (a && keeps v r) (ltb r 6) e) in
-    let own : groupHas c 0 t (6 * t + r) ≡ true = in-six c t in-t r l ∙ and-right a (keeps v r) ab in
-    let count : cnt (groupHas c 0 t) (6 * t + r) ≡ j = up-to c t in-t r (omega arith) ∙ eqb-true _ _ (and-left a (keeps v r) ab) in
+    let ab = and-left (a && keeps 6 v r) (ltb r 6) e in
+    let l : r < 6 = ltb-true r 6 (and-right (a && keeps 6 v r) (ltb r 6) e) in
+    let first : t < carriers c / groupSize c 0 = omega (arith, first-groups c) in
+    let own : groupHas c 0 t (6 * t + r) ≡ true = in-size c 0 t first r l ∙ and-right a (keeps 6 v r) ab in
+    let count : cnt (groupHas c 0 t) (6 * t + r) ≡ j = up-to c 0 t first r (omega arith) ∙ eqb-true _ _ (and-left a (keeps 6 v r) ab) in
     ap (nth (groupHas c 0 t) (carriers c)) (sym count) ∙ nth-of (groupHas c 0 t) (carriers c) (6 * t + r) own (omega arith)
 
 -- ---- a channel of n quads: has holds of just their groups, which are below 2N and different
@@ -188,22 +222,22 @@ module _ (c : Cell) (n : ℕ) (group : ℕ → ℕ) (has : ℕ → Bool) (gs : G
     kept = and-left (inGroup c 0 k) (has (elementGroup c 0 k)) e
 
     found : (i : ℕ) × (i < n) × (group i ≡ elementGroup c 0 k)
-    found = gs .some (elementGroup c 0 k) (group-below c k in-k) (and-right (inGroup c 0 k) (has (elementGroup c 0 k)) e)
+    found = gs .some (elementGroup c 0 k) (omega (arith, group-below c 0 k in-k, first-groups c)) (and-right (inGroup c 0 k) (has (elementGroup c 0 k)) e)
 
     which-one : which group n (elementGroup c 0 k) ≡ found .0
     which-one = ap (which group n) (sym (found .2)) ∙ which-is group n (gs .apart) (found .0) (found .1)
 
     below : quadsIndex c n group k < 4 * n
     unfolding quadsIndex
-    below = omega (arith, which-one, found .1, index-small c k in-k kept)
+    below = omega (arith, which-one, found .1, index-small c 0 k in-k kept)
 
     again : quadsPlace c group (quadsIndex c n group k) ≡ k
     unfolding quadsPlace quadsIndex
     again =
         let q = which group n (elementGroup c 0 k) in
         let r = quadIndex c 0 k in
-        let d : (4 * q + r) / 4 ≡ q = omega (arith, index-small c k in-k kept) in
-        let m : (4 * q + r) % 4 ≡ r = omega (arith, index-small c k in-k kept) in
+        let d : (4 * q + r) / 4 ≡ q = omega (arith, index-small c 0 k in-k kept) in
+        let m : (4 * q + r) % 4 ≡ r = omega (arith, index-small c 0 k in-k kept) in
         ap₂ (λ (x y : ℕ). quadPlace c 0 (group x) y) d m ∙ ap (λ (x : ℕ). quadPlace c 0 x r) (ap group which-one ∙ found .2) ∙ index-place c 0 k in-k kept
 
   pub quads-listed : Listed rule (carriers c) (4 * n) (quadsPlace c group) (quadsIndex c n group)
@@ -216,7 +250,7 @@ module _ (c : Cell) (n : ℕ) (group : ℕ → ℕ) (has : ℕ → Bool) (gs : G
       to : rule k ≡ true → InQuads c n group k
       to e =
           let f = found k in-k e in
-          (f .0, quadIndex c 0 k, f .1, index-small c k in-k (kept k in-k e), sym (ap (λ (g : ℕ). quadPlace c 0 g (quadIndex c 0 k)) (f .2) ∙ index-place c 0 k in-k (kept k in-k e)))
+          (f .0, quadIndex c 0 k, f .1, index-small c 0 k in-k (kept k in-k e), sym (ap (λ (g : ℕ). quadPlace c 0 g (quadIndex c 0 k)) (f .2) ∙ index-place c 0 k in-k (kept k in-k e)))
 
       from : InQuads c n group k → rule k ≡ true
       from (i, j, a, b, e) = rw (e, place-kept c (group i) (gs .small i a) j b, place-group c (group i) (gs .small i a) j b) (gs .has-group i a)

@@ -24,7 +24,7 @@ fn step(a: usize, b: usize, c: usize, d: usize, n: usize, t: usize) -> usize
     base::one_below(t, n + 1 + layout::formats_below(a, b, c, d, t))
 }
 
-// The group of quad i of PHICH unit m. Every accepted plan has 15 blocks or more, and 25 units at most.
+// The group of quad i of PHICH unit m. Every accepted plan has six blocks or more, and 25 units at most.
 pub fn unit_group(cell: Cell, m: usize, i: usize) -> usize
     requires { ⌜ (6 ≤ cell .blocks) × (m < 256) × (i < 3) ⌝ }
     ensures { λ r. ⌜ r ≡ quadGroup cell m i ⌝ }

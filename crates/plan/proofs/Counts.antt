@@ -1,4 +1,4 @@
--- For the crates above: how many HIs and USERs an accepted plan has at most. Assumes nothing.
+-- For the crates above: the ranges of an accepted cell, and how many HIs and USERs an accepted plan has at most. Assumes nothing.
 use Prim.Native.Nat.{ℕ, _+_, _*_, _≤_, _<_}
 use mathlib.Core.Path.{_≡_}
 use mathlib.Core.Bool.{Bool, true, false, cond}
@@ -24,8 +24,8 @@ use Rattle.plan.proofs.Valid.{valid}
 
 -- ---- ranges of a cell
 module _ (c : Cell) (h : CellIn c) where
-  pub blocks-least : 15 ≤ c .blocks
-  blocks-least = leb→le 15 (c .blocks) (among-holds (λ (n : ℕ). leb 15 n) widths (c .blocks) tt (h .blocks))
+  pub blocks-least : 6 ≤ c .blocks
+  blocks-least = leb→le 6 (c .blocks) (among-holds (λ (n : ℕ). leb 6 n) widths (c .blocks) tt (h .blocks))
 
   pub blocks-most : c .blocks ≤ 100
   blocks-most = leb→le (c .blocks) 100 (among-holds (λ (n : ℕ). leb n 100) widths (c .blocks) tt (h .blocks))
@@ -51,7 +51,7 @@ module _ (c : Cell) (h : CellIn c) where
   pub units-least : 1 ≤ mappingUnits c
   unfolding mappingUnits
   units-least =
-      let product : 1 * 15 ≤ c .sixths * c .blocks = mul-le-mul sixths-least blocks-least in
+      let product : 1 * 6 ≤ c .sixths * c .blocks = mul-le-mul sixths-least blocks-least in
       omega arith
 
   pub groups-most : phichGroups c ≤ 50

@@ -9,9 +9,9 @@ use Rattle.plan.specs.declared.Frame.{Frame}
 use Rattle.plan.specs.declared.Hi.{Hi}
 use Rattle.plan.specs.declared.User.{User}
 
--- "blocks N u8 (15, 25, 50, 75, 100)"
+-- "blocks N u8 (15, 25, 50, 75, 100)"; "N = 6 joins the widths" (document 02, #102)
 abbrev pub widths : List ℕ
-widths = 15 ∷ 25 ∷ 50 ∷ 75 ∷ 100 ∷ []
+widths = 6 ∷ 15 ∷ 25 ∷ 50 ∷ 75 ∷ 100 ∷ []
 
 -- "ports P u8 (1, 2, 4)"
 abbrev pub portCounts : List ℕ

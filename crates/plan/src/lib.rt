@@ -192,7 +192,7 @@ pub enum Explained {
 }
 
 // The values of a cell's blocks, ports and sixths, and of a user's order.
-const WIDTHS: [u8; 5] = [15, 25, 50, 75, 100];
+const WIDTHS: [u8; 6] = [6, 15, 25, 50, 75, 100];
 
 const PORT_COUNTS: [u8; 3] = [1, 2, 4];
 

@@ -162,7 +162,7 @@ fn field(name: &[u8], value: usize, allowed: &[u8]) {
 fn cell_field(cause: Cause, c: Cell) {
     match cause {
         Cause::Identity => field(b"identity", c.identity as usize, b"0 to 503"),
-        Cause::Blocks => field(b"blocks", c.blocks as usize, b"15, 25, 50, 75 or 100"),
+        Cause::Blocks => field(b"blocks", c.blocks as usize, b"6, 15, 25, 50, 75 or 100"),
         Cause::Prefix => field(b"prefix", c.prefix as usize, b"0 (normal) or 1 (extended)"),
         Cause::Ports => field(b"ports", c.ports as usize, b"1, 2 or 4"),
         _ => field(b"g", c.sixths as usize, b"1, 3, 6 or 12 sixths"),

@@ -26,7 +26,7 @@ use Rattle.plan.proofs.Listed.{and-left, and-right}
 use Rattle.layout.specs.Rules.{slotLength, standsAt, crsShift, middle}
 use Rattle.layout.specs.Owners.{symbols, carriers}
 use Rattle.layout.proofs.Pilot.{slot-length}
-use Rattle.counts.proofs.Ranges.{big}
+use Rattle.plan.proofs.Counts.{blocks-least}
 use Rattle.places.specs.Places.{symbolAt, carrierAt, placesOf}
 use Rattle.grid.specs.Writing.{Room}
 use Rattle.grid.proofs.Accumulating.{Deed, Step, Accumulates}
@@ -87,8 +87,8 @@ module _ (c : Cell) (s q a first : ℕ) (ok : CellIn c) (in-s : s < symbols c)
   small : a < 6
   small = let h : a < 6 = omega arith in h
 
-  wide : 15 ≤ c .blocks
-  wide = big (c .blocks) (ok .blocks) .0
+  wide : 6 ≤ c .blocks
+  wide = blocks-least c ok
 
   there : (e : ℕ) → everySixth first (2 * c .blocks) e ≡ true
       → (e / placesOf c ≡ q) × (symbolAt c (e % placesOf c) ≡ s) × (carrierAt c (e % placesOf c) ≡ a + (e - first)) × ((e - first) % 6 ≡ 0)
@@ -175,8 +175,8 @@ module _ {c : Cell} {s q : ℕ} (on : CellIn c × (s < symbols c) × (q < c .por
 
 -- ---- synchronisation signals
 module _ (c : Cell) (ok : CellIn c) (y first : ℕ) (in-y : (1 ≤ y) × (y ≤ 2)) (ef : first ≡ (slotLength c - y) * carriers c + (6 * c .blocks - 31)) where
-  mark-wide : 15 ≤ c .blocks
-  mark-wide = big (c .blocks) (ok .blocks) .0
+  mark-wide : 6 ≤ c .blocks
+  mark-wide = blocks-least c ok
 
   mark-there : (e : ℕ) → inRow first 62 e ≡ true
       → (e / placesOf c ≡ 0) × (symbolAt c (e % placesOf c) ≡ slotLength c - y) × (carrierAt c (e % placesOf c) ≡ 6 * c .blocks - 31 + (e - first))

@@ -19,7 +19,7 @@ use Rattle.layout.specs.Rules.{crsSymbol, crsShift, standsAt}
 use Rattle.layout.specs.Owners.{symbols, carriers}
 use Rattle.layout.proofs.Pilot.{not-both, slot-length}
 use Rattle.places.specs.Places.{symbolAt, carrierAt, placesOf}
-use Rattle.counts.proofs.Ranges.{big}
+use Rattle.plan.proofs.Counts.{blocks-least}
 use Rattle.grid.proofs.Accumulating.{Deed, Step, Accumulates}
 use Rattle.signals.specs.Signals.{portSends, signalled, crsPort, crsSends, crsSent}
 use Rattle.signals.specs.Rows.{SymbolIn, crsPlace, everySixth, pairSent, onFirst, onBoth}
@@ -131,7 +131,7 @@ module _ {c : Cell} {s : ℕ} {g : List ℕ} (ready : SymbolIn c s g) {q : ℕ} 
       apart =
           let two-rows : 1 * carriers c + carriers c ≤ placesOf c = row-inside 1 (symbols c) (carriers c) (carriers c) (omega (arith, slot-length c)) (omega arith) in
           let next : (q + 1) * placesOf c ≡ q * placesOf c + placesOf c = omega arith in
-          omega (arith, big (c .blocks) (ready .cell .blocks))
+          omega (arith, blocks-least c (ready .cell))
 
       pub both-inside : (first + 6 * (2 * N) ≤ second) × (3 * (second + 6 * (2 * N)) + 2 < length g + 18)
       both-inside = (apart, crs-inside (second-port n) es eN (ready .room))

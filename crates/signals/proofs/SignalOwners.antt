@@ -31,7 +31,7 @@ use Rattle.layout.specs.Rules.{slotLength, slotOf, inSlot, crsSymbol, crsShift,
 use Rattle.layout.specs.Owners.{fixedRule, owns}
 use Rattle.layout.specs.declared.Mark.the-variants.{Primary, Secondary}
 use Rattle.layout.specs.declared.Owner.the-variants.{Crs, Sync}
-use Rattle.counts.proofs.Ranges.{big}
+use Rattle.plan.proofs.Counts.{blocks-most}
 use Rattle.places.specs.Places.{symbolAt, carrierAt, placesOf}
 use Rattle.subframe.specs.Elements.{crsElement, pssElement, sssElement}
 use Rattle.signals.specs.Signals.{portSends, signalled, crsSends, crsFrom, crsSent, markSends, pssSent, sssSent}
@@ -92,7 +92,7 @@ module _ (w : List ℕ) (p : Plan) where
         rw (eq-eqb (e / placesOf (p .cell)) q (port-parts (p .cell) s e q h .0))
         (ap (elementOf 2)
         (value-from (p .cell .prefix) (p .cell .identity) (p .cell .blocks) (2 * p .frame .subframe + slotOf (p .cell) s) (inSlot (p .cell) s)
-        (carrierAt (p .cell) (e % placesOf (p .cell)) / 6) (omega (arith, big (p .cell .blocks) (valid w p ok .cell .blocks)))))
+        (carrierAt (p .cell) (e % placesOf (p .cell)) / 6) (omega (arith, blocks-most (p .cell) (valid w p ok .cell)))))
 
   -- and every place of the signal is sent on its port
   port-covers : (q e : ℕ) → owns w p (Crs q) (symbolAt (p .cell) (e % placesOf (p .cell))) (carrierAt (p .cell) (e % placesOf (p .cell))) ≡ true → e / placesOf (p .cell) ≡ q

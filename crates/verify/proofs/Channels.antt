@@ -154,7 +154,7 @@ module _ {w : List ℕ} {p : Plan} {g : List ℕ} where
   -- PBCH
   module _ (k : Planned w p g Pbch) where
     pub pbch-blocks : 6 ≤ p .cell .blocks
-    pbch-blocks = omega (arith, blocks-least (p .cell) (cell-in k))
+    pbch-blocks = blocks-least (p .cell) (cell-in k)
 
     zero-th : p .frame .subframe ≡ 0
     unfolding presentIn

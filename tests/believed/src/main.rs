@@ -20,10 +20,11 @@ const THEOREMS: [(&str, &str); 9] = [
     ("crates/read/proofs/Builds.antt", "built-back"),
 ];
 
-/// Laws that answer a sentence of document 01 of their own.
-const FURTHER: [(&str, &str); 11] = [
+/// Laws that answer a sentence of document 01, or of document 02, of their own.
+const FURTHER: [(&str, &str); 12] = [
     ("crates/known/proofs/Known.antt", "known-elements"),
     ("crates/known/proofs/Example.antt", "the-example"),
+    ("crates/known/proofs/SixBlocks.antt", "six-blocks"),
     ("crates/plan/proofs/Valid.antt", "valid"),
     ("crates/plan/proofs/Known.antt", "limits"),
     ("crates/phich/proofs/Units.antt", "exactly"),

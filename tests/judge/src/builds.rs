@@ -3,12 +3,12 @@
 use crate::build::build;
 use crate::generate::{
     allocations, example_input, example_variant_input, his, null_symbol_plan, payload_of_bits, Fixed, His,
-    Random, Users, ORDERS,
+    Random, Users, HIS, OF_SIX_BLOCKS, ORDERS,
 };
 use crate::harness::unhex;
 use crate::owners::layout;
 use crate::payload::Sections;
-use crate::plan::{check, grid_length, Refusal, END, USER};
+use crate::plan::{check, grid_length, Refusal, END, USER, WIDTHS};
 
 /// The bytes of a refused plan's grid; no plan wants so few.
 pub const REFUSED_PLAN_GRID: usize = 36;
@@ -106,6 +106,7 @@ pub fn calls() -> Vec<Call> {
     let mut calls = Vec::new();
     calls.extend(one_user(&mut random));
     calls.extend(several_users(&mut random));
+    calls.extend(six_blocks(&mut random));
     calls.extend(broadcast(&mut random));
     calls.extend(synchronisation());
     calls.extend(one_block_each(&mut random));
@@ -152,14 +153,13 @@ fn plan(fixed: &Fixed, his: Vec<Vec<u8>>, users: Vec<Vec<u8>>) -> Vec<u8> {
 /// Q of users one after another, round and round: every order stands before itself and before every other once.
 const TURN: [u8; 16] = [2, 2, 4, 2, 6, 2, 8, 4, 4, 6, 4, 8, 6, 6, 8, 8];
 
-const WIDTHS: [usize; 5] = [15, 25, 50, 75, 100];
 const PORTS: [usize; 3] = [1, 2, 4];
 const SIXTHS: [usize; 4] = [1, 3, 6, 12];
 
-/// Every N, prefix and P, thirty in all: the i-th. The other fields go round at other paces; `turn` moves them
+/// Every N, prefix and P, thirty-six in all: the i-th. The other fields go round at other paces; `turn` moves them
 /// on. Also the sum of the numbers of N and of prefix and P, a pace for what else a plan has.
 fn combination(i: usize, turn: usize, identity: usize, subframe: usize) -> (Fixed, usize) {
-    let (width, rest) = (i % 5, i / 5);
+    let (width, rest) = (i % 6, i / 6);
     let pace = width + rest;
     let fixed = Fixed {
         identity,
@@ -182,14 +182,14 @@ fn one_user(random: &mut Random) -> Vec<Call> {
         let his = his(random, &fixed.cell(), [His::One, His::None, His::Some, His::OneGroup][pace % 4]);
         // The highest order in the narrowest cells, QPSK in the wide ones, else the input gets long.
         let bits = match fixed.blocks {
-            15 => 8,
+            6 | 15 => 8,
             25 | 50 => ORDERS[pace % 3],
             _ => 2,
         };
         let users = users(random, &[(0, fixed.blocks)], |_| bits);
         accepted(random, plan(&fixed, his, users))
     };
-    (0..30).map(one).collect()
+    (0..36).map(one).collect()
 }
 
 /// Every N, prefix and P with users of every modulation that leave gaps, and all HIs or none.
@@ -202,7 +202,22 @@ fn several_users(random: &mut Random) -> Vec<Call> {
         let users = users(random, &list, |user| TURN[(user + 3 * i + 8) % 16]);
         accepted(random, plan(&fixed, his, users))
     };
-    (0..30).map(one).collect()
+    (0..36).map(one).collect()
+}
+
+/// Six blocks: every CFI, prefix and P in subframe 0, in subframe 5 and in another; from one user to one for each
+/// block.
+fn six_blocks(random: &mut Random) -> Vec<Call> {
+    let sorts = [Users::Whole, Users::Many, Users::OneBlockEach, Users::Edges, Users::One];
+    let one = |i: usize| {
+        // Every g with every prefix and P.
+        let fixed = Fixed { g: SIXTHS[(i % 3 + i / 18) % 4], ..Fixed::of_six_blocks(random, i) };
+        let his = his(random, &fixed.cell(), HIS[(i + i / 18) % 5]);
+        let list = allocations(random, 6, sorts[i % 5]);
+        let users = users(random, &list, |user| TURN[(user + 3 * i) % 16]);
+        accepted(random, plan(&fixed, his, users))
+    };
+    (0..OF_SIX_BLOCKS).map(one).collect()
 }
 
 /// Subframe 0: every prefix, P and F mod 4, with users of one block at the edges of the centre 72.
@@ -211,7 +226,7 @@ fn broadcast(random: &mut Random) -> Vec<Call> {
         let (quarter, rest) = (i % 4, i / 4);
         let fixed = Fixed {
             identity: (i * 131 + 3) % 504,
-            blocks: WIDTHS[(rest + 2 * quarter) % 5],
+            blocks: WIDTHS[(rest + 2 * quarter) % 6],
             prefix: rest % 2,
             ports: PORTS[rest / 2],
             g: 1,
@@ -248,7 +263,7 @@ fn synchronisation() -> Vec<Call> {
     [0, 89, 90, 176, 177, 260, 261, 341, 342, 503].iter().enumerate().map(one).collect()
 }
 
-/// As many users as there are blocks, in the narrowest cell and in the widest.
+/// As many users as there are blocks, in a narrow cell and in the widest.
 fn one_block_each(random: &mut Random) -> Vec<Call> {
     // N, prefix, P, C, f.
     let list =
@@ -304,7 +319,7 @@ fn equal_bits(random: &mut Random) -> Vec<Call> {
     for i in 0..8 {
         let fixed = Fixed {
             identity: 71 * i + 5,
-            blocks: WIDTHS[i % 2],
+            blocks: WIDTHS[i % 3],
             prefix: i % 2,
             ports: PORTS[(i / 2).min(2)],
             g: SIXTHS[3 - i % 4],
@@ -334,10 +349,16 @@ fn longest(random: &mut Random) -> Vec<Call> {
     [(0, 1), (1, 1), (0, 4)].into_iter().map(one).collect()
 }
 
+/// CELL, FRAME, END with the longest grid, and with the shortest, which has six blocks.
+const LONGEST_GRID: &str = "10 0000 64 00 04 01  11 0000 01 01  00";
+const SHORTEST_GRID: &str = "10 0000 06 01 01 01  11 0000 01 03  00";
+
 /// CELL, FRAME, END alone, and document 01's example for gridcount with its variant.
 fn alone() -> Vec<Call> {
     let mut calls = Vec::new();
-    for text in ["10 0000 0F 00 01 01  11 0000 01 01  00", "10 01F7 64 01 04 0C  11 03FF 08 03  00"] {
+    let texts =
+        ["10 0000 0F 00 01 01  11 0000 01 01  00", "10 01F7 64 01 04 0C  11 03FF 08 03  00", SHORTEST_GRID];
+    for text in texts {
         calls.push(call(unhex(text).expect("hexadecimal digits"), vec![]));
     }
     for input in [example_input(), example_variant_input()] {
@@ -359,8 +380,9 @@ fn refused_plans() -> Vec<Call> {
         "00",
         "10 0000 0F 00 01 01  11 0000 01 01  30 0001 02 00 01  20 0000  00",
         "10 0000 0F 00 01 01  11 0000 01 01  00 99",
-        // 3: C = 504.
+        // 3: C = 504, N = 7.
         "10 01F8 0F 00 01 01  11 0000 01 01  00",
+        "10 0000 07 00 01 01  11 0000 01 01  00",
         // 4: f = 10.
         "10 0000 0F 00 01 01  11 0000 0A 01  00",
         // 5: a group beyond the count, a pair used before.
@@ -419,10 +441,12 @@ fn refused_buffers(random: &mut Random) -> Vec<Call> {
     calls.push(with(Lent::AsWanted, long.clone()));
     calls.push(with(Lent::OneMore, set));
     calls.push(with(Lent::OneLess, long));
-    // The longest grid, and one byte more than that.
-    let widest = unhex("10 0000 64 00 04 01  11 0000 01 01  00").expect("hexadecimal digits");
-    calls.push(Call { lent: Lent::OneMore, plan: widest.clone(), payload: vec![] });
-    calls.push(call(widest, vec![0]));
+    // The longest grid, and one byte more than that; the shortest, and one byte less.
+    for (lent, text) in [(Lent::OneMore, LONGEST_GRID), (Lent::OneLess, SHORTEST_GRID)] {
+        let plan = unhex(text).expect("hexadecimal digits");
+        calls.push(Call { lent, plan: plan.clone(), payload: vec![] });
+        calls.push(call(plan, vec![0]));
+    }
     calls
 }
 

@@ -2,7 +2,8 @@
 
 use crate::owners::layout;
 use crate::payload::Sections;
-use crate::plan::{check, operand_bytes, Cell, CELL, END, FRAME, HI, USER};
+use crate::plan::{check, operand_bytes, Cell, CELL, END, FRAME, HI, USER, WIDTHS};
+use std::ops::Range;
 
 /// Numbers from a seed (the SplitMix64 generator).
 #[derive(Clone, Debug)]
@@ -57,7 +58,10 @@ impl Random {
 }
 
 /// The combinations of N, prefix, P, g, f and CFI.
-pub const COMBINATIONS: usize = 5 * 2 * 3 * 4 * 10 * 3;
+pub const COMBINATIONS: usize = 6 * 2 * 3 * 4 * 10 * 3;
+
+/// Six blocks with every CFI, prefix and P in subframe 0, in subframe 5 and in another.
+pub const OF_SIX_BLOCKS: usize = 3 * 2 * 3 * 3;
 
 /// A plan's CELL and FRAME values.
 #[derive(Clone, Copy, Debug)]
@@ -83,7 +87,7 @@ impl Fixed {
         };
         Fixed {
             identity,
-            blocks: [15, 25, 50, 75, 100][digit(5)],
+            blocks: WIDTHS[digit(6)],
             prefix: digit(2),
             ports: [1, 2, 4][digit(3)],
             g: [1, 3, 6, 12][digit(4)],
@@ -110,6 +114,18 @@ impl Fixed {
             _ => {}
         }
         fixed
+    }
+
+    /// Number i of those with six blocks; the other fields are random.
+    pub fn of_six_blocks(random: &mut Random, i: usize) -> Fixed {
+        Fixed {
+            blocks: 6,
+            prefix: i / 3 % 2,
+            ports: [1, 2, 4][i / 6 % 3],
+            subframe: [0, 5, random.pick(&[1, 2, 3, 4, 6, 7, 8, 9])][i / 18 % 3],
+            cfi: 1 + i % 3,
+            ..Fixed::random(random)
+        }
     }
 
     pub fn cell(&self) -> Cell {
@@ -187,6 +203,8 @@ pub const USERS: [Users; 7] =
 pub fn allocations(random: &mut Random, blocks: usize, how: Users) -> Vec<(usize, usize)> {
     let centre = Cell { identity: 0, blocks, extended: false, ports: 1, g: 1 }.centre();
     let (low, high) = (centre.start / 12, (centre.end - 1) / 12);
+    // With six blocks the centre 72 is the whole width.
+    let beside: Vec<usize> = (0..blocks).filter(|block| block + 1 == low || *block == high + 1).collect();
     match how {
         Users::None => vec![],
         Users::Whole => vec![(0, blocks)],
@@ -194,11 +212,15 @@ pub fn allocations(random: &mut Random, blocks: usize, how: Users) -> Vec<(usize
             let first = random.below(blocks);
             vec![(first, 1 + random.below(blocks - first))]
         }
-        Users::Edge => vec![(random.pick(&[low - 1, low, low + 1, high - 1, high, high + 1]), 1)],
+        Users::Edge => {
+            let at_edges = [vec![low, low + 1, high - 1, high], beside].concat();
+            vec![(random.pick(&at_edges), 1)]
+        }
         Users::Edges => {
-            let mut list = vec![(low - 1, 1), (low, 1), (low + 1, high - low - 1), (high, 1), (high + 1, 1)];
+            let mut list = vec![(low, 1), (low + 1, high - low - 1), (high, 1)];
+            list.extend(beside.into_iter().map(|block| (block, 1)));
             random.shuffle(&mut list);
-            list.truncate(1 + random.below(5));
+            list.truncate(1 + random.below(list.len()));
             list
         }
         Users::Many => {
@@ -385,7 +407,9 @@ fn limit(random: &mut Random, list: &[Vec<u8>], command: &[u8], field: usize) ->
     }
     let values: Vec<u16> = match (command[0], field) {
         (CELL, 0) => vec![0, 255, 256, 502, 503, 504, 505, 511, 512, 1007, 65535],
-        (CELL, 1) => vec![0, 6, 14, 15, 16, 24, 25, 26, 49, 50, 51, 74, 75, 76, 99, 100, 101, 110, 255],
+        // Next to the cell's own width all else stays right.
+        (CELL, 1) if random.one_in(2) => vec![blocks.wrapping_sub(1), blocks + 1],
+        (CELL, 1) => vec![0, 5, 6, 7, 14, 15, 16, 24, 25, 26, 49, 50, 51, 74, 75, 76, 99, 100, 101, 110, 255],
         (CELL, 2) => vec![0, 1, 2, 128, 255],
         (CELL, 3) => vec![0, 1, 2, 3, 4, 5, 8, 255],
         (CELL, 4) => vec![0, 1, 2, 3, 4, 5, 6, 7, 11, 12, 13, 255],
@@ -508,7 +532,7 @@ pub fn damage(random: &mut Random, list: &[Vec<u8>]) -> Vec<u8> {
                 again[4] = again[4].wrapping_add(random.below(usize::from(again[5]).max(1)) as u8);
                 again[5] = 1;
             } else {
-                again[4] = random.below(15) as u8;
+                again[4] = random.below(6) as u8;
                 again[5] = 1;
             }
             list.insert(places[places.len() - 1] + 1, again);
@@ -640,12 +664,27 @@ fn longest(beginning: &[u8]) -> Vec<u8> {
     input(&plan, &[])
 }
 
+/// Plan and payload of a cell and frame, with HIs and users of any sort.
+fn accepted_input(random: &mut Random, fixed: &Fixed) -> Vec<u8> {
+    let (how_his, how_users) = (random.pick(&HIS), random.pick(&USERS));
+    let plan = commands(random, fixed, how_his, how_users).concat();
+    let payload = right_payload(random, &plan).expect("an accepted plan");
+    input(&plan, &payload)
+}
+
+/// The cases of six blocks, behind those that every run starts with.
+pub const SIX_BLOCKS_CASES: Range<u64> = 12..12 + OF_SIX_BLOCKS as u64;
+
 /// gridcount input number `case` of a seed.
 pub fn gridcount_case(seed: u64, case: u64) -> Vec<u8> {
     if let Some(first) = first_input(case) {
         return first;
     }
     let mut random = Random::of_case(seed, case);
+    if SIX_BLOCKS_CASES.contains(&case) {
+        let fixed = Fixed::of_six_blocks(&mut random, (case - SIX_BLOCKS_CASES.start) as usize);
+        return accepted_input(&mut random, &fixed);
+    }
     match random.below(100) {
         // Accepted: every combination of the fixed fields comes in its turn.
         0..=34 => {
@@ -654,10 +693,7 @@ pub fn gridcount_case(seed: u64, case: u64) -> Vec<u8> {
             if random.one_in(2) {
                 fixed = Fixed::combination(at, fixed.identity, fixed.frame);
             }
-            let (how_his, how_users) = (random.pick(&HIS), random.pick(&USERS));
-            let plan = commands(&mut random, &fixed, how_his, how_users).concat();
-            let payload = right_payload(&mut random, &plan).expect("an accepted plan");
-            input(&plan, &payload)
+            accepted_input(&mut random, &fixed)
         }
         35..=39 => {
             let plan = any_plan(&mut random);

@@ -169,11 +169,12 @@ pub fn layout(plan: &Plan) -> Layout {
         layout.claim_all(&layout.phich[unit].clone(), Owner::Phich(unit));
     }
 
-    // USER: "its blocks, symbols s ≥ CFI, not owned above; k first, then s".
+    // USER: "its blocks, symbols s ≥ CFI, not owned above; k first, then s"; the control region is "CFI + 1 symbols"
+    // where N = 6.
     let above = layout.map.clone();
     for (number, user) in plan.users.iter().enumerate() {
         let mut own = Vec::new();
-        for s in frame.cfi..cell.symbols() {
+        for s in plan.control_symbols()..cell.symbols() {
             for k in 12 * user.first..12 * (user.first + user.count) {
                 let place = Place { s, k };
                 if above[layout.index(place)].is_none() {

@@ -17,6 +17,9 @@ pub const PAYLOAD_LENGTH: Refusal = 11;
 pub const SPARE_BIT: Refusal = 12;
 pub const NO_PAYLOAD: Refusal = 13;
 
+/// N; "N = 6 joins the widths" by document 02, #102.
+pub const WIDTHS: [usize; 6] = [6, 15, 25, 50, 75, 100];
+
 pub const CELL: u8 = 0x10;
 pub const FRAME: u8 = 0x11;
 pub const HI: u8 = 0x20;
@@ -144,11 +147,23 @@ impl Cell {
     }
 }
 
+impl Plan {
+    /// The symbols of the control region: document 02, #102, "N = 6 joins the widths, and there the control region is
+    /// CFI + 1 symbols; at other widths it is CFI".
+    pub fn control_symbols(&self) -> usize {
+        if self.cell.blocks == 6 {
+            self.frame.cfi + 1
+        } else {
+            self.frame.cfi
+        }
+    }
+}
+
 fn cell(operand: &[u8]) -> Result<Cell, Refusal> {
     let identity = 256 * operand[0] as usize + operand[1] as usize;
     let [blocks, prefix, ports, g] = [operand[2], operand[3], operand[4], operand[5]].map(usize::from);
     let right = identity <= 503
-        && [15, 25, 50, 75, 100].contains(&blocks)
+        && WIDTHS.contains(&blocks)
         && [0, 1].contains(&prefix)
         && [1, 2, 4].contains(&ports)
         && [1, 3, 6, 12].contains(&g);

@@ -1,8 +1,8 @@
 //! Plans for the test program plan_vectors: what it reads, and what it must print.
 
-use crate::generate::{any_plan, damaged_plan, Fixed, Random};
+use crate::generate::{any_plan, damaged_plan, Fixed, Random, OF_SIX_BLOCKS};
 use crate::harness::unhex;
-use crate::plan::{check, Plan, Refusal, CELL, END, HI, USER};
+use crate::plan::{check, Plan, Refusal, CELL, END, HI, USER, WIDTHS};
 
 /// The program's input: of each plan its length in four bytes, big-endian, and the plan.
 pub fn input(plans: &[Vec<u8>]) -> Vec<u8> {
@@ -50,6 +50,7 @@ pub fn plans() -> Vec<Vec<u8>> {
     plans.extend(sequences(3));
     plans.extend(command_bytes());
     plans.extend(cuts());
+    plans.extend(six_blocks(&mut random));
     plans.extend((0..200).map(|_| any_plan(&mut random)));
     plans.extend((0..600).map(|_| damaged_plan(&mut random)));
     plans
@@ -57,7 +58,7 @@ pub fn plans() -> Vec<Vec<u8>> {
 
 /// Plans as text, each with its refusal's number as worked out by hand from documents 01 and 02 (0: accepted), and
 /// why; a test holds `check` to these numbers. CELL and FRAME stand for the simplest ones.
-pub const LISTED: [(Refusal, &str, &str); 109] = [
+pub const LISTED: [(Refusal, &str, &str); 116] = [
     // Plans that are accepted.
     (0, "CELL FRAME  20 00 00  30 0001 02 00 0F  00", "the paper's example for gridcount"),
     (0, "CELL FRAME  00", "\"any HIs, any USERs\": there may be none"),
@@ -90,6 +91,12 @@ pub const LISTED: [(Refusal, &str, &str); 109] = [
         0,
         "CELL  11 0001 05 03  30 2030 02 0E 01  30 1011 02 00 01  00",
         "CFI 3 and subframe 5; an RNTI whose bytes are those of commands",
+    ),
+    (0, "10 0000 06 00 01 01  FRAME  30 0001 02 00 06  00", "\"N = 6 joins the widths\"; first + count = N"),
+    (
+        0,
+        "10 01F7 06 01 04 0C  11 03FF 09 03  20 03 03  30 FFFF 08 05 01  00",
+        "six blocks and every other field at its upper end; extended: 2 ceil(72 / 48) = 4 groups",
     ),
     // Refusal 1: an unknown command, or the plan ends before its operands or before END.
     (1, "", "the empty plan ends before END"),
@@ -146,7 +153,8 @@ pub const LISTED: [(Refusal, &str, &str); 109] = [
     (3, "10 01F8 0F 00 01 01", "identity 504 and nothing more: the missing END is further right"),
     (3, "10 FFFF 0F 00 01 01  FRAME  00", "identity 65535"),
     (3, "10 0000 00 00 01 01  FRAME  00", "no width of 0 blocks"),
-    (3, "10 0000 06 00 01 01  FRAME  00", "no width of 6 blocks in this paper"),
+    (3, "10 0000 05 00 01 01  FRAME  00", "no width of 5 blocks"),
+    (3, "10 0000 07 00 01 01  FRAME  00", "no width of 7 blocks"),
     (3, "10 0000 10 00 01 01  FRAME  00", "no width of 16 blocks"),
     (3, "10 0000 65 00 01 01  FRAME  00", "no width of 101 blocks"),
     (3, "10 0000 0F 02 01 01  FRAME  00", "prefix 2"),
@@ -163,6 +171,7 @@ pub const LISTED: [(Refusal, &str, &str); 109] = [
     (4, "CELL  11 0000 0A 01  00", "subframe 10"),
     (4, "CELL  11 0000 01 00  00", "CFI 0"),
     (4, "CELL  11 0000 01 04", "CFI 4, and nothing more"),
+    (4, "10 0000 06 00 01 01  11 0000 01 04  00", "six blocks: four control symbols are those of CFI 3"),
     // Refusal 5: an HI group or sequence beyond the count, or a pair used before.
     (5, "CELL FRAME  20 01 00  00", "one group: group 1 is beyond it"),
     (5, "CELL FRAME  20 00 08  00", "sequence 8"),
@@ -171,6 +180,8 @@ pub const LISTED: [(Refusal, &str, &str); 109] = [
     (5, "10 0000 64 00 02 0C  FRAME  20 19 00  00", "25 groups, group 25"),
     (5, "10 0000 64 01 02 0C  FRAME  20 32 00  00", "extended: 50 groups, group 50"),
     (5, "10 0000 64 00 02 0C  FRAME  20 FF FF  00", "group and sequence 255"),
+    (5, "10 0000 06 00 01 06  FRAME  20 01 00  00", "N 6, g 6: ceil(36 / 48) = 1 group, group 1"),
+    (5, "10 0000 06 00 01 0C  FRAME  20 02 00  00", "N 6, g 12: ceil(72 / 48) = 2 groups, group 2"),
     (5, "CELL FRAME  20 00 03  20 00 03  00", "a pair twice"),
     (
         5,
@@ -190,6 +201,7 @@ pub const LISTED: [(Refusal, &str, &str); 109] = [
     (6, "CELL FRAME  30 0001 02 00 00  00", "count 0"),
     (6, "CELL FRAME  30 0001 02 01 0F  00", "first + count = 16 = N + 1"),
     (6, "CELL FRAME  30 0001 02 0F 01  00", "first = N, count 1"),
+    (6, "10 0000 06 00 01 01  FRAME  30 0001 02 00 07  00", "first + count = 7 = N + 1"),
     (6, "10 0000 64 00 02 0C  FRAME  30 0001 02 63 02  00", "first + count = 101 = N + 1"),
     (6, "10 0000 64 00 02 0C  FRAME  30 0001 02 FF FF  00", "255 + 255 is a sum of whole numbers"),
     (6, "10 0000 64 00 02 0C  FRAME  30 0001 02 FF 01  00", "255 + 1 does not wrap to 0"),
@@ -270,10 +282,10 @@ fn hi(group: usize, sequence: usize) -> Vec<u8> {
 /// HIs, with the last one again and without.
 fn acknowledgements() -> Vec<Vec<u8>> {
     let mut plans = Vec::new();
-    for i in 0..40 {
-        let (blocks, g) = ([15, 25, 50, 75, 100][i % 5], [1, 3, 6, 12][i / 10]);
+    for i in 0..48 {
+        let (blocks, g) = (WIDTHS[i % 6], [1, 3, 6, 12][i / 12]);
         let fixed =
-            Fixed { identity: i, blocks, prefix: i / 5 % 2, ports: 1, g, frame: 0, subframe: 1, cfi: 1 };
+            Fixed { identity: i, blocks, prefix: i / 6 % 2, ports: 1, g, frame: 0, subframe: 1, cfi: 1 };
         let cell = fixed.cell();
         let (groups, last) = (cell.phich_groups(), cell.phich_sequences() - 1);
         let mut all: Vec<Vec<u8>> = (0..groups).flat_map(|g| (0..=last).map(move |s| hi(g, s))).collect();
@@ -284,7 +296,7 @@ fn acknowledgements() -> Vec<Vec<u8>> {
             vec![hi(0, 1), hi(0, 0), hi(0, 1)],
             vec![hi(255, 255)],
         ];
-        if blocks == 15 || g == 12 {
+        if blocks <= 15 || g == 12 {
             lists.push(all.clone());
             all.push(hi(groups - 1, last));
             lists.push(all);
@@ -306,7 +318,7 @@ fn user_fields() -> Vec<Vec<u8>> {
     for rnti in WORDS {
         plans.push(after_frame(&[user(rnti, 2, 0, 1), vec![END]]));
     }
-    for (i, n) in [15, 25, 50, 75, 100].into_iter().enumerate() {
+    for (i, n) in WIDTHS.into_iter().enumerate() {
         let fixed =
             Fixed { identity: i, blocks: n, prefix: 0, ports: 2, g: 1, frame: 0, subframe: 1, cfi: 1 };
         let blocks = [
@@ -383,6 +395,15 @@ fn command_bytes() -> Vec<Vec<u8>> {
         }
     }
     plans
+}
+
+/// Six blocks with every CFI, prefix and P in subframes 0, 5 and another, and a user of all blocks.
+fn six_blocks(random: &mut Random) -> Vec<Vec<u8>> {
+    let one = |i: usize| {
+        let fixed = Fixed::of_six_blocks(random, i);
+        [fixed.commands().concat(), user(1, 2, 0, 6), vec![END]].concat()
+    };
+    (0..OF_SIX_BLOCKS).map(one).collect()
 }
 
 /// A plan of all commands cut off after every byte, and whole.

@@ -34,7 +34,10 @@ const UNIT_BYTES: [u8; 11] = [0, 1, 2, 4, 10, 20, 42, 63, 84, 170, 255];
 
 /// What byte `at` of a grid is changed to in a sweep: 0, one more, one less, and another unit or the opposite level.
 fn sweep_values(at: usize, byte: u8) -> [u8; 4] {
-    let next = UNIT_BYTES.iter().position(|unit| *unit == byte).map_or(0, |i| UNIT_BYTES[(i + 1) % UNIT_BYTES.len()]);
+    let next = UNIT_BYTES
+        .iter()
+        .position(|unit| *unit == byte)
+        .map_or(0, |i| UNIT_BYTES[(i + 1) % UNIT_BYTES.len()]);
     let other = if at % 3 == 0 { next } else { byte.wrapping_neg() };
     [0, byte.wrapping_add(1), byte.wrapping_sub(1), other]
 }
@@ -289,7 +292,8 @@ impl Example {
     }
 }
 
-/// Grids of examples with one, two and four ports, changed where it must be seen.
+/// Grids of examples with one, two and four ports, changed where it must be seen; the last two have six blocks, and
+/// their last idle place in the control symbol that the CFI does not count.
 fn damaged() -> Vec<Test> {
     let texts = [
         "10 0007 0F 00 01 01  11 0001 00 02  20 0000 20 0005 \
@@ -298,6 +302,10 @@ fn damaged() -> Vec<Test> {
          30 0011 08 00 04  30 0022 06 04 03  30 0033 02 07 02  30 0044 04 0A 04  00",
         "10 01F7 19 00 04 03  11 0002 00 03  20 0000 20 0007 \
          30 0011 04 02 05  30 0022 08 07 04  30 0033 06 0B 05  30 0044 02 11 05  00",
+        "10 0059 06 00 01 0C  11 0006 00 03  20 0000 20 0107 \
+         30 0011 02 00 02  30 0022 04 02 01  30 0033 06 03 01  30 0044 08 04 02  00",
+        "10 01A6 06 01 04 0C  11 0005 00 02  20 0000 20 0303 \
+         30 0011 06 00 02  30 0022 02 02 01  30 0033 08 03 01  30 0044 04 04 02  00",
     ];
     texts.iter().zip(1..).map(|(text, seed)| Example::new(text, seed).test()).collect()
 }
@@ -317,14 +325,16 @@ fn refused_lengths() -> Vec<Test> {
     tests
 }
 
-/// Every byte of two small grids, of one port and of two, with PBCH, HIs and users of each modulation; the second has two
-/// users of one order one after the other.
+/// Every byte of small grids, of one port and of two, with PBCH, HIs and users of each modulation; the second has two
+/// users of one order one after the other, the third has six blocks.
 fn sweeps() -> Vec<Test> {
     let texts = [
         "10 0014 0F 01 01 01  11 0001 00 02  20 0000 20 0102 \
          30 0101 02 00 02  30 0202 08 02 03  30 0303 04 05 02  30 0404 06 09 03  00",
         "10 00C9 0F 01 02 01  11 0002 00 01  20 0001 20 0003 \
          30 0101 06 00 02  30 0202 08 02 02  30 0303 08 04 02  30 0404 02 09 03  30 0505 04 0C 02  00",
+        "10 00AF 06 01 01 0C  11 0003 00 02  20 0000 20 0303 \
+         30 0101 04 00 01  30 0202 06 01 02  30 0303 02 03 01  30 0404 08 05 01  00",
     ];
     let sweep = |(text, seed): (&&str, u64)| {
         let example = Example::new(text, seed);

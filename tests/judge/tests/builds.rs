@@ -53,17 +53,19 @@ fn pairs<A: Copy + Ord, B: Copy + Ord>(a: &[A], b: &[B]) -> BTreeSet<(A, B)> {
     a.iter().flat_map(|a| b.iter().map(move |b| (*a, *b))).collect()
 }
 
-const WIDTHS: [usize; 5] = [15, 25, 50, 75, 100];
+const WIDTHS: [usize; 6] = [6, 15, 25, 50, 75, 100];
 const KINDS: [(bool, usize); 6] = [(false, 1), (false, 2), (false, 4), (true, 1), (true, 2), (true, 4)];
 
 #[test]
 fn how_many() {
     let (accepted, refused) = (accepted(), refused());
-    assert_eq!((accepted.len(), refused.len()), (130, 34));
-    assert!(input(&calls()).len() < 300_000);
+    assert_eq!((accepted.len(), refused.len()), (197, 37));
+    // The program's buffer.
+    assert!(input(&calls()).len() < 400_000);
     assert!(accepted.iter().all(|a| a.call.lent == Lent::AsWanted));
     assert!(calls().iter().all(|call| call.grid_length() <= 201_601));
     assert!(calls().iter().any(|call| call.grid_length() == 201_601));
+    assert!(calls().iter().any(|call| call.grid_length() == 2591));
 }
 
 #[test]
@@ -93,6 +95,32 @@ fn every_field() {
     // PBCH: the four quarters of its scrambling.
     let quarter = |a: &Accepted| (a.plan.frame.subframe == 0).then(|| (a.plan.frame.frame % 4, a.kind()));
     assert_eq!(set(&list, quarter), pairs(&[0, 1, 2, 3], &KINDS));
+}
+
+/// Six blocks: every CFI, prefix and P in subframes 0, 5 and another; every order, and HIs, with every prefix and P;
+/// identities of every residue that a rule goes by, 6 of the reference signals, 12 groups of symbol 0, 8 of them left.
+#[test]
+fn six_blocks() {
+    let list = accepted();
+    let six = |a: &Accepted| (a.plan.cell.blocks == 6).then_some(a.plan.frame);
+    let sort = |subframe: usize| [0, 5].iter().position(|f| *f == subframe).unwrap_or(2);
+    let regions = set(&list, |a| six(a).map(|frame| (frame.cfi, (sort(frame.subframe), a.kind()))));
+    assert_eq!(regions, pairs(&[1, 2, 3], &Vec::from_iter(pairs(&[0, 1, 2], &KINDS))));
+    for bits in [2, 4, 6, 8] {
+        let has = |a: &Accepted| a.plan.users.iter().any(|user| user.bits == bits);
+        assert_eq!(
+            set(&list, |a| six(a).filter(|_| has(a)).map(|_| a.kind())),
+            BTreeSet::from(KINDS),
+            "{bits} bits"
+        );
+    }
+    assert_eq!(set(&list, |a| six(a).map(|_| (a.plan.cell.g, a.kind()))), pairs(&[1, 3, 6, 12], &KINDS));
+    let his = |a: &Accepted| six(a).filter(|_| !a.plan.his.is_empty()).map(|_| a.kind());
+    assert_eq!(set(&list, his), BTreeSet::from(KINDS));
+    for residues in [6, 8, 12] {
+        let residue = |a: &Accepted| six(a).map(|_| a.plan.cell.identity % residues);
+        assert_eq!(set(&list, residue), (0..residues).collect(), "residues of {residues}");
+    }
 }
 
 #[test]
@@ -141,7 +169,7 @@ fn users() {
     assert_eq!(list.iter().map(|a| a.sections.length).max(), Some(13 * 1200 - 3 * 200 + 200 / 8));
     let each =
         |blocks: usize| move |a: &Accepted| a.plan.users.len() == blocks && a.plan.cell.blocks == blocks;
-    assert!(list.iter().any(each(15)) && list.iter().any(each(100)));
+    assert!([6, 15, 100].iter().all(|blocks| list.iter().any(each(*blocks))));
     assert!(list
         .iter()
         .any(|a| a.plan.users.is_empty() && a.plan.his.is_empty() && a.call.payload.is_empty()));
@@ -280,8 +308,8 @@ fn the_output() {
     }
     assert_eq!(text.lines().count(), calls().len());
     // CELL FRAME END alone; the first refused plan.
-    assert!(text.lines().any(|line| line.starts_with("127 0 ")));
-    assert!(text.lines().any(|line| line == "131 refused 1 3106694912 2866538346"));
+    assert!(text.lines().any(|line| line.starts_with("193 0 ")));
+    assert!(text.lines().any(|line| line == "198 refused 1 3106694912 2866538346"));
 }
 
 #[test]

@@ -273,7 +273,7 @@ fn references_by_formula() {
         }
     }
     // The symbols of ports 0 and 1 with the extended prefix: l = 0 and 3.
-    let cell = Fixed::combination(5, 0, 0).cell();
+    let cell = Fixed::combination(6, 0, 0).cell();
     assert!(cell.extended);
     let frame = judge::plan::Frame { frame: 0, subframe: 0, cfi: 1 };
     let symbols: Vec<usize> = crs::symbols_of_port(&cell, &frame, 0).iter().map(|symbol| symbol.s).collect();

@@ -1,8 +1,9 @@
 //! The harness itself: what it generates, and that it notices differences.
 
-use judge::generate::{gridcount_case, COMBINATIONS};
-use judge::gridcount;
+use judge::generate::{gridcount_case, COMBINATIONS, SIX_BLOCKS_CASES};
 use judge::harness::{hex, run, unhex, Tally};
+use judge::{check, gridcount};
+use std::collections::BTreeSet;
 use std::io::Write;
 use std::process::Command;
 
@@ -21,7 +22,7 @@ fn the_default_run_has_every_answer() {
 #[test]
 fn cases_stand_alone() {
     for seed in [0, 1, u64::MAX] {
-        for case in [0, 5, 12, 13, 400, 100_000] {
+        for case in [0, 5, 12, 65, 66, 400, 100_000] {
             assert_eq!(gridcount_case(seed, case), gridcount_case(seed, case));
         }
     }
@@ -38,7 +39,22 @@ fn special_inputs_come() {
     let declared = |input: &Vec<u8>| input.len() >= 2 && input[..2] == [0xFF, 0xFF];
     assert!(inputs.iter().any(|input| declared(input) && input.len() == 65537));
     assert!(inputs.iter().any(|input| declared(input) && input.len() < 65537));
-    assert_eq!(COMBINATIONS, 3600);
+    assert_eq!(COMBINATIONS, 4320);
+}
+
+/// Every run has six blocks with every CFI, prefix and P in subframes 0, 5 and another.
+#[test]
+fn six_blocks_come() {
+    let mut seen = BTreeSet::new();
+    for case in SIX_BLOCKS_CASES {
+        let input = gridcount_case(1, case);
+        assert!(gridcount(&input).starts_with("CRS"));
+        let plan = check(&input[2..][..usize::from(input[1])]).expect("an accepted plan");
+        assert_eq!(plan.cell.blocks, 6);
+        let sort = [0, 5].iter().position(|f| *f == plan.frame.subframe).unwrap_or(2);
+        seen.insert((plan.cell.extended, plan.cell.ports, plan.frame.cfi, sort));
+    }
+    assert_eq!(seen.len(), 2 * 3 * 3 * 3);
 }
 
 #[test]

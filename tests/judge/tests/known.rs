@@ -3,12 +3,13 @@
 use judge::control::{
     cfi_bits, pcfich_groups, pcfich_places, phich_places, phich_unit_groups, places_of_group,
 };
-use judge::generate::{example_input, example_variant_input};
+use judge::generate::{example_input, example_variant_input, input};
 use judge::modulation::{map_symbol, table, unmap_symbol};
 use judge::plan::{Cell, Frame};
 use judge::sequence::sequence;
 use judge::sync::{pss, sss, SSS_PAIRS};
-use judge::{gridcount, Complex, Place};
+use judge::{build, gridcount, Complex, Place};
+use std::collections::BTreeSet;
 
 fn cell(identity: usize, blocks: usize) -> Cell {
     Cell { identity, blocks, extended: false, ports: 1, g: 1 }
@@ -163,6 +164,43 @@ fn control_groups_at_fifteen_blocks() {
 }
 
 #[test]
+fn control_groups_at_six_blocks() {
+    // Twelve groups: PCFICH has every third.
+    assert_eq!(pcfich_groups(&cell(0, 6)), [0, 3, 6, 9]);
+    assert_eq!(pcfich_groups(&cell(503, 6)), [11, 2, 5, 8]);
+    // h = 8, floor(ih/3) = 0, 2, 5. C = 0: of 1, 2, 4, 5, 7, 8, 10, 11 unit 0 has numbers 0, 2, 5, unit 1 has 1, 3, 6.
+    let two_units = |identity: usize| Cell { g: 12, ..cell(identity, 6) };
+    assert_eq!(two_units(0).phich_units(), 2);
+    assert_eq!([0, 1].map(|unit| phich_unit_groups(&two_units(0), unit)), [[1, 4, 8], [2, 5, 10]]);
+    // C = 503: 503 mod 8 = 7, so numbers 7, 1, 4 and 0, 2, 5 of 0, 1, 3, 4, 6, 7, 9, 10.
+    assert_eq!([0, 1].map(|unit| phich_unit_groups(&two_units(503), unit)), [[10, 1, 6], [0, 3, 7]]);
+    // Two groups stay idle whatever C is.
+    for identity in 0..504 {
+        let phich = [0, 1].map(|unit| phich_unit_groups(&two_units(identity), unit)).concat();
+        let taken: BTreeSet<usize> = phich.into_iter().chain(pcfich_groups(&two_units(identity))).collect();
+        assert_eq!(taken.len(), 10);
+    }
+    for g in [1, 3, 6] {
+        assert_eq!(Cell { g, ..cell(0, 6) }.phich_units(), 1);
+    }
+}
+
+/// At six blocks "the control region is CFI + 1 symbols": PCFICH's codeword is that of the CFI.
+#[test]
+fn pcfich_of_six_blocks_sends_the_cfi() {
+    for (cfi, word) in [(1, [0, 1, 1]), (2, [1, 0, 1]), (3, [1, 1, 0])] {
+        let plan = [0x10, 0, 5, 6, 0, 1, 1, 0x11, 0, 0, 9, cfi, 0];
+        let (grid, _) = build(&plan, &[], 36 * 6 * 14).expect("built");
+        let c = sequence(10 * 11 * 512 + 5, 32);
+        for (i, place) in pcfich_places(&cell(5, 6)).iter().enumerate() {
+            let sign = |bit: usize| 1 - 2 * (word[bit % 3] ^ c[bit]) as i8;
+            let sent = [2, sign(2 * i) as u8, sign(2 * i + 1) as u8];
+            assert_eq!(grid[3 * place.k..][..3], sent, "CFI {cfi}, symbol {i}");
+        }
+    }
+}
+
+#[test]
 fn gridcount_tables() {
     assert_eq!(example_input().len(), 2 + 22 + 564);
     assert_eq!(
@@ -172,5 +210,12 @@ fn gridcount_tables() {
     assert_eq!(
         gridcount(&example_variant_input()),
         "CRS 120\nPSS 62\nSSS 62\nPBCH 240\nPCFICH 16\nPHICH 12\nPDSCH 1830\nheld 56\nidle 122\n"
+    );
+    // Six blocks, by hand: symbols 0 and 1 are control, 32 and 72 places of them idle; 12 symbols are the user's, less
+    // 6 references in a block.
+    let plan = [0x10, 0, 0, 6, 0, 1, 1, 0x11, 0, 0, 1, 1, 0x20, 0, 0, 0x30, 0, 1, 2, 0, 6, 0];
+    assert_eq!(
+        gridcount(&input(&plan, &[0; 1 + 828 / 4])),
+        "CRS 48\nPSS 0\nSSS 0\nPBCH 0\nPCFICH 16\nPHICH 12\nPDSCH 828\nheld 0\nidle 104\n"
     );
 }

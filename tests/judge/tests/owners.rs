@@ -2,7 +2,7 @@
 
 use judge::generate::{any_plan, null_symbol_plan, Fixed, Random, COMBINATIONS};
 use judge::owners::{layout, Owner, KINDS};
-use judge::plan::Plan;
+use judge::plan::{Plan, UserCommand};
 use judge::{check, counts, owner, owner_numbers, Place};
 
 fn empty_plan(combination: usize, identity: usize) -> Plan {
@@ -52,6 +52,82 @@ fn all_identities() {
     }
 }
 
+/// A plan of combination `combination` with one user for each block.
+fn one_block_each(combination: usize, identity: usize) -> Plan {
+    let mut plan = empty_plan(combination, identity);
+    plan.users = (0..plan.cell.blocks)
+        .map(|first| UserCommand { rnti: 1 + first, bits: 2, first, count: 1 })
+        .collect();
+    plan
+}
+
+#[test]
+fn every_block_has_24_elements() {
+    let mut least = [usize::MAX; 101];
+    for combination in 0..COMBINATIONS {
+        let plan = one_block_each(combination, combination % 504);
+        let counts = layout(&plan).users.into_iter().map(|places| places.len());
+        let fewest = counts.min().expect("a user");
+        least[plan.cell.blocks] = least[plan.cell.blocks].min(fewest);
+    }
+    // Six blocks: two symbols of twelve. Else one symbol more, with four references at most.
+    assert_eq!(least[6], 24);
+    assert_eq!([15, 25, 50, 75, 100].map(|blocks| least[blocks]), [32; 5]);
+}
+
+/// Every cell of six blocks with every subframe and CFI: rules go by C modulo 6, 12 and 8 alone. No two of them claim
+/// one place, or `layout` panics.
+#[test]
+fn every_cell_of_six_blocks() {
+    let mut cells = 0;
+    for combination in (0..COMBINATIONS).filter(|i| Fixed::combination(*i, 0, 0).blocks == 6) {
+        for identity in 0..24 {
+            let plan = one_block_each(combination, identity);
+            let (cell, frame) = (plan.cell, plan.frame);
+            let count = layout(&plan).counts();
+            assert_eq!(count.iter().sum::<usize>(), 72 * cell.symbols());
+            // All blocks have a user: what is idle lies in the control region. Symbol 0 has 12 groups of six places,
+            // of which two are references or skipped; with one port those of port 1 are idle.
+            let groups = 12 - 4 - 3 * cell.phich_units();
+            let skipped = if cell.ports == 1 { 12 } else { 0 };
+            let references = |s: usize| match (s, cell.ports) {
+                (1, 4) => 24,
+                (3, 1) if cell.extended => 12,
+                (3, _) if cell.extended => 24,
+                _ => 0,
+            };
+            let others: usize = (1..=frame.cfi).map(|s| 72 - references(s)).sum();
+            assert_eq!(count[8], 4 * groups + skipped + others, "{plan:?}");
+            cells += 1;
+        }
+    }
+    assert_eq!(cells, 24 * 2 * 3 * 4 * 10 * 3);
+}
+
+/// Elements of a user over all six blocks, worked out by hand.
+#[test]
+fn users_of_six_blocks_by_hand() {
+    let elements = |prefix: u8, ports: u8, subframe: u8, cfi: u8| {
+        let plan = [0x10, 0, 7, 6, prefix, ports, 1, 0x11, 0, 0, subframe, cfi, 0x30, 0, 1, 2, 0, 6, 0];
+        layout(&check(&plan).expect("accepted")).user_elements()
+    };
+    for ports in [1, 2, 4] {
+        // Extended, f = 0, CFI 3: of twelve symbols four are control, two have SSS and PSS, four PBCH.
+        assert_eq!(elements(1, ports, 0, 3), 6 * 24);
+        // With CFI 2 symbol 3 comes in, which has references: on one port two in a block, else four.
+        assert_eq!(elements(1, ports, 0, 2), 6 * (24 + if ports == 1 { 10 } else { 8 }));
+    }
+    // Normal, f = 0, CFI 3: symbols 4 and 11, with references, and 12 and 13.
+    assert_eq!([1, 2, 4].map(|ports| elements(0, ports, 0, 3)), [6 * 44, 6 * 40, 6 * 40]);
+    // Normal, f = 1, CFI 1: symbols 2 to 13; references in 4, 7 and 11, on four ports in 8 too.
+    assert_eq!(
+        [1, 2, 4].map(|ports| elements(0, ports, 1, 1)),
+        [6 * (144 - 3 * 2), 6 * (144 - 3 * 4), 6 * (144 - 4 * 4)]
+    );
+    // Normal, f = 5, CFI 2: symbols 3 to 13 without 5 and 6.
+    assert_eq!(elements(0, 2, 5, 2), 6 * (9 * 12 - 3 * 4));
+}
+
 #[test]
 fn users_add_up() {
     let mut random = Random::new(21);
@@ -59,24 +135,25 @@ fn users_add_up() {
         let bytes = any_plan(&mut random);
         let plan = check(&bytes).unwrap();
         let (cell, frame) = (plan.cell, plan.frame);
+        let region = if cell.blocks == 6 { frame.cfi + 1 } else { frame.cfi };
         let layout = layout(&plan);
         let count = layout.counts();
         assert_eq!(count.iter().sum::<usize>(), cell.subcarriers() * cell.symbols());
         assert_eq!(counts(&bytes), Ok(count));
         assert_eq!(count[6], layout.user_elements());
         for (number, (user, places)) in plan.users.iter().zip(&layout.users).enumerate() {
-            // "k first, then s", in its blocks, from CFI on.
+            // "k first, then s", in its blocks, behind the control region.
             assert!(places.windows(2).all(|two| (two[0].s, two[0].k) < (two[1].s, two[1].k)));
             for place in places {
                 assert!((user.first..user.first + user.count).contains(&(place.k / 12)));
-                assert!(place.s >= frame.cfi);
+                assert!(place.s >= region);
                 assert_eq!(layout.owner(*place), Owner::User(number));
             }
             assert!(!places.is_empty());
             assert!(cell.ports == 1 || places.len() % 2 == 0);
         }
         // No idle place where a user could stand.
-        for s in frame.cfi..cell.symbols() {
+        for s in region..cell.symbols() {
             for k in 0..cell.subcarriers() {
                 if layout.owner(Place { s, k }) == Owner::Idle {
                     assert!(plan.users.iter().all(|u| !(u.first..u.first + u.count).contains(&(k / 12))));
@@ -109,13 +186,10 @@ fn null_symbols_come_only_there() {
     // number of blocks and f = 0, have a count that is no multiple of four.
     for combination in 0..COMBINATIONS {
         let fixed = Fixed::combination(combination, combination % 504, 0);
-        let mut plan = empty_plan(combination, combination % 504);
         if fixed.ports != 4 {
             continue;
         }
-        plan.users = (0..fixed.blocks)
-            .map(|first| judge::plan::UserCommand { rnti: 1 + first, bits: 2, first, count: 1 })
-            .collect();
+        let plan = one_block_each(combination, combination % 504);
         let cut = |block: usize| {
             let centre = plan.cell.centre();
             block == centre.start / 12 || block == centre.end / 12

@@ -85,7 +85,7 @@ fn three_cell_fields() {
     assert_eq!(cell("10 FFFF 0F 00 01 01"), 3);
     for value in 0..=255u32 {
         let known = |list: &[u32]| if list.contains(&value) { 0 } else { 3 };
-        assert_eq!(cell(&format!("10 0000 {value:02X} 00 01 01")), known(&[15, 25, 50, 75, 100]));
+        assert_eq!(cell(&format!("10 0000 {value:02X} 00 01 01")), known(&[6, 15, 25, 50, 75, 100]));
         assert_eq!(cell(&format!("10 0000 0F {value:02X} 01 01")), known(&[0, 1]));
         assert_eq!(cell(&format!("10 0000 0F 00 {value:02X} 01")), known(&[1, 2, 4]));
         assert_eq!(cell(&format!("10 0000 0F 00 01 {value:02X}")), known(&[1, 3, 6, 12]));
@@ -122,6 +122,14 @@ fn five_hi() {
     assert_eq!(large("00", "20 1900 00"), 5);
     assert_eq!(large("01", "20 3103 00"), 0);
     assert_eq!(large("01", "20 3200 00"), 5);
+    // N = 6: one group, with g = 12 two.
+    let small = |g: &str, rest: &str| refusal(&format!("10 0000 06 00 04 {g} {FRAME} {rest}"));
+    for g in ["01", "03", "06"] {
+        assert_eq!(small(g, "20 0007 00"), 0);
+        assert_eq!(small(g, "20 0100 00"), 5);
+    }
+    assert_eq!(small("0C", "20 0107 00"), 0);
+    assert_eq!(small("0C", "20 0200 00"), 5);
 }
 
 #[test]
@@ -190,6 +198,8 @@ fn lengths() {
     assert_eq!(bytes(0, 0), Ok(480 / 8));
     assert_eq!(bytes(0, 1), Ok(432 / 8));
     assert_eq!(bytes(5, 0), Ok(0));
+    // The shortest grid.
+    assert_eq!(grid_length(&[0x10, 0, 0, 6, 1, 1, 1, 0x11, 0, 0, 1, 1, 0]), Ok(36 * 6 * 12));
 }
 
 #[test]
@@ -267,7 +277,7 @@ fn how_many_of_each() {
     for plan in plans() {
         counts[usize::from(check(&plan).err().unwrap_or(0))] += 1;
     }
-    assert_eq!(counts, [511, 1595, 808, 1086, 542, 247, 345, 152]);
+    assert_eq!(counts, [603, 1579, 808, 1096, 542, 273, 360, 154]);
     assert_eq!(plans(), plans());
     // The program's buffer.
     assert!(input(&plans()).len() < 600_000);
@@ -280,7 +290,14 @@ fn every_sort_is_accepted() {
         .iter()
         .map(|plan| (plan.cell.blocks, plan.cell.extended, plan.cell.ports, plan.cell.g))
         .collect();
-    assert!(kinds.len() > 80, "{}", kinds.len());
+    assert!(kinds.len() > 100, "{}", kinds.len());
+    // Of six blocks every prefix, P and CFI in subframes 0, 5 and another.
+    let sort = |subframe: usize| [0, 5].iter().position(|f| *f == subframe).unwrap_or(2);
+    let six = accepted.iter().filter(|plan| plan.cell.blocks == 6);
+    let regions: BTreeSet<(bool, usize, usize, usize)> = six
+        .map(|plan| (plan.cell.extended, plan.cell.ports, plan.frame.cfi, sort(plan.frame.subframe)))
+        .collect();
+    assert_eq!(regions.len(), 2 * 3 * 3 * 3);
     let frames: BTreeSet<(usize, usize)> =
         accepted.iter().map(|plan| (plan.frame.subframe, plan.frame.cfi)).collect();
     assert!(frames.len() > 25, "{}", frames.len());
@@ -309,8 +326,8 @@ fn the_output() {
     assert_eq!(lines.len(), plans().len());
     assert_eq!(lines[0], "plan 1 0 cell 0 15 0 1 1 frame 0 1 1 hi 0 0 user 1 2 0 15");
     assert_eq!(lines[3], "plan 4 0 cell 503 100 1 4 12 frame 1023 9 3 hi 49 3 user 65535 8 99 1");
-    assert_eq!(lines[12], "plan 13 1");
-    assert_eq!(lines[112], "plan 113 2");
+    assert_eq!(lines[14], "plan 15 1");
+    assert_eq!(lines[119], "plan 120 2");
 }
 
 #[test]

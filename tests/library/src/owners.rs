@@ -6,11 +6,10 @@ use crate::found::Found;
 use crate::subject::{number, Subject};
 use judge::generate::{commands, Fixed, His, Random, Users, HIS};
 use judge::owners::{layout, Layout};
-use judge::plan::{check, Cell, OUTSIDE_GRID};
+use judge::plan::{check, Cell, OUTSIDE_GRID, WIDTHS};
 use judge::Place;
 use std::ops::Range;
 
-const BLOCKS: [usize; 5] = [15, 25, 50, 75, 100];
 const PORTS: [usize; 3] = [1, 2, 4];
 const SIXTHS: [usize; 4] = [1, 3, 6, 12];
 const SUBFRAMES: [usize; 3] = [0, 1, 5];
@@ -18,7 +17,7 @@ const RESIDUES: usize = 6;
 const OTHERS: usize = 20;
 
 /// N, prefix, P, g, CFI, f.
-const SETTINGS: usize = BLOCKS.len() * 2 * PORTS.len() * SIXTHS.len() * 3 * SUBFRAMES.len();
+const SETTINGS: usize = WIDTHS.len() * 2 * PORTS.len() * SIXTHS.len() * 3 * SUBFRAMES.len();
 
 /// The plans of this section.
 pub const PLANS: u64 = (SETTINGS * (RESIDUES + OTHERS)) as u64;
@@ -50,7 +49,7 @@ fn fixed(seed: u64, case: u64) -> Fixed {
     let mut random = Random::of_case(seed, setting as u64);
     Fixed {
         identity: identities(&mut random)[which],
-        blocks: BLOCKS[digit(5)],
+        blocks: WIDTHS[digit(6)],
         prefix: digit(2),
         ports: PORTS[digit(3)],
         g: SIXTHS[digit(4)],

@@ -16,7 +16,7 @@ use std::ops::Range;
 pub fn narrow(random: &mut Random) -> Fixed {
     let mut fixed = Fixed::random(random);
     if !random.one_in(16) {
-        fixed.blocks = random.pick(&[15, 25]);
+        fixed.blocks = random.pick(&[6, 15, 25]);
     }
     fixed
 }
@@ -37,7 +37,7 @@ fn raw(random: &mut Random) -> Vec<u8> {
 
 /// The plan of an input of gridcount; the longest ones have 65,535 bytes.
 fn of_gridcount(random: &mut Random) -> Vec<u8> {
-    let case = random.below(64) as u64;
+    let case = random.below(128) as u64;
     let input = gridcount_case(random.number(), case);
     let Some((length, rest)) = input.split_first_chunk() else { return input };
     rest[..rest.len().min(usize::from(u16::from_be_bytes(*length)))].to_vec()

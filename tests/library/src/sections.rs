@@ -20,7 +20,7 @@ pub struct Section {
 }
 
 pub const SECTIONS: [Section; 5] = [
-    Section { name: "builds", part: 1800, all: 36_000, chunk: 20, run: builds::run },
+    Section { name: "builds", part: 2160, all: 43_200, chunk: 20, run: builds::run },
     Section { name: "refusals", part: 8000, all: 240_000, chunk: 100, run: refusals::run },
     Section { name: "grids", part: 8000, all: 240_000, chunk: grids::OF_ONE_PLAN, run: grids::run },
     Section {
@@ -30,7 +30,7 @@ pub const SECTIONS: [Section; 5] = [
         chunk: 1 << 16,
         run: samples::run,
     },
-    Section { name: "owners", part: 180, all: owners::PLANS, chunk: 4, run: owners::run },
+    Section { name: "owners", part: 216, all: owners::PLANS, chunk: 4, run: owners::run },
 ];
 
 pub fn named(name: &str) -> Option<&'static Section> {

@@ -1,7 +1,11 @@
 //! A library made of the judge agrees with it; libraries that are wrong in one thing do not.
 
+use judge::build::element_at;
+use judge::owners::layout;
+use judge::payload::Sections;
+use judge::plan::Plan;
 use judge::sample::sample_numbers;
-use judge::Refusal;
+use judge::{Place, Refusal};
 use library::calls::Library;
 use library::found::Found;
 use library::sections::{named, SECTIONS};
@@ -182,9 +186,9 @@ fn wrong_numbers() {
     caught(Library { owner: wrapped, ..RIGHT }, "owners", 1, "expected -8");
 
     unsafe extern "C" fn one_place(plan: *const u8, length: usize, s: usize, k: usize, port: usize) -> i64 {
-        owner(plan, length, s, k, port) + i64::from((s, k) == (5, 100))
+        owner(plan, length, s, k, port) + i64::from((s, k) == (5, 50))
     }
-    caught(Library { owner: one_place, ..RIGHT }, "owners", 1, "owner of s 5, k 100");
+    caught(Library { owner: one_place, ..RIGHT }, "owners", 1, "owner of s 5, k 50");
 
     unsafe extern "C" fn kinds(plan: *const u8, length: usize, kind: usize) -> i64 {
         count(plan, length, kind % (1 << 32))
@@ -344,6 +348,121 @@ fn wrong_elements_of_256qam() {
         write(judge::read(from_raw_parts(p, pl), &grid, n), to, n)
     }
     caught(Library { read: lenient, ..RIGHT }, "grids", 2000, "Beyond");
+}
+
+/// A plan with its control region `BY` symbols longer where the cell has `N` blocks; a layout goes by the region alone.
+fn moved<const N: usize, const BY: isize>(bytes: &[u8]) -> Result<Plan, Refusal> {
+    let mut plan = judge::check(bytes)?;
+    if plan.cell.blocks == N {
+        plan.frame.cfi = plan.frame.cfi.checked_add_signed(BY).expect("a region of one symbol or more");
+    }
+    Ok(plan)
+}
+
+unsafe extern "C" fn payload_len_moved<const N: usize, const BY: isize>(
+    plan: *const u8,
+    length: usize,
+) -> i64 {
+    let plan = moved::<N, BY>(from_raw_parts(plan, length));
+    number(plan, |plan| Sections::new(&plan, &layout(&plan)).length)
+}
+
+unsafe extern "C" fn count_moved<const N: usize, const BY: isize>(
+    plan: *const u8,
+    length: usize,
+    kind: usize,
+) -> i64 {
+    let plan = moved::<N, BY>(from_raw_parts(plan, length));
+    number(plan, |plan| layout(&plan).counts().get(kind).copied().unwrap_or(0))
+}
+
+unsafe extern "C" fn owner_moved<const N: usize, const BY: isize>(
+    plan: *const u8,
+    length: usize,
+    s: usize,
+    k: usize,
+    port: usize,
+) -> i64 {
+    match (owner(plan, length, s, k, port), moved::<N, BY>(from_raw_parts(plan, length))) {
+        (0.., Ok(plan)) if plan.cell.blocks == N => i64::from(layout(&plan).owner(Place { s, k }).number()),
+        (right, _) => right,
+    }
+}
+
+/// A control region of CFI symbols at six blocks, and one of CFI + 1 at fifteen.
+#[test]
+fn wrong_control_regions() {
+    fn each_caught<const N: usize, const BY: isize>() {
+        let library = Library { payload_len: payload_len_moved::<N, BY>, ..RIGHT };
+        caught(library, "builds", 40, "payload_len: expected");
+        caught(library, "refusals", 40, "payload_len: expected");
+        let library = Library { count: count_moved::<N, BY>, ..RIGHT };
+        caught(library, "owners", 20, "count of kind 6: expected");
+        let library = Library { owner: owner_moved::<N, BY>, ..RIGHT };
+        caught(library, "owners", 20, "owner of s ");
+    }
+    each_caught::<6, -1>();
+    each_caught::<15, 1>();
+}
+
+/// PCFICH of six blocks with the codeword of the CFI that its control region would have elsewhere.
+#[test]
+fn wrong_codeword_at_six_blocks() {
+    /// The grid with the format indicator of the next CFI, where there is one.
+    fn next_codeword(bytes: &[u8], grid: &mut [u8]) {
+        let plan = judge::check(bytes).expect("an accepted plan");
+        if plan.cell.blocks != 6 || plan.frame.cfi == 3 {
+            return;
+        }
+        let mut other = [&bytes[..12], &[0]].concat();
+        other[11] += 1;
+        let payload = vec![0; judge::payload_length(&other).expect("an accepted plan")];
+        let (other, _) = judge::build(&other, &payload, grid.len()).expect("an accepted payload");
+        for place in layout(&plan).pcfich {
+            for port in 0..plan.cell.ports {
+                let at = element_at(plan.cell.symbols(), plan.cell.subcarriers(), port, place);
+                grid[at..at + 3].copy_from_slice(&other[at..at + 3]);
+            }
+        }
+    }
+    unsafe extern "C" fn wrong(
+        p: *const u8,
+        pl: usize,
+        given: *const u8,
+        gl: usize,
+        to: *mut u8,
+        n: usize,
+    ) -> i64 {
+        let answer = build(p, pl, given, gl, to, n);
+        if answer >= 0 {
+            next_codeword(from_raw_parts(p, pl), from_raw_parts_mut(to, n));
+        }
+        answer
+    }
+    caught(Library { build: wrong, ..RIGHT }, "builds", 40, "grid: ");
+}
+
+/// The answer to a plan whose CELL has other blocks than it says.
+unsafe fn check_with(plan: *const u8, length: usize, said: u8, taken: u8) -> i64 {
+    let mut bytes = from_raw_parts(plan, length).to_vec();
+    if length > 3 && bytes[3] == said {
+        bytes[3] = taken;
+    }
+    number(judge::check(&bytes), |_| 0)
+}
+
+/// Seven blocks taken for six, and six refused.
+#[test]
+fn wrong_widths() {
+    unsafe extern "C" fn seven(plan: *const u8, length: usize) -> i64 {
+        check_with(plan, length, 7, 6)
+    }
+    caught(Library { check: seven, ..RIGHT }, "refusals", 2000, "check: expected -3, found 0");
+
+    unsafe extern "C" fn six(plan: *const u8, length: usize) -> i64 {
+        check_with(plan, length, 6, 5)
+    }
+    caught(Library { check: six, ..RIGHT }, "refusals", 40, "check: expected 0, found -3");
 }
 
 /// One reader takes any grid, one takes none.

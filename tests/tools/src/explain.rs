@@ -1,7 +1,7 @@
 //! planexplain compared, line for line, with an explanation of plans written from document 01 ("Plan and payload", "Refusals") with
-//! document 02's #109.
+//! document 02's #102 and #109.
 
-use judge::generate::{any_commands, damaged_plan, Random};
+use judge::generate::{any_commands, damaged_plan, Fixed, Random, OF_SIX_BLOCKS};
 use judge::harness::{hex, run};
 use std::collections::BTreeMap;
 use std::path::Path;
@@ -79,8 +79,8 @@ fn cell_fault(v: &[usize]) -> Option<Fault> {
     if v[0] > 503 {
         return field(3, "identity", v[0], "0 to 503");
     }
-    if ![15, 25, 50, 75, 100].contains(&v[1]) {
-        return field(3, "blocks", v[1], "15, 25, 50, 75 or 100");
+    if ![6, 15, 25, 50, 75, 100].contains(&v[1]) {
+        return field(3, "blocks", v[1], "6, 15, 25, 50, 75 or 100");
     }
     if ![0, 1].contains(&v[2]) {
         return field(3, "prefix", v[2], "0 (normal) or 1 (extended)");
@@ -302,6 +302,21 @@ fn sample_plan(prefix: u8) -> Vec<Vec<u8>> {
     ]
 }
 
+/// The same with six blocks.
+fn narrow_plan() -> Vec<Vec<u8>> {
+    vec![
+        vec![0x10, 0x00, 0x59, 6, 1, 4, 12],
+        vec![0x11, 0x00, 0x06, 0, 1],
+        vec![0x20, 3, 3],
+        vec![0x20, 0, 3],
+        vec![0x30, 0, 7, 2, 4, 2],
+        vec![0x30, 0, 8, 4, 0, 1],
+        vec![0x30, 0xFF, 0xFF, 6, 1, 1],
+        vec![0x30, 0, 9, 8, 2, 2],
+        vec![0x00],
+    ]
+}
+
 /// Byte values in and around every range of document 01.
 const VALUES: [std::ops::RangeInclusive<u8>; 6] = [0..=26, 49..=51, 74..=76, 99..=101, 127..=128, 254..=255];
 
@@ -344,8 +359,7 @@ fn every_order(list: &[Vec<u8>], inputs: &mut Vec<Vec<u8>>) {
 
 fn inputs() -> Vec<Vec<u8>> {
     let mut inputs = Vec::new();
-    for prefix in [0, 1] {
-        let list = sample_plan(prefix);
+    for list in [sample_plan(0), sample_plan(1), narrow_plan()] {
         let plan = list.concat();
         every_field(&list, &mut inputs);
         every_order(&list, &mut inputs);
@@ -367,6 +381,10 @@ fn inputs() -> Vec<Vec<u8>> {
         inputs.push([whole, vec![0; 100]].concat());
     }
     let mut random = Random::new(20);
+    for i in 0..OF_SIX_BLOCKS {
+        let fixed = Fixed::of_six_blocks(&mut random, i);
+        inputs.push(with_length(&[&fixed.commands().concat()[..], &[0]].concat()));
+    }
     for case in 0..1500 {
         let plan = if case < 300 { any_commands(&mut random).concat() } else { damaged_plan(&mut random) };
         inputs.push(with_length(&plan));

@@ -2,7 +2,7 @@
 //! two-byte plan length, the plan, and the payload or the grid.
 
 use judge::generate::{
-    any_plan, damaged_plan, gridcount_case, his, input, right_payload, Fixed, His, Random,
+    any_plan, damaged_plan, gridcount_case, his, input, right_payload, Fixed, His, Random, SIX_BLOCKS_CASES,
 };
 use judge::harness::{hex, Tally};
 use judge::plan::{Refusal, END, UNKNOWN_OR_SHORT, USER};
@@ -18,7 +18,7 @@ const SEED: u64 = 1;
 const INPUTS: u64 = 300;
 
 /// The input with the longest payload; gridcount has special ones before it.
-const LONGEST: u64 = 12;
+const LONGEST: u64 = SIX_BLOCKS_CASES.end;
 
 /// A program that has not ended after so long is taken to hang.
 const PATIENCE: Duration = Duration::from_secs(20);
@@ -80,7 +80,7 @@ fn build_input(case: u64) -> Vec<u8> {
         return input(&plan, &right_payload(&mut Random::new(SEED), &plan).expect("an accepted plan"));
     }
     let mut input = gridcount_case(SEED, case);
-    if case % 60 == 59 {
+    if case % 60 == 7 {
         input.resize(TOO_LONG, 0);
     }
     input
@@ -94,6 +94,12 @@ fn read_input(case: u64) -> Vec<u8> {
     if case == LONGEST {
         let plan = longest_plan();
         return input(&plan, &grid_of(&mut random, &plan));
+    }
+    if SIX_BLOCKS_CASES.contains(&case) {
+        let whole = gridcount_case(SEED, case);
+        let (plan, _) = parts(&whole).expect("a plan");
+        let grid = grid_of(&mut random, plan);
+        return input(plan, &if case % 2 == 0 { grid } else { changed(&mut random, plan, grid) });
     }
     let plan = any_plan(&mut random);
     let grid = grid_of(&mut random, &plan);

@@ -1,7 +1,7 @@
 //! gridtext's text and gridpicture's picture, from the judge's map of owners.
 
-use judge::generate::{commands, damaged_plan, input, Fixed, His, Random, Users, HIS, USERS};
-use judge::plan::{check, Plan, Refusal, UNKNOWN_OR_SHORT};
+use judge::generate::{commands, damaged_plan, input, Fixed, His, Random, Users, HIS, OF_SIX_BLOCKS, USERS};
+use judge::plan::{check, Plan, Refusal, UNKNOWN_OR_SHORT, WIDTHS};
 use std::collections::BTreeMap;
 use std::io::Write;
 use std::path::{Path, PathBuf};
@@ -180,7 +180,7 @@ fn band_colours(
     for rect in band {
         rows.entry(rect.y).or_default().push(rect);
     }
-    let (left, pitch) = (band[0].x, if plan.cell.blocks == 15 { 6 } else { 4 });
+    let (left, pitch) = (band[0].x, if plan.cell.blocks < 25 { 6 } else { 4 });
     let ys: Vec<usize> = rows.keys().copied().collect();
     let says = |what: usize, near: &dyn Fn(&Shape) -> bool| {
         texts.iter().any(|text| text.what == what.to_string() && near(text))
@@ -294,15 +294,21 @@ fn run(program: &Path, input: &[u8]) -> Result<(String, String), String> {
     Ok((words(output.stdout)?, words(output.stderr)?))
 }
 
-/// Inputs of all widths, prefixes and port counts, in subframes with and without signals in the centre; then plans that have every
-/// owner there is, so that all colours stand beside each other; then refused and cut-off inputs.
+/// Inputs of all widths, prefixes and port counts, in subframes with and without signals in the centre, of six blocks with every
+/// CFI; then plans that have every owner there is, so that all colours stand beside each other; then refused and cut-off inputs.
 fn inputs() -> Vec<Vec<u8>> {
     let mut random = Random::new(1);
     let mut list = vec![judge::generate::example_input(), judge::generate::example_variant_input()];
-    for i in 0..90 {
-        let mut fixed = Fixed::random(&mut random);
-        fixed.blocks = [15, 25, 50, 75, 100][i % 5];
-        (fixed.prefix, fixed.ports, fixed.subframe) = (i / 5 % 2, [1, 2, 4][i / 10 % 3], [0, 5, 1][i / 30]);
+    let wider = (0..90).map(|i| Fixed {
+        blocks: WIDTHS[1 + i % 5],
+        prefix: i / 5 % 2,
+        ports: [1, 2, 4][i / 10 % 3],
+        subframe: [0, 5, 1][i / 30],
+        ..Fixed::random(&mut random)
+    });
+    let mut cells: Vec<Fixed> = wider.collect();
+    cells.extend((0..OF_SIX_BLOCKS).map(|i| Fixed::of_six_blocks(&mut random, i)));
+    for fixed in cells {
         let (his, users) = (HIS[random.below(HIS.len())], USERS[random.below(USERS.len())]);
         let plan = commands(&mut random, &fixed, his, users).concat();
         let after = random.below(3) * 20;
@@ -366,6 +372,7 @@ fn compare_files(bin: &Path) -> usize {
     for (from, shown) in [
         ("tests/gridcount/example.in", "docs/pictures/example.svg"),
         ("docs/pictures/broadcast-four-ports.in", "docs/pictures/broadcast-four-ports.svg"),
+        ("docs/pictures/six-blocks.in", "docs/pictures/six-blocks.svg"),
     ] {
         let found = run(&bin.join("gridpicture"), &read(from)).map(|(out, _)| out.into_bytes());
         if found != Ok(read(shown)) {

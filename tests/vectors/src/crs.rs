@@ -5,6 +5,9 @@ use crate::gold;
 /// N_RB^max,DL.
 const N_RB_MAX_DL: usize = 110;
 
+/// N_RB^DL: document 01, with document 02's #102.
+const WIDTHS: [usize; 6] = [6, 15, 25, 50, 75, 100];
+
 /// 6.10.1.1: c_init in slot n_s, symbol l; N_CP is 1 with the normal prefix,
 /// 0 with the extended one.
 fn c_init(prefix: u32, cell: u32, n_s: u32, l: u32) -> u32 {
@@ -58,7 +61,7 @@ fn text(values: &[(i32, i32)]) -> String {
 pub fn lines() -> Vec<String> {
     let mut out = Vec::new();
     for prefix in [0, 1] {
-        for blocks in [15, 25, 50, 75, 100] {
+        for blocks in WIDTHS {
             for cell in [0, 1, 167, 503] {
                 for n_s in [0, 7, 19] {
                     for l in symbols(prefix) {
@@ -119,7 +122,7 @@ mod tests {
         let c_init = c_init(0, 167, 7, 4);
         let wide = values(c_init, 110);
         assert_eq!(wide, r(c_init));
-        for blocks in [15, 25, 50, 75, 100] {
+        for blocks in WIDTHS {
             let narrow = values(c_init, blocks);
             assert_eq!(narrow.len(), 2 * blocks);
             assert_eq!(narrow, wide[110 - blocks..110 + blocks]);

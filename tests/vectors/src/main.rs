@@ -1,5 +1,5 @@
 //! Prints expected vectors for the downlink mapper, written from TS 36.211
-//! and document 01 alone. One argument names the section.
+//! and documents 01 and 02 alone. One argument names the section.
 
 mod crs;
 mod gold;
@@ -75,10 +75,10 @@ mod tests {
     #[test]
     fn line_counts() {
         // gold: 1 + 9 * 6 + 28; modulation: 340 + 4 * 33 * 33;
-        // sync: 3 + 168 + 102 * 2; crs: 2 * 5 * 4 * 3 * 3;
+        // sync: 3 + 168 + 102 * 2; crs: 2 * 6 * 4 * 3 * 3;
         // phich: 2 * 24 * 4; precoding: 5 + 12 + 32 + 24 + 36 * (1 + 2 + 4);
         // sample: 9 + 9 * 33 + 256.
-        let counts = [83, 4696, 375, 360, 192, 325, 562];
+        let counts = [83, 4696, 375, 432, 192, 325, 562];
         for (name, count) in NAMES.iter().zip(counts) {
             assert_eq!(section(name).unwrap().len(), count, "{name}");
         }

@@ -2,7 +2,9 @@
 use mathlib.Core.Path.{_∙_}
 use native.Mathlib.Nat.{mul-comm}
 use native.Mathlib.Omega.{arith}
-use Rattle.counts.proofs.KindWays.{units-few, owned-most, owned-few, nine}
+use Rattle.plan.proofs.Counts.{units-most}
+use Rattle.plan.proofs.Valid.{valid}
+use Rattle.counts.proofs.KindWays.{owned-most, owned-few, nine}
 use borrow.Author.Needs.{needs}
 use Rattle.counts.proofs.kind_counts.Statement.{statement}
 use Rattle.counts.proofs.kind_counts.Tie as tie
@@ -22,7 +24,7 @@ units-requires c κs = search needs
 mul-phich : tie.Need-mul-phich
 mul-phich c =
     let entry = c .before .before .before .before .before in
-    omega (arith, units-few (entry .args .plan .now) (entry .args .p) (entry .pre) _ (c .units .ensures))
+    omega (arith, c .units .ensures, units-most (entry .args .p .cell) (valid (entry .args .plan .now) (entry .args .p) (entry .pre) .cell))
 
 users-count-requires : tie.Need-users-count-requires
 users-count-requires c κs = search needs

@@ -1,7 +1,7 @@
 -- `signals::crs_at` meets its contract: the sum does not wrap. Assumes nothing.
 use native.Mathlib.Omega.{arith}
 use Rattle.places.proofs.Numbers.{symbols-most}
-use Rattle.counts.proofs.Ranges.{few-ports}
+use Rattle.plan.proofs.Counts.{ports-most}
 use Rattle.signals.proofs.Numbers.{row-at-most, crs-first}
 use Rattle.signals.proofs.crs_at.Statement.{statement}
 use Rattle.signals.proofs.crs_at.Tie as tie
@@ -10,7 +10,7 @@ row-at-requires : tie.Need-row-at-requires
 row-at-requires c κs = omega (arith, symbols-most (c .args .cell), c .pre .1)
 
 crs-first-requires : tie.Need-crs-first-requires
-crs-first-requires c κs = omega (arith, few-ports (c .before .args .cell .ports) (c .before .pre .0 .ports), c .before .pre .2)
+crs-first-requires c κs = omega (arith, ports-most (c .before .args .cell) (c .before .pre .0), c .before .pre .2)
 
 add-result : tie.Need-add-result
 add-result c =

@@ -1,7 +1,7 @@
--- `signals::mark_at` meets its contract: an accepted cell has at least 15 blocks. Assumes nothing.
+-- `signals::mark_at` meets its contract: an accepted cell has at least six blocks. Assumes nothing.
 use Prim.Native.Nat.{_-_}
 use native.Mathlib.Omega.{arith}
-use Rattle.counts.proofs.Ranges.{big}
+use Rattle.plan.proofs.Counts.{blocks-least}
 use Rattle.signals.proofs.Numbers.{mark-first, row-at-most}
 use borrow.Author.Needs.{needs}
 use Rattle.signals.proofs.mark_at.Statement.{statement}
@@ -24,7 +24,7 @@ mul-result : tie.Need-mul-result
 mul-result c = search needs
 
 sub-result : tie.Need-sub-result
-sub-result c = omega (arith, big (c .before .before .before .args .cell .blocks) (c .before .before .before .pre .0 .blocks), c .wide .ensures)
+sub-result c = omega (arith, blocks-least (c .before .before .before .args .cell) (c .before .before .before .pre .0), c .wide .ensures)
 
 add-result : tie.Need-add-result
 add-result c =

@@ -1,0 +1,146 @@
+-- The groups of the control symbols 0 to 3: they have six subcarriers exactly where some port of the cell uses the symbol for its reference
+-- signals, and none of a group's places has one of these. What PCFICH and a PHICH unit have is in symbol 0. Assumes an accepted cell.
+use Prim.Native.Nat.{ℕ, zero, suc, _+_, _%_, _≤_, _<_}
+use mathlib.Core.Path.{_≡_, refl}
+use mathlib.Core.Logic.{_↔_, _⊎_, inl, inr}
+use mathlib.Core.Bool.{Bool, true, false, not, _&&_, _||_, and-assoc, and-false}
+use native.Mathlib.Omega.{arith}
+use lib.Dec.{ltb, eqb}
+use borrow.Author.Tests.{eq-eqb, ne-eqb, lt-ltb, eqb-true, eqb-false, ltb-true, not-true}
+use Rattle.base.proofs.Tests.{by-test, clash, or-cases, is-false, on-if}
+use Rattle.plan.specs.Lists.{Among}
+use Rattle.plan.specs.Fields.{portCounts, mappingUnits}
+use Rattle.plan.specs.Valid.{CellIn}
+use Rattle.plan.specs.declared.Cell.{Cell}
+use Rattle.plan.proofs.Listed.{and-left, and-right}
+use Rattle.plan.proofs.Counts.{ports-least}
+use Rattle.layout.specs.Rules.{
+  slotLength,
+  slotOf,
+  inSlot,
+  crsSymbol,
+  crsShift,
+  standsAt,
+  crsOf,
+  crsBelow,
+  crsAny,
+  groupSize,
+  elementGroup,
+  inGroup,
+  isFormat,
+  formatHas,
+  pcfich,
+  mappingUnitHas,
+  phich,
+}
+use Rattle.layout.proofs.Pilot.{slot-length, slot-short, slot-long}
+
+-- ---- which symbols have groups of six
+few-ports : (P : ℕ) → Among P portCounts → eqb P 4 ≡ false → P ≤ 2
+few-ports P (inl e) w = omega arith
+few-ports P (inr (inl e)) w = omega arith
+few-ports P (inr (inr (inl e))) w = clash (eq-eqb P 4 e) w
+
+by-prefix : {X : Type 0} (c : Cell) → CellIn c → (c .prefix ≡ 0 → X) → (c .prefix ≡ 1 → X) → X
+by-prefix c ok x y =
+    by-test (eqb (c .prefix) 1)
+    (λ e. y (eqb-true (c .prefix) 1 e))
+    (λ e. let n : (c .prefix ≡ 1) → ⊥ = eqb-false (c .prefix) 1 e in x (omega (arith, ok .prefix)))
+
+-- some port of the cell has its reference signals in symbol s
+abbrev pub HasCrs : Cell → ℕ → Type 0
+HasCrs c s = (p : ℕ) × (p < c .ports) × (crsSymbol c p s ≡ true)
+
+six-with : (c : Cell) → CellIn c → (s : ℕ) → s < 4 → groupSize c s ≡ 6 → HasCrs c s
+unfolding groupSize crsSymbol inSlot
+six-with c ok zero l z = let h = slot-length c in (0, ports-least c ok, rw (lt-ltb 0 (slotLength c) (omega arith)) refl)
+six-with c ok (suc zero) l z =
+    let h = slot-length c in
+    by-test (eqb (c .ports) 4)
+    (λ e. let n = eqb-true (c .ports) 4 e in (2, omega arith, rw (lt-ltb 1 (slotLength c) (omega arith)) refl))
+    (λ e. let y : _≡_ {A = ℕ} 4 6 = rw e at z in absurd (let n : ⊥ = omega arith in n))
+six-with c ok (suc (suc zero)) l z = absurd (let n : ⊥ = omega arith in n)
+six-with c ok (suc (suc (suc zero))) l z =
+    by-prefix c ok
+    (λ e. let y : _≡_ {A = ℕ} 4 6 = rw e at z in absurd (let n : ⊥ = omega arith in n))
+    (λ e. (0, ports-least c ok, rw (slot-short c (eq-eqb (c .prefix) 1 e)) refl))
+six-with c ok (suc (suc (suc (suc s)))) l z = absurd (let n : ⊥ = omega arith in n)
+
+four-without : (c : Cell) → CellIn c → (s : ℕ) → s < 4 → groupSize c s ≡ 4 → (p : ℕ) → p < c .ports → crsSymbol c p s ≡ false
+unfolding groupSize crsSymbol inSlot
+four-without c ok zero l z p m = absurd (let n : ⊥ = omega arith in n)
+four-without c ok (suc zero) l z p m =
+    let h = slot-length c in
+    by-test (eqb (c .ports) 4)
+    (λ e. let y : _≡_ {A = ℕ} 6 4 = rw e at z in absurd (let n : ⊥ = omega arith in n))
+    (λ e. let few : c .ports ≤ 2 = few-ports (c .ports) (ok .ports) e in
+    rw (lt-ltb 1 (slotLength c) (omega arith), lt-ltb p 2 (omega arith), ne-eqb 4 (slotLength c) (λ d. omega arith)) refl)
+four-without c ok (suc (suc zero)) l z p m =
+    let h = slot-length c in
+    rw (lt-ltb 2 (slotLength c) (omega arith), ne-eqb 5 (slotLength c) (λ e. omega arith))
+    (on-if (λ (b : Bool). b ≡ false) (ltb p 2) (λ e. refl) (λ e. refl))
+four-without c ok (suc (suc (suc zero))) l z p m =
+    by-prefix c ok
+    (λ e. rw (slot-long c (ne-eqb (c .prefix) 1 (λ d. omega arith))) (on-if (λ (b : Bool). b ≡ false) (ltb p 2) (λ d. refl) (λ d. refl)))
+    (λ e. let y : _≡_ {A = ℕ} 6 4 = rw e at z in absurd (let n : ⊥ = omega arith in n))
+four-without c ok (suc (suc (suc (suc s)))) l z p m = absurd (let n : ⊥ = omega arith in n)
+
+-- what holds of six and of four holds of every size
+pub by-size : (P : ℕ → Type 0) (c : Cell) (s : ℕ) → P 6 → P 4 → P (groupSize c s)
+unfolding groupSize
+by-size P c s six four = on-if P (eqb s 0 || (eqb s 1 && eqb (c .ports) 4) || (eqb s 3 && eqb (c .prefix) 1)) (λ e. six) (λ e. four)
+
+-- THE LAW OF THE SIZES
+pub six-exactly : (c : Cell) → CellIn c → (s : ℕ) → s < 4 → (groupSize c s ≡ 6) ↔ HasCrs c s
+six-exactly c ok s l = (six-with c ok s l, λ u. by-size (λ (z : ℕ). groupSize c s ≡ z → groupSize c s ≡ 6) c s (λ e. e) (λ e. clash (u .2) (four-without c ok s l e (u .0) (u .1))) refl)
+
+-- ---- where no reference signal stands
+shift-three : (c : Cell) (p s : ℕ) → crsShift c p s % 3 ≡ 0
+unfolding crsShift
+shift-three c zero s = on-if (λ (v : ℕ). v % 3 ≡ 0) (eqb (inSlot c s) 0) (λ e. refl) (λ e. refl)
+shift-three c (suc zero) s = on-if (λ (v : ℕ). v % 3 ≡ 0) (eqb (inSlot c s) 0) (λ e. refl) (λ e. refl)
+shift-three c (suc (suc zero)) s = let v = slotOf c s in omega arith
+shift-three c (suc (suc (suc p))) s = let v = slotOf c s in omega arith
+
+-- a reference signal of any port stands where a group of six has no place
+stands-skipped : (c : Cell) (p s k : ℕ) → crsOf c p s k ≡ true → eqb (k % 3) (c .identity % 3) ≡ true
+unfolding crsOf standsAt
+stands-skipped c p s k e =
+    let v = crsShift c p s in
+    let z : k % 6 ≡ (v + c .identity) % 6 = eqb-true _ _ (and-right (crsSymbol c p s) (eqb (k % 6) ((v + c .identity) % 6)) e) in
+    eq-eqb (k % 3) (c .identity % 3) (omega (arith, shift-three c p s))
+
+none-below : (c : Cell) (q s k : ℕ) → ((p : ℕ) → p < q → crsOf c p s k ≡ false) → crsBelow c q s k ≡ false
+unfolding crsBelow
+none-below c q s k h = rw (one 0, one 1, one 2, one 3) refl
+  where
+    one : (p : ℕ) → ltb p q && crsOf c p s k ≡ false
+    one p = is-false _ (λ e. clash (and-right (ltb p q) (crsOf c p s k) e) (h p (ltb-true p q (and-left (ltb p q) (crsOf c p s k) e))))
+
+pub kept-clear : (c : Cell) (q s k : ℕ) → eqb (k % 3) (c .identity % 3) ≡ false → crsBelow c q s k ≡ false
+kept-clear c q s k w = none-below c q s k (λ p l. is-false _ (λ e. clash (stands-skipped c p s k e) w))
+
+-- THE LAW OF THE PLACES: none in a control symbol has a reference signal
+pub group-clear : (c : Cell) → CellIn c → (s k : ℕ) → s < 4 → inGroup c s k ≡ true → crsAny c s k ≡ false
+unfolding inGroup crsOf
+group-clear c ok s k l e = go (or-cases (eqb (groupSize c s) 4) (not (eqb (k % 3) (c .identity % 3))) e)
+  where
+    go : (eqb (groupSize c s) 4 ≡ true) ⊎ (not (eqb (k % 3) (c .identity % 3)) ≡ true) → crsAny c s k ≡ false
+    go (inl z) = none-below c (c .ports) s k (λ p m. rw (four-without c ok s l (eqb-true _ 4 z) p m) refl)
+    go (inr w) = kept-clear c (c .ports) s k (not-true _ w)
+
+-- ---- the rule of a channel that has the groups of symbol 0 of which `has` holds, and that of PCFICH and of a PHICH unit
+abbrev pub inFirst : Cell → (ℕ → Bool) → ℕ → ℕ → Bool
+inFirst c has s k = eqb s 0 && (inGroup c 0 k && has (elementGroup c 0 k))
+
+module _ (c : Cell) (s k : ℕ) where
+  pub pcfich-first : pcfich c s k ≡ inFirst c (isFormat c) s k
+  unfolding pcfich formatHas
+  pcfich-first = by-test (eqb s 0) (λ e. let z = eqb-true s 0 e in rw z refl) (λ e. rw e (and-false (inGroup c s k)))
+
+  pub phich-first : (m : ℕ) → phich c m s k ≡ ltb m (mappingUnits c) && inFirst c (mappingUnitHas c m 0) s k
+  unfolding phich mappingUnitHas
+  phich-first m =
+      by-test (eqb s 0)
+      (λ e. let z = eqb-true s 0 e in rw z (and-assoc (ltb m (mappingUnits c)) (inGroup c 0 k) (mappingUnitHas c m 0 (elementGroup c 0 k))))
+      (λ e. rw e (simp and-false))
