@@ -100,6 +100,8 @@ int64_t mapper_grid_len(const uint8_t *plan, size_t plan_len);
  * a byte on and filled from the most significant bit: 480 bits of PBCH (432 with the extended prefix), a bit for each HI, and for each user
  * the bits of its modulation's symbol times the number of its elements. The spare bits at a section's end are 0. No plan asks for more than
  * 17000 bytes (proved); the longest payload has 15025: 15000 elements of 8 bits (100 blocks, normal prefix, one port, CFI 1) and 200 HIs.
+ * A user has at least 24 elements for each of its blocks (proved), so that its section is never empty; with no HI, no user and a subframe
+ * other than 0 the payload has no byte.
  *
  * Answers the length, or -1 to -7.
  */
