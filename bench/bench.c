@@ -24,12 +24,12 @@ enum {
     MAX_CALLS = 20000
 };
 
-/* Fields that a row leaves out are 0: identity 101 then, the normal prefix, subframe 1. */
+/* Fields that a row leaves out are 0: identity 101 then, the normal prefix, the normal PHICH duration, subframe 1. */
 struct scenario {
     const char *name;
     unsigned blocks, ports, bits, users, his;
     unsigned identity;
-    bool extended, subframe_0;
+    bool extended, subframe_0, extended_phich;
 };
 
 struct input {
@@ -84,12 +84,14 @@ static void append(struct input *in, const uint8_t *bytes, size_t n)
     in->plan_len += n;
 }
 
-/* CFI 1; the blocks shared out evenly. Where bytes that look like data would set a spare bit, the payload is zeros. */
+/* CFI 1, with the extended PHICH duration 3; the blocks shared out evenly. Where bytes that look like data would set a spare bit, the
+   payload is zeros. */
 static void make(struct input *in, const struct scenario *c)
 {
     in->plan_len = 0;
-    append(in, (uint8_t[]){0x10, 0, c->identity ? c->identity : 101, c->blocks, c->extended, c->ports, c->his ? 12 : 1}, 7);
-    append(in, (uint8_t[]){0x11, 0, 0, !c->subframe_0, 1}, 5);
+    append(in, (uint8_t[]){c->extended_phich ? 0x12 : 0x10, 0, c->identity ? c->identity : 101}, 3);
+    append(in, (uint8_t[]){c->blocks, c->extended, c->ports, c->his ? 12 : 1, 1}, c->extended_phich ? 5 : 4);
+    append(in, (uint8_t[]){0x11, 0, 0, !c->subframe_0, c->extended_phich ? 3 : 1}, 5);
     for (unsigned i = 0; i < c->his; i++)
         append(in, (uint8_t[]){0x20, i / 8, i % 8}, 3);
     for (unsigned i = 0; i < c->users; i++) {
@@ -211,6 +213,7 @@ static const struct scenario ROWS[] = {
     {"15 users 64QAM, N 15, P 4", 15, 4, 6, 15},
     {"6 users 64QAM, N 6, P 4", 6, 4, 6, 6},
     {"200 HIs, no user, N 100, P 4", 100, 4, 6, 0, 200},
+    {"200 HIs, PHICH extended, P 4", 100, 4, 6, 0, 200, .extended_phich = true},
     {"64QAM, P 4, C mod 3 = 0", 100, 4, 6, 1, .identity = 102},
     {"64QAM, P 4, C mod 3 = 1", 100, 4, 6, 1, .identity = 100},
     {"64QAM, P 4, C mod 3 = 2", 100, 4, 6, 1, .identity = 101},

@@ -1,4 +1,4 @@
-/* The downlink mapper of document 01, with document 02's #102 and #109, in plain C11. Section numbers are those of TS 36.211.
+/* The downlink mapper of document 01, with document 02's #102, #108 and #109, in plain C11. Section numbers are those of TS 36.211.
 
    How it is made fast: the sequence comes 48 bits at a time; a section becomes one byte for each symbol, and symbols become
    elements by tables; the grid is filled symbol row by symbol row, so that a row is silenced and filled while it is in the cache.
@@ -225,9 +225,9 @@ static void to_bits(const uint8_t *sym, size_t n, unsigned q, struct gold g, uin
     }
 }
 
-/* ---- The plan and refusals 1 to 7 ---- */
+/* ---- The plan and refusals 1 to 7 and 18 ---- */
 
-enum { CELL = 0x10, FRAME = 0x11, HI = 0x20, USER = 0x30, END = 0x00 };
+enum { CELL = 0x10, CELLX = 0x12, FRAME = 0x11, HI = 0x20, USER = 0x30, END = 0x00 };
 
 struct user {
     uint16_t rnti;
@@ -239,6 +239,7 @@ struct user {
 
 struct plan {
     unsigned identity, blocks, extended, ports, sixths;
+    unsigned extended_phich;                   /* the extended PHICH duration */
     unsigned frame, subframe, cfi;
     unsigned control;                      /* symbols of the control region */
     unsigned slot, symbols, groups, sequences;
@@ -267,8 +268,9 @@ static int take_cell(struct plan *p, const uint8_t *c)
     p->extended = c[4];
     p->ports = c[5];
     p->sixths = c[6];
+    p->extended_phich = c[0] == CELLX ? c[7] : 0;
     if (p->identity > 503 || !is_width(p->blocks) || p->extended > 1
-        || !one_of(p->ports, 1, 2, 4, 4) || !one_of(p->sixths, 1, 3, 6, 12))
+        || !one_of(p->ports, 1, 2, 4, 4) || !one_of(p->sixths, 1, 3, 6, 12) || p->extended_phich > 1)
         return 3;
     p->slot = p->extended ? 6 : 7;
     p->symbols = 2 * p->slot;
@@ -283,7 +285,9 @@ static int take_frame(struct plan *p, const uint8_t *c)
     p->subframe = c[3];
     p->cfi = c[4];
     p->control = p->blocks == 6 ? p->cfi + 1 : p->cfi;
-    return p->frame > 1023 || p->subframe > 9 || p->cfi < 1 || p->cfi > 3 ? 4 : 0;
+    if (p->frame > 1023 || p->subframe > 9 || p->cfi < 1 || p->cfi > 3)
+        return 4;
+    return p->extended_phich && p->control < 3 ? 18 : 0;
 }
 
 static int take_hi(struct plan *p, const uint8_t *c)
@@ -331,6 +335,7 @@ static size_t size_of(uint8_t command)
 {
     switch (command) {
     case CELL: return 7;
+    case CELLX: return 8;
     case FRAME: return 5;
     case HI: return 3;
     case USER: return 6;
@@ -355,6 +360,7 @@ static int parse(struct plan *p, const uint8_t *w, size_t len)
             return 1;
         switch (c[0]) {
         case CELL:
+        case CELLX:
             refusal = state != AT_START ? 2 : take_cell(p, c);
             state = AFTER_CELL;
             break;
@@ -672,7 +678,7 @@ static void put_sss(const struct plan *p, uint8_t *row)
     }
 }
 
-/* ---- Control symbol (6.7, 6.9) ---- */
+/* ---- Control symbols (6.7, 6.9) ---- */
 
 /* PCFICH's four groups in ascending order, and in the order of its quads. */
 static void pcfich_groups(const struct plan *p, unsigned quad[4], unsigned sorted[4])
@@ -704,12 +710,24 @@ static void put_pcfich(const struct plan *p, uint8_t *const row[], const unsigne
         put_halves(p, row, group[i], 1, shape, sym + 4 * i, 4 * i, &QPSK);
 }
 
-/* Where quad i of a PHICH unit lies: the groups left by PCFICH in ascending order. */
-static unsigned phich_group(const struct plan *p, const unsigned pcfich[4], unsigned unit, unsigned i)
+/* The i-th quads of all PHICH units: their symbol, the subcarriers of a group there, how many groups PCFICH leaves, and the number of
+   unit 0's among these, in ascending order; the other units' follow. */
+struct quads {
+    unsigned symbol, size, left, start;
+};
+
+static struct quads quads_of(const struct plan *p, unsigned i)
 {
-    unsigned h = 2 * p->blocks - 4;
-    unsigned group = (p->identity + unit + i * h / 3) % h;
-    for (unsigned j = 0; j < 4; j++)
+    unsigned s = p->extended_phich ? i : 0;
+    unsigned size = s == 0 || (s == 1 && p->ports == 4) ? 6 : 4;
+    unsigned left = 12 * p->blocks / size - (s ? 0 : 4);
+    return (struct quads){s, size, left, p->identity * left / (2 * p->blocks - 4) + i * left / 3};
+}
+
+static unsigned phich_group(const struct quads *q, const unsigned pcfich[4], unsigned unit)
+{
+    unsigned group = (q->start + unit) % q->left;
+    for (unsigned j = 0; q->symbol == 0 && j < 4; j++)
         group += group >= pcfich[j];
     return group;
 }
@@ -759,14 +777,14 @@ static void unit_sums(const struct plan *p, const uint8_t *bits, struct sum sums
     }
 }
 
-/* A quad of sums at a group's places, on the ports whose turn it is. */
-static void put_quad(const struct plan *p, uint8_t *const row[], unsigned group, unsigned odd, const struct sum d[4])
+/* A quad of sums at the places of a group of `size` subcarriers, on the ports whose turn it is. A group of six skips two. */
+static void put_quad(const struct plan *p, uint8_t *const row[], unsigned size, unsigned group, unsigned odd, const struct sum d[4])
 {
     static const unsigned OFFSETS[3][2] = {{3, 6}, {0, 6}, {0, 3}};
-    const unsigned *o = OFFSETS[p->identity % 3];
+    const unsigned *o = OFFSETS[size == 6 ? p->identity % 3 : 2];
     unsigned a = p->ports == 4 ? odd : 0, b = p->ports == 4 ? odd + 2 : 1;
     for (unsigned pair = 0; pair < 2; pair++, d += 2) {
-        size_t at = 18 * (size_t)group + 9 * pair;
+        size_t at = 3 * (size_t)size * group + 3 * size / 2 * pair;
         unsigned unit = p->ports == 1 ? 2 : 4;
         put(row[a] + at + o[0], (uint8_t[]){ELEMENT(unit, d[0].i, d[0].j)});
         put(row[a] + at + o[1], (uint8_t[]){ELEMENT(unit, d[1].i, d[1].j)});
@@ -777,37 +795,40 @@ static void put_quad(const struct plan *p, uint8_t *const row[], unsigned group,
     }
 }
 
-static void put_phich(const struct plan *p, uint8_t *const row[], const unsigned pcfich[4], const uint8_t *bits)
+/* The quads that lie in symbol s. */
+static void put_phich(const struct plan *p, uint8_t *const row[], unsigned s, const unsigned pcfich[4], struct sum sums[MAX_UNITS][4])
 {
-    struct sum sums[MAX_UNITS][4];
-    unit_sums(p, bits, sums);
     struct gold g = control_sequence(p);
     unsigned c = (unsigned)gold_bits(&g, 12);
-    for (unsigned unit = 0; unit < p->groups >> p->extended; unit++) {
-        for (unsigned quad = 0; quad < 3; quad++) {
+    for (unsigned quad = 0; quad < 3; quad++) {
+        struct quads q = quads_of(p, quad);
+        if (q.symbol != s)
+            continue;
+        for (unsigned unit = 0; unit < p->groups >> p->extended; unit++) {
             struct sum d[4];
             for (unsigned i = 0; i < 4; i++) {
                 int sign = SIGN(scrambling(p, c, quad, i));
                 d[i] = (struct sum){sign * sums[unit][i].i, sign * sums[unit][i].j};
             }
-            put_quad(p, row, phich_group(p, pcfich, unit, quad), (quad + unit) % 2, d);
+            put_quad(p, row, q.size, phich_group(&q, pcfich, unit), (quad + unit) % 2, d);
         }
     }
 }
 
-/* The HIs' bits, each from its unit's first quad: the spreading sequences are orthogonal there, so the product with one of them has
-   the sign of its own bit. */
+/* The HIs' bits, each from its unit's first quad, which lies in symbol 0: the spreading sequences are orthogonal there, so the product
+   with one of them has the sign of its own bit. */
 static void get_phich(const struct plan *p, const uint8_t *const row[], uint8_t *bits)
 {
     static const unsigned PLACES[3][4] = {{1, 2, 4, 5}, {0, 2, 3, 5}, {0, 1, 3, 4}};
     unsigned quads[4], pcfich[4];
     pcfich_groups(p, quads, pcfich);
+    struct quads first = quads_of(p, 0);
     struct gold g = control_sequence(p);
     unsigned c = (unsigned)gold_bits(&g, 12);
     memset(bits, 0, MAX_HIS / 8);
     for (unsigned h = 0; h < p->n_his; h++) {
         struct spread w = spread_of(p, p->his + 3 * h);
-        const uint8_t *group = row[p->ports == 4 ? w.unit % 2 : 0] + 18 * (size_t)phich_group(p, pcfich, w.unit, 0);
+        const uint8_t *group = row[p->ports == 4 ? w.unit % 2 : 0] + 18 * (size_t)phich_group(&first, pcfich, w.unit);
         int product = 0;
         for (unsigned n = 0; n < w.n; n++) {
             const uint8_t *e = group + 3 * PLACES[p->identity % 3][w.first + n];
@@ -823,6 +844,7 @@ static void get_phich(const struct plan *p, const uint8_t *const row[], uint8_t 
 /* What the rows are made from. */
 struct content {
     const uint8_t *his;                    /* the HIs' section */
+    struct sum sums[MAX_UNITS][4];         /* the PHICH units' sums */
     size_t pbch_done;                      /* PBCH symbols in the rows before this one */
     uint8_t pbch[PBCH_SYMBOLS];
     uint8_t users[MAX_SYMBOLS];            /* a symbol's bits in each byte */
@@ -866,12 +888,15 @@ static void get_users(const struct plan *p, const uint8_t *const row[], unsigned
     }
 }
 
-static void put_control(const struct plan *p, uint8_t *const row[], const struct content *c)
+static void put_control(const struct plan *p, uint8_t *const row[], unsigned s, struct content *c)
 {
     unsigned quads[4], sorted[4];
     pcfich_groups(p, quads, sorted);
-    put_pcfich(p, row, quads);
-    put_phich(p, row, sorted, c->his);
+    if (s == 0) {
+        put_pcfich(p, row, quads);
+        unit_sums(p, c->his, c->sums);
+    }
+    put_phich(p, row, s, sorted, c->sums);
 }
 
 static void put_row(struct plan *p, uint8_t *const row[], unsigned s, struct content *c)
@@ -879,8 +904,8 @@ static void put_row(struct plan *p, uint8_t *const row[], unsigned s, struct con
     for (unsigned port = 0; port < p->ports; port++)
         memset(row[port], 0, 36 * p->blocks);
     put_crs(p, row, s);
-    if (s == 0)
-        put_control(p, row, c);
+    if (s == 0 || (p->extended_phich && s < 3))
+        put_control(p, row, s, c);
     if (has_sync(p, s))
         (s == p->slot - 1 ? put_pss : put_sss)(p, row[0]);
     if (has_pbch(p, s))

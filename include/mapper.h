@@ -1,8 +1,8 @@
 /*
  * mapper.h - the LTE downlink mapper's functions for C (link libmapper.a).
  *
- * A plan describes one subframe of one cell: CELL, FRAME, any HIs, any USERs, END. From a plan and a payload the mapper builds the
- * grid of resource elements of every antenna port; from a plan and a grid it reads the payload back.
+ * A plan describes one subframe of one cell: CELL or CELLX, FRAME, any HIs, any USERs, END. From a plan and a payload the mapper builds
+ * the grid of resource elements of every antenna port; from a plan and a grid it reads the payload back.
  *
  * Answers
  *   Every function answers an int64_t. An answer of 0 or more is a count, a length, a kind or a value, as said at each function. An
@@ -10,7 +10,7 @@
  *
  *     -1   the plan has an unknown command, or ends before a command's operands or before END
  *     -2   a command is out of order, or any byte stands after END
- *     -3   a field of CELL is out of range
+ *     -3   a field of CELL or CELLX is out of range
  *     -4   a field of FRAME is out of range
  *     -5   an HI's group is not below ceil(g N / 48), extended prefix twice that (g is N_g in sixths), its sequence not below 8,
  *          extended prefix 4, or the pair was used before
@@ -22,17 +22,22 @@
  *    -11   the payload has not the plan's length
  *    -12   mapper_build: a spare bit of the payload is set
  *    -13   mapper_read: no accepted payload (of the right length, spare bits 0) makes this grid
+ *    -18   at FRAME: the PHICH duration is extended and the control region is shorter than its three symbols
  *
- *   1 to 7 are the plan's refusals: the first fault from left to right, in one command the least number. Every function that takes a
- *   plan checks the whole plan first and can answer with them. Then come the buffers, 10 before 11 before 12 or 13.
+ *   1 to 7 and 18 are the plan's refusals: the first fault from left to right, in one command the least number. Every function that takes
+ *   a plan checks the whole plan first and can answer with them. Then come the buffers, 10 before 11 before 12 or 13. No refusal has a
+ *   number from 14 to 17.
  *
  * Plan
  *   Commands of one byte, in hexadecimal here, with operands of fixed widths, big-endian, in this order:
  *
  *     10   CELL, once: identity (2 bytes, 0 to 503), blocks N (6, 15, 25, 50, 75, 100), prefix (0 normal, 1 extended), ports P (1, 2, 4),
  *          N_g in sixths (1, 3, 6, 12)
+ *     12   CELLX, in the place of CELL: the same operands, then the PHICH duration (0 normal, as with CELL; 1 extended: a PHICH unit's
+ *          twelve elements lie four each in symbols 0, 1 and 2, not all in symbol 0)
  *     11   FRAME, once: frame number (2 bytes, 0 to 1023), subframe (0 to 9), CFI (1 to 3): the control region, where no user has
- *          elements, is the first CFI symbols, the first CFI + 1 where N is 6
+ *          elements, is the first CFI symbols, the first CFI + 1 where N is 6; with the extended PHICH duration it has three at least:
+ *          CFI 3, or 2 or 3 where N is 6
  *     20   HI, any number: PHICH group, sequence
  *     30   USER, any number: RNTI (2 bytes, 1 to 65535), bits of a symbol (2, 4, 6, 8), first block, number of blocks (1 or more)
  *     00   END
@@ -80,7 +85,7 @@ extern "C" {
  *
  *   plan, plan_len   the plan's bytes
  *
- * Answers 0 for an accepted plan, or -1 to -7.
+ * Answers 0 for an accepted plan, or -1 to -7 or -18.
  */
 int64_t mapper_check(const uint8_t *plan, size_t plan_len);
 
@@ -91,7 +96,7 @@ int64_t mapper_check(const uint8_t *plan, size_t plan_len);
  * (I + jJ) / sqrt(u). The byte is u itself, but 255 for unit 340 (256QAM on two or four ports). Unit 63 is a phase instead,
  * exp(-2j * pi * I / 63) with I from 0 to 62 and J 0; unit 0 is silence, 0 0 0. mapper_sample_* take such three bytes.
  *
- * Answers the length, or -1 to -7.
+ * Answers the length, or -1 to -7 or -18.
  */
 int64_t mapper_grid_len(const uint8_t *plan, size_t plan_len);
 
@@ -103,7 +108,7 @@ int64_t mapper_grid_len(const uint8_t *plan, size_t plan_len);
  * A user has at least 24 elements for each of its blocks (proved), so that its section is never empty; with no HI, no user and a subframe
  * other than 0 the payload has no byte.
  *
- * Answers the length, or -1 to -7.
+ * Answers the length, or -1 to -7 or -18.
  */
 int64_t mapper_payload_len(const uint8_t *plan, size_t plan_len);
 
@@ -114,7 +119,7 @@ int64_t mapper_payload_len(const uint8_t *plan, size_t plan_len);
  *   payload, payload_len   the payload: mapper_payload_len bytes, spare bits 0
  *   grid, grid_len         written: mapper_grid_len bytes
  *
- * Answers the number of the users' elements (ports not multiplied), or -1 to -7, -10, -11, -12; the grid then stays as it was.
+ * Answers the number of the users' elements (ports not multiplied), or -1 to -7, -18, -10, -11, -12; the grid then stays as it was.
  */
 int64_t mapper_build(const uint8_t *plan, size_t plan_len, const uint8_t *payload, size_t payload_len, uint8_t *grid, size_t grid_len);
 
@@ -126,8 +131,8 @@ int64_t mapper_build(const uint8_t *plan, size_t plan_len, const uint8_t *payloa
  *   grid, grid_len         the grid: mapper_grid_len bytes
  *   payload, payload_len   written: mapper_payload_len bytes, spare bits 0
  *
- * Answers the number of the users' elements (ports not multiplied), or -1 to -7, -10, -11, and -13 exactly where no accepted payload makes the grid; the
- * payload then stays as it was.
+ * Answers the number of the users' elements (ports not multiplied), or -1 to -7, -18, -10, -11, and -13 exactly where no accepted payload
+ * makes the grid; the payload then stays as it was.
  */
 int64_t mapper_read(const uint8_t *plan, size_t plan_len, const uint8_t *grid, size_t grid_len, uint8_t *payload, size_t payload_len);
 
@@ -139,7 +144,7 @@ int64_t mapper_read(const uint8_t *plan, size_t plan_len, const uint8_t *grid, s
  *   k                the subcarrier, from 0
  *   port             the antenna port, from 0
  *
- * Answers the owner's number, or -1 to -7, or -8 where s, k or port lies outside the grid:
+ * Answers the owner's number, or -1 to -7 or -18, or -8 where s, k or port lies outside the grid:
  *
  *     0 to 3    CRS of that port        64 + m    PHICH unit m
  *     16        PSS                     256 + i   user i, in the plan's order from 0
@@ -155,7 +160,7 @@ int64_t mapper_owner(const uint8_t *plan, size_t plan_len, size_t s, size_t k, s
  *   plan, plan_len   the plan's bytes
  *   kind             0 CRS, 1 PSS, 2 SSS, 3 PBCH, 4 PCFICH, 5 PHICH, 6 PDSCH (all users), 7 held, 8 idle
  *
- * Answers the count (0 for a kind above 8), or -1 to -7.
+ * Answers the count (0 for a kind above 8), or -1 to -7 or -18.
  */
 int64_t mapper_count(const uint8_t *plan, size_t plan_len, size_t kind);
 

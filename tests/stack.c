@@ -1,5 +1,5 @@
 /* How deep mapper_build and mapper_read go on the stack. Each call runs on a stack of its own that was painted before, on the plans that
-   ask most of it and on one of the narrowest cell; the deepest byte that lost its paint tells the depth. Fails above the limit. */
+   ask most of it and on some of the narrowest cell; the deepest byte that lost its paint tells the depth. Fails above the limit. */
 #include <stdbool.h>
 #include <stdio.h>
 #include <stdlib.h>
@@ -26,13 +26,16 @@ static void append(const uint8_t *bytes, size_t n)
     plan_len += n;
 }
 
-/* Four ports, as many PHICH groups as can be; the blocks shared out evenly. */
-static void make(uint8_t blocks, uint8_t prefix, uint8_t subframe, bool his, unsigned users, uint8_t bits)
+/* Four ports, as many PHICH groups as can be; the blocks shared out evenly. The extended PHICH duration needs three control symbols. */
+static void make(uint8_t blocks, uint8_t prefix, bool extended_phich, uint8_t subframe, bool his, unsigned users, uint8_t bits)
 {
     uint8_t groups = (12 * blocks + 47) / 48 << prefix, sequences = prefix ? 4 : 8;
     plan_len = 0;
-    append((uint8_t[]){0x10, 1, 247, blocks, prefix, 4, 12}, 7);
-    append((uint8_t[]){0x11, 3, 255, subframe, 1}, 5);
+    if (extended_phich)
+        append((uint8_t[]){0x12, 1, 247, blocks, prefix, 4, 12, 1}, 8);
+    else
+        append((uint8_t[]){0x10, 1, 247, blocks, prefix, 4, 12}, 7);
+    append((uint8_t[]){0x11, 3, 255, subframe, !extended_phich ? 1 : blocks == 6 ? 2 : 3}, 5);
     for (uint8_t group = 0; his && group < groups; group++)
         for (uint8_t sequence = 0; sequence < sequences; sequence++)
             append((uint8_t[]){0x20, group, sequence}, 3);
@@ -87,7 +90,7 @@ static size_t deepest(const char *name, const char *what, void (*call)(void), in
             exit(1);
         }
     }
-    printf("stack: %-12s %-36s %6zu bytes\n", name, what, most);
+    printf("stack: %-12s %-44s %6zu bytes\n", name, what, most);
     return most;
 }
 
@@ -107,22 +110,27 @@ int main(void)
 {
     static const struct {
         const char *what;
-        uint8_t blocks, prefix, subframe;
+        uint8_t blocks, prefix;
+        bool extended_phich;
+        uint8_t subframe;
         bool his;
         unsigned users;
         uint8_t bits;
     } PLANS[] = {
-        {"one user, 64QAM", 100, 0, 1, false, 1, 6},
-        {"one user, 256QAM", 100, 0, 1, false, 1, 8},
-        {"100 users", 100, 0, 1, false, 100, 6},
-        {"200 HIs", 100, 0, 1, true, 0, 6},
-        {"subframe 0, 200 HIs, 100 users", 100, 0, 0, true, 100, 6},
-        {"extended, subframe 0, HIs, 100 users", 100, 1, 0, true, 100, 8},
-        {"6 blocks, subframe 0, HIs, 6 users", 6, 0, 0, true, 6, 8},
+        {"one user, 64QAM", 100, 0, false, 1, false, 1, 6},
+        {"one user, 256QAM", 100, 0, false, 1, false, 1, 8},
+        {"100 users", 100, 0, false, 1, false, 100, 6},
+        {"200 HIs", 100, 0, false, 1, true, 0, 6},
+        {"subframe 0, 200 HIs, 100 users", 100, 0, false, 0, true, 100, 6},
+        {"extended prefix, subframe 0, HIs, 100 users", 100, 1, false, 0, true, 100, 8},
+        {"6 blocks, subframe 0, HIs, 6 users", 6, 0, false, 0, true, 6, 8},
+        {"extended PHICH, 200 HIs, 100 users", 100, 0, true, 0, true, 100, 6},
+        {"both extended, HIs, 100 users", 100, 1, true, 0, true, 100, 8},
+        {"6 blocks, extended PHICH, HIs", 6, 0, true, 0, true, 6, 8},
     };
     size_t most = 0;
     for (size_t i = 0; i < sizeof PLANS / sizeof PLANS[0]; i++) {
-        make(PLANS[i].blocks, PLANS[i].prefix, PLANS[i].subframe, PLANS[i].his, PLANS[i].users, PLANS[i].bits);
+        make(PLANS[i].blocks, PLANS[i].prefix, PLANS[i].extended_phich, PLANS[i].subframe, PLANS[i].his, PLANS[i].users, PLANS[i].bits);
         size_t bytes = all_calls(PLANS[i].what);
         most = bytes > most ? bytes : most;
     }

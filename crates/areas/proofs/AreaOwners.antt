@@ -20,7 +20,8 @@ use Rattle.plan.proofs.Counts.{blocks-least}
 use Rattle.plan.proofs.Listed.{every-at}
 use Rattle.plan.proofs.Valid.{valid}
 use Rattle.layout.specs.Rules.{slotLength, slotOf, middle, inPbchArea as areaTest}
-use Rattle.layout.specs.Owners.{symbols, carriers, controlSymbols, blocksHave, userHas, owns}
+use Rattle.plan.specs.Fields.{controlSymbols}
+use Rattle.layout.specs.Owners.{symbols, carriers, blocksHave, userHas, owns}
 use Rattle.layout.specs.declared.Owner.the-variants.{Pbch, User as UserOf}
 use Rattle.layout.proofs.Pilot.{slot-length}
 use Rattle.counts.specs.Counts.{countOf}

@@ -5,7 +5,8 @@ use mathlib.Core.Bool.{true, false}
 use Rattle.plan.specs.declared.Cell.{Cell}
 use Rattle.plan.specs.declared.Frame.{Frame}
 use Rattle.plan.specs.declared.User.{User}
-use Rattle.layout.specs.Owners.{symbols, controlSymbols}
+use Rattle.plan.specs.Fields.{controlSymbols}
+use Rattle.layout.specs.Owners.{symbols}
 use Rattle.layout.specs.Rules.{slotLength}
 use Rattle.areas.specs.declared.Area.{Area}
 use Rattle.areas.specs.Areas.{pbchArea, userArea}

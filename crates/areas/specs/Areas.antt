@@ -13,7 +13,8 @@ use Rattle.plan.specs.Valid.{CellIn, FrameIn}
 use Rattle.plan.specs.declared.Cell.{Cell}
 use Rattle.plan.specs.declared.Frame.{Frame}
 use Rattle.plan.specs.declared.User.{User}
-use Rattle.layout.specs.Owners.{symbols, controlSymbols}
+use Rattle.plan.specs.Fields.{controlSymbols}
+use Rattle.layout.specs.Owners.{symbols}
 use Rattle.layout.specs.Rules.{slotLength}
 use Rattle.base.specs.Counts.{cnt}
 use Rattle.places.specs.Places.{symbolAt, carrierAt, placesOf}

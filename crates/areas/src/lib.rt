@@ -64,7 +64,7 @@ pub fn user_area(cell: Cell, frame: Frame, u: User) -> Area
     Area {
         cell: cell,
         frame: frame,
-        first: layout::control_symbols(cell, frame),
+        first: plan::control_symbols(cell, frame),
         last: layout::symbols(cell),
         from: 2 * first,
         to: 2 * (first + count),

@@ -14,13 +14,10 @@ use Rattle.precoding.specs.Places.{onPort, partnerIndex}
 use Rattle.plan.specs.declared.Cell.{Cell}
 use Rattle.plan.proofs.Listed.{and-left, and-right}
 use Rattle.places.specs.Places.{placesOf}
-use Rattle.places.specs.Quads.{quadIndex}
-use Rattle.places.proofs.Quads.{place-index}
 use Rattle.grid.specs.Writing.{sends, sentAt, Room}
 use Rattle.grid.proofs.Accumulating.{Deed, Step, Accumulates, empty}
 use Rattle.control.specs.declared.PairAt.{PairAt}
-use Rattle.control.specs.Pairs.{PairIn, firstPlace, secondPlace, pairSends, pairSent}
-use Rattle.control.proofs.Listings.{place-inside}
+use Rattle.control.specs.Pairs.{PairIn, pairSends, pairSent}
 use Rattle.control.proofs.ListedPlaces.{sentBy, upTo, valueBy, sent-none, sent-all, grows, value-at}
 
 -- ---- tests
@@ -38,54 +35,46 @@ sent-place P T ports t e h = eqb-true (e % T) t (and-left (eqb (e % T) t) (sends
 
 -- ---- two places
 module _ {c : Cell} {x : PairAt} (ok : PairIn c x) where
-  -- they are not one
-  apart : firstPlace c x ≡ secondPlace c x → ⊥
-  apart q =
-      let k : ℕ = 2 * x .half in
-      let z : k ≡ k + 1 =
-      sym (place-index c (x .group) (ok .group) k (omega (arith, ok .half))) ∙ ap (quadIndex c 0) q ∙ place-index c (x .group) (ok .group) (k + 1) (omega (arith, ok .half)) in
-      omega arith
+  -- what `put_place` and `compare_place` require there
+  pub first-ok : {T : ℕ} {g : List ℕ} → Room (c .ports) (placesOf c) g → T ≡ placesOf c → Room (c .ports) T g × (x .«first_place» < T) × Small 127 (x .second)
+  first-ok room t = (rw t room, rw t (ok .first-inside), ok .second)
 
-  -- what `put_place` and `look_place` require there
-  pub first-ok : {T a : ℕ} {g : List ℕ} → Room (c .ports) (placesOf c) g → T ≡ placesOf c → a ≡ firstPlace c x → Room (c .ports) T g × (a < T) × Small 127 (x .second)
-  first-ok room t q = (rw t room, rw (t, q) (place-inside c (x .group) (2 * x .half) (ok .group) (omega (arith, ok .half))), ok .second)
-
-  pub second-ok : {T b : ℕ} {g : List ℕ} → Room (c .ports) (placesOf c) g → T ≡ placesOf c → b ≡ secondPlace c x → Room (c .ports) T g × (b < T) × Small 127 (x .first)
-  second-ok room t q = (rw t room, rw (t, q) (place-inside c (x .group) (2 * x .half + 1) (ok .group) (omega (arith, ok .half))), ok .first)
+  pub second-ok : {T : ℕ} {g : List ℕ} → Room (c .ports) (placesOf c) g → T ≡ placesOf c → Room (c .ports) T g × (x .«second_place» < T) × Small 127 (x .first)
+  second-ok room t = (rw t room, rw t (ok .second-inside), ok .first)
 
   value-first :
-      (e : ℕ) → sentAt (c .ports) (placesOf c) (x .«port_pair») (firstPlace c x) e ≡ true
+      (e : ℕ) → sentAt (c .ports) (placesOf c) (x .«port_pair») (x .«first_place») e ≡ true
       → onPort (c .ports) (x .«port_pair») 2 0 (x .first) (x .second) (e / placesOf c) ≡ pairSent c x e
   unfolding sentAt pairSent
-  value-first e h = rw (and-left (eqb (e % placesOf c) (firstPlace c x)) (sends (c .ports) (x .«port_pair») (e / placesOf c)) h) refl
+  value-first e h = rw (and-left (eqb (e % placesOf c) (x .«first_place»)) (sends (c .ports) (x .«port_pair») (e / placesOf c)) h) refl
 
   value-second :
-      (e : ℕ) → sentAt (c .ports) (placesOf c) (x .«port_pair») (secondPlace c x) e ≡ true
+      (e : ℕ) → sentAt (c .ports) (placesOf c) (x .«port_pair») (x .«second_place») e ≡ true
       → onPort (c .ports) (x .«port_pair») 2 1 (x .second) (x .first) (e / placesOf c) ≡ pairSent c x e
   unfolding pairSent
   value-second e h =
-      let q = sent-place (c .ports) (placesOf c) (x .«port_pair») (secondPlace c x) e h in
-      rw (ne-eqb (e % placesOf c) (firstPlace c x) (λ z. apart (sym z ∙ q))) refl
+      let q = sent-place (c .ports) (placesOf c) (x .«port_pair») (x .«second_place») e h in
+      rw (ne-eqb (e % placesOf c) (x .«first_place») (λ z. ok .apart (sym z ∙ q))) refl
 
   -- THE LAW of `put_pair` and `compare_pair`, in the code's terms
   pub pair-done :
-      {X : Type 0} {Done : Deed X} {Also : Step X} {none y z : X} → Accumulates Done Also none → {T a b : ℕ} → T ≡ placesOf c → a ≡ firstPlace c x → b ≡ secondPlace c x
-      → Done (sentAt (c .ports) T (x .«port_pair») a) (λ (e : ℕ). onPort (c .ports) (x .«port_pair») 2 0 (x .first) (x .second) (e / T)) y
-      → Also (sentAt (c .ports) T (x .«port_pair») b) (λ (e : ℕ). onPort (c .ports) (x .«port_pair») 2 1 (x .second) (x .first) (e / T)) y z
+      {X : Type 0} {Done : Deed X} {Also : Step X} {none y z : X} → Accumulates Done Also none → {T : ℕ} → T ≡ placesOf c
+      → Done (sentAt (c .ports) T (x .«port_pair») (x .«first_place»)) (λ (e : ℕ). onPort (c .ports) (x .«port_pair») 2 0 (x .first) (x .second) (e / T)) y
+      → Also (sentAt (c .ports) T (x .«port_pair») (x .«second_place»)) (λ (e : ℕ). onPort (c .ports) (x .«port_pair») 2 1 (x .second) (x .first) (e / T)) y z
       → Done (pairSends c x) (pairSent c x) z
   unfolding pairSends
-  pair-done A t p q one two =
+  pair-done A t one two =
       let τ = x .«port_pair» in
-      A .more (λ e h k. apart (sym (sent-place (c .ports) (placesOf c) τ (firstPlace c x) e h) ∙ sent-place (c .ports) (placesOf c) τ (secondPlace c x) e k))
-      (A .same (λ e. refl) value-first (rw (t, p) at one)) (rw (t, q) at two) value-second (λ e. refl)
+      A .more (λ e h k. ok .apart (sym (sent-place (c .ports) (placesOf c) τ (x .«first_place») e h) ∙ sent-place (c .ports) (placesOf c) τ (x .«second_place») e k))
+      (A .same (λ e. refl) value-first (rw t at one)) (rw t at two) value-second (λ e. refl)
 
 -- ---- a channel of listed places
 -- the symbols of the indices 2n and 2n + 1 are those of the pair x, at its places and on its ports
 pub record Stands (c : Cell) (at ports : ℕ → ℕ) (d : ℕ → Pair) (n : ℕ) (x : PairAt) : Type 0 where
   pub ports-one : ports (2 * n) ≡ x .«port_pair»
   pub ports-two : ports (2 * n + 1) ≡ x .«port_pair»
-  pub one : at (2 * n) ≡ firstPlace c x
-  pub two : at (2 * n + 1) ≡ secondPlace c x
+  pub one : at (2 * n) ≡ x .«first_place»
+  pub two : at (2 * n + 1) ≡ x .«second_place»
   pub first : x .first ≡ d (2 * n)
   pub second : x .second ≡ d (2 * n + 1)
 
@@ -113,10 +102,10 @@ module _ (c : Cell) {m : ℕ} {own : ℕ → Bool} {at index : ℕ → ℕ} (por
 
   module _ {n : ℕ} {x : PairAt} (in-n : 2 * n + 1 < m) (ok : PairIn c x) (z : Stands c at ports d n x) where
     abbrev First : ℕ → Bool
-    First = sentAt (c .ports) (placesOf c) (x .«port_pair») (firstPlace c x)
+    First = sentAt (c .ports) (placesOf c) (x .«port_pair») (x .«first_place»)
 
     abbrev Second : ℕ → Bool
-    Second = sentAt (c .ports) (placesOf c) (x .«port_pair») (secondPlace c x)
+    Second = sentAt (c .ports) (placesOf c) (x .«port_pair») (x .«second_place»)
 
     first-at : (e : ℕ) → First e ≡ true → At (2 * n) e ≡ true
     first-at e h = rw (z .ports-one, z .one) h

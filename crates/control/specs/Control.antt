@@ -14,17 +14,17 @@ use Rattle.precoding.specs.Places.{placed}
 use Rattle.phich.specs.Loops.{scrambledSums}
 use Rattle.phich.specs.Spreading.{spreadLength}
 use Rattle.plan.specs.declared.Cell.{Cell}
-use Rattle.layout.specs.Rules.{quadGroup, pcfich, phich, formatGroup}
+use Rattle.layout.specs.Rules.{formatGroup, pcfich, quadSymbol, quadGroup, phich}
 use Rattle.places.specs.Places.{symbolAt, carrierAt, placesOf}
 use Rattle.places.specs.Quads.{quadsIndex}
 use Rattle.grid.specs.Writing.{sends}
 
 -- which of PCFICH's places t is, and which of unit m's
 unfoldable pub pcfichIndex : Cell → ℕ → ℕ
-pcfichIndex c t = quadsIndex c 4 (formatGroup c) (carrierAt c t)
+pcfichIndex c t = quadsIndex c 4 (λ (i : ℕ). 0) (formatGroup c) (symbolAt c t) (carrierAt c t)
 
 unfoldable pub phichIndex : Cell → ℕ → ℕ → ℕ
-phichIndex c m t = quadsIndex c 3 (quadGroup c m) (carrierAt c t)
+phichIndex c m t = quadsIndex c 3 (quadSymbol c) (quadGroup c m) (symbolAt c t) (carrierAt c t)
 
 -- the elements that PCFICH sends: those of its places, on the ports with a term
 unfoldable pub pcfichSends : Cell → ℕ → Bool

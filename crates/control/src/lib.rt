@@ -9,13 +9,14 @@ ghost use Rattle.gold.specs.Sequence.{binary};
 ghost use Rattle.codeword.specs.Codewords.{cfiBit};
 ghost use Rattle.plan.specs.Valid.{CellIn};
 ghost use Rattle.phich.specs.Spreading.{spreadLength};
+ghost use Rattle.layout.specs.Rules.{symbolGroups};
 ghost use Rattle.control.specs.Pairs.{PairIn, PcfichPair, unitPair};
 
-// Two symbols that are sent beside each other, at places 2·half and 2·half + 1 of a group of symbol 0, and which pair of antenna ports
-// sends them (6.3.4.3, 6.9.2).
+// Two symbols that are sent beside each other, the numbers of their places, two of a group's four, and which pair of antenna ports sends
+// them (6.3.4.3, 6.9.2).
 pub struct PairAt {
-    pub group: usize,
-    pub half: usize,
+    pub first_place: usize,
+    pub second_place: usize,
     pub port_pair: u8,
     pub first: Pair,
     pub second: Pair,
@@ -50,9 +51,10 @@ pub fn pcfich_pair(cell: Cell, cfi: u8, s: Registers, n: usize) -> PairAt
 {
     let w = cfi_word(cfi, 4 * n) ^ gold::word(s, 4);
     let ports = (n % 2) as u8;
+    let group = layout::format_group(cell, n / 2);
     PairAt {
-        group: layout::format_group(cell, n / 2),
-        half: n % 2,
+        first_place: places::quad_place(cell, 0, group, 2 * (n % 2)),
+        second_place: places::quad_place(cell, 0, group, 2 * (n % 2) + 1),
         port_pair: ports,
         first: modulation::qpsk(w / 4),
         second: modulation::qpsk(w % 4),
@@ -66,10 +68,18 @@ pub fn spread_length(cell: Cell) -> usize
     if cell.prefix == 1 { 2 } else { 4 }
 }
 
-// Pair n of the twelve sums of unit m: half n % 2 of quad n / 2, whose group callers know. An accepted plan has 25 units at most.
-pub fn unit_pair(m: usize, group: usize, sums: [Pair; 12], n: usize) -> PairAt
-    requires { ⌜ (m < 256) × (n < 6) ⌝ }
-    ensures { λ x. ⌜ x ≡ unitPair m group sums n ⌝ }
+// Pair n of the twelve sums of unit m: half n % 2 of quad n / 2, whose symbol and group callers know. An accepted plan has 25 units at
+// most.
+pub fn unit_pair(
+    cell: Cell,
+    m: usize,
+    symbol: usize,
+    group: usize,
+    sums: [Pair; 12],
+    n: usize,
+) -> PairAt
+    requires { ⌜ (m < 256) × (symbol < 3) × (group < symbolGroups cell symbol) × (n < 6) ⌝ }
+    ensures { λ x. ⌜ x ≡ unitPair cell m symbol group sums n ⌝ }
 {
     let i = 2 * n;
     let j = 2 * n + 1;
@@ -77,8 +87,8 @@ pub fn unit_pair(m: usize, group: usize, sums: [Pair; 12], n: usize) -> PairAt
     let first = sums[i];
     let second = sums[j];
     PairAt {
-        group: group,
-        half: n % 2,
+        first_place: places::quad_place(cell, symbol, group, 2 * (n % 2)),
+        second_place: places::quad_place(cell, symbol, group, 2 * (n % 2) + 1),
         port_pair: ports,
         first: first,
         second: second,

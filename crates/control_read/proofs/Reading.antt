@@ -38,7 +38,7 @@ use Rattle.plan.specs.declared.Hi.{Hi}
 use Rattle.plan.specs.declared.CommandList.{CommandList}
 use Rattle.plan.specs.Fields.{mappingUnits}
 use Rattle.plan.proofs.Counts.{units-most}
-use Rattle.places.specs.Places.{placesOf}
+use Rattle.places.specs.Places.{placeNumber, placesOf}
 use Rattle.places.specs.Quads.{quadPlace}
 use Rattle.payload.specs.Sections.{sectionBytes}
 use Rattle.recovery.specs.Recovery.{sectionOf}
@@ -47,7 +47,8 @@ use Rattle.control.proofs.His.{his-in}
 use Rattle.control.proofs.Listings.{place-inside, phich-groups}
 use Rattle.control_read.proofs.Packing.{Packed, push-ok, push-more, pushed-length, packed-none, packed-all}
 use Rattle.control.proofs.Words.{word-bits}
-use Rattle.layout.specs.Rules.{quadGroup}
+use Rattle.layout.specs.Rules.{symbolGroups, quadSymbol, quadGroup}
+use Rattle.layout.proofs.GroupShape.{first-quad}
 
 -- ---- the first quads
 step-odd : (P x : ℕ) → ownPort P (x % 2) ≡ ownPort P x
@@ -55,12 +56,12 @@ unfolding ownPort
 step-odd P x = let e : x % 2 % 2 ≡ x % 2 = omega arith in ap (λ (y : ℕ). cond (eqb P 4) y 0) e
 
 module _ {c : Cell} {m : ℕ} {grid : List ℕ} (ok : UnitRead c m grid) {i : ℕ} (in-i : i < 4) {g : ℕ} (eg : g ≡ quadGroup c m 0) where
-  pub group-in : g < 2 * c .blocks
-  group-in = rw eg (phich-groups c (ok .cell) m (ok .unit) .small 0 (omega arith))
+  pub group-in : g < symbolGroups c 0
+  group-in = omega (arith, eg, phich-groups c (ok .cell) m (ok .unit) .small 0 (omega arith), ap (symbolGroups c) (first-quad c))
 
-  module _ {t port q T : ℕ} (et : t ≡ quadPlace c 0 g i) (ep : port ≡ ownPort (c .ports) (m % 2)) (eq : q ≡ port) (eT : T ≡ placesOf c) where
+  module _ {t port q T : ℕ} (et : t ≡ placeNumber c 0 (quadPlace c 0 g i)) (ep : port ≡ ownPort (c .ports) (m % 2)) (eq : q ≡ port) (eT : T ≡ placesOf c) where
     pub element-fits : (q * T < 2 ^ 64) × (q * T + t < 2 ^ 64) × (3 * (q * T + t) + 2 < length grid)
-    element-fits = rw eT (own-fits (ok .room) (m % 2) q t (eq ∙ ep) (rw et (place-inside c g i group-in in-i)))
+    element-fits = rw eT (own-fits (ok .room) (m % 2) q t (eq ∙ ep) (rw et (place-inside c 0 g i (omega arith) group-in in-i)))
 
     element-is : q * T + t ≡ ownElement c ((4 * m + i) / 4) ((4 * m + i) % 4)
     unfolding ownElement
@@ -71,8 +72,8 @@ module _ {c : Cell} {m : ℕ} {grid : List ℕ} (ok : UnitRead c m grid) {i : �
         let o : m ≡ i / 4 + m = omega arith in
         let k : i ≡ i % 4 = omega arith in
         ap₂ (λ (x y : ℕ). x * y + t) (eq ∙ ep ∙ step-odd (c .ports) m) eT
-        ∙ ap (λ (x : ℕ). ownPort (c .ports) m * placesOf c + x) (et ∙ ap (λ (x : ℕ). quadPlace c 0 x i) eg)
-        ∙ ap₂ (λ (x y : ℕ). ownPort (c .ports) x * placesOf c + y) o (ap₂ (λ (x y : ℕ). quadPlace c 0 (quadGroup c m x) y) z k)
+        ∙ ap (λ (x : ℕ). ownPort (c .ports) m * placesOf c + x) (et ∙ ap₂ (λ (s x : ℕ). placeNumber c s (quadPlace c s x i)) (sym (first-quad c)) eg)
+        ∙ ap₂ (λ (x y : ℕ). ownPort (c .ports) x * placesOf c + y) o (ap₂ (λ (x y : ℕ). placeNumber c (quadSymbol c x) (quadPlace c (quadSymbol c x) (quadGroup c m x) y)) z k)
         ∙ ap₂ (ownElement c) u v
 
     -- one more place is read

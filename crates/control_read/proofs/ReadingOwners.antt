@@ -3,7 +3,6 @@
 use Prim.Native.Nat.{ℕ, _+_, _*_, _/_, _%_}
 use mathlib.Core.Path.{_≡_, sym, ap, _∙_}
 use mathlib.Core.List.{List}
-use native.Mathlib.Nat.{zero-mul}
 use native.Mathlib.Omega.{arith}
 use lib.ListN.{length}
 use Rattle.base.specs.Bytes.{pairOf}
@@ -21,10 +20,9 @@ use Rattle.plan.specs.Check.{checkOf}
 use Rattle.plan.specs.CommandLists.{hisOf}
 use Rattle.plan.specs.declared.Plan.{Plan}
 use Rattle.plan.specs.declared.Checked.the-variants.{Plan as accepted}
-use Rattle.layout.specs.Owners.{carriers}
 use Rattle.layout.specs.declared.Owner.the-variants.{Phich}
-use Rattle.layout.specs.Rules.{quadGroup}
-use Rattle.places.specs.Places.{placesOf, placeOf}
+use Rattle.layout.specs.Rules.{quadSymbol, quadGroup}
+use Rattle.places.specs.Places.{placeNumber, placesOf, placeOf}
 use Rattle.places.specs.Quads.{quadPlace}
 use Rattle.places.proofs.Listing.{phich-place}
 use Rattle.payload.specs.Sections.{sectionBytes}
@@ -34,12 +32,10 @@ use Rattle.control.proofs.ControlOwners.{cell-his}
 use Rattle.control_read.specs.Reading.{ownElement, sumRead, sumsOf, ackFrom, HisRead, ReadIn}
 
 module _ (w : List ℕ) (p : Plan) (g : List ℕ) where
-  place-is : (m i : ℕ) → quadPlace (p .cell) 0 (quadGroup (p .cell) m (i / 4)) (i % 4) ≡ placeOf w p (Phich m) i
+  place-is : (m i : ℕ) → let s = quadSymbol (p .cell) (i / 4) in placeNumber (p .cell) s (quadPlace (p .cell) s (quadGroup (p .cell) m (i / 4)) (i % 4)) ≡ placeOf w p (Phich m) i
   place-is m i =
       let e : 4 * (i / 4) + i % 4 ≡ i = omega arith in
-      let h : placeOf w p (Phich m) i ≡ 0 * carriers (p .cell) + quadPlace (p .cell) 0 (quadGroup (p .cell) m (i / 4)) (i % 4) =
-      ap (placeOf w p (Phich m)) (sym e) ∙ phich-place w p m (i / 4) (i % 4) (omega arith) in
-      omega (arith, zero-mul (carriers (p .cell)))
+      sym (ap (placeOf w p (Phich m)) (sym e) ∙ phich-place w p m (i / 4) (i % 4) (omega arith))
 
   -- the sums of a unit
   pub sums-are : (m : ℕ) → sumsOf (p .cell) m g ≡ sumsIn w p g m

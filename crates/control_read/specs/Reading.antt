@@ -23,15 +23,16 @@ use Rattle.plan.specs.Valid.{CellIn}
 use Rattle.plan.specs.declared.Cell.{Cell}
 use Rattle.plan.specs.declared.Hi.{Hi}
 use Rattle.plan.specs.declared.CommandList.{CommandList}
-use Rattle.places.specs.Places.{placesOf}
+use Rattle.places.specs.Places.{placeNumber, placesOf}
 use Rattle.places.specs.Quads.{quadPlace}
 use Rattle.payload.specs.Sections.{sectionBytes}
-use Rattle.layout.specs.Rules.{quadGroup}
+use Rattle.layout.specs.Rules.{quadSymbol, quadGroup}
 use Rattle.control.specs.Filling.{CellHis}
 
 -- the number of the element at place i of unit m, on the port that sends the sum itself: quad i / 4 uses one port or the other by i / 4 + m
 unfoldable pub ownElement : Cell → ℕ → ℕ → ℕ
-ownElement c m i = ownPort (c .ports) (i / 4 + m) * placesOf c + quadPlace c 0 (quadGroup c m (i / 4)) (i % 4)
+ownElement c m i =
+    let s = quadSymbol c (i / 4) in ownPort (c .ports) (i / 4 + m) * placesOf c + placeNumber c s (quadPlace c s (quadGroup c m (i / 4)) (i % 4))
 
 -- the sum at place i of unit m in a grid, and all twelve
 unfoldable pub sumRead : Cell → ℕ → List ℕ → ℕ → Pair

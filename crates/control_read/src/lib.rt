@@ -22,7 +22,7 @@ fn read_quad(cell: Cell, m: usize, grid: &[u8], first: &mut [u8; 200])
     let own = base::wide(port) * layout::places(cell);
     let mut i: usize = 0;
     while i < 4 {
-        let e = grid::get(grid, own + places::quad_place(cell, g, i));
+        let e = grid::get(grid, own + places::quad_place(cell, 0, g, i));
         let at = 2 * (4 * m + i);
         first[at] = e.i;
         first[at + 1] = e.j;

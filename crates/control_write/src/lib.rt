@@ -19,24 +19,22 @@ fn put_pair(cell: Cell, x: PairAt, grid: &mut [u8])
     ensures { λ _. ⌜ Written (pairSends cell x) (pairSent cell x) (now (grid .entry)) (now (grid .exit)) ⌝ }
 {
     let places = layout::places(cell);
-    let a = places::quad_place(cell, x.group, 2 * x.half);
     grid::put_place(
         grid,
         cell.ports,
         places,
-        a,
+        x.first_place,
         x.port_pair,
         2,
         0,
         x.first,
         x.second,
     );
-    let b = places::quad_place(cell, x.group, 2 * x.half + 1);
     grid::put_place(
         grid,
         cell.ports,
         places,
-        b,
+        x.second_place,
         x.port_pair,
         2,
         1,
@@ -67,9 +65,14 @@ fn put_unit(cell: Cell, m: usize, sums: [Pair; 12], grid: &mut [u8])
 {
     let mut n: usize = 0;
     while n < 3 {
+        let s = layout::quad_symbol(cell, n);
         let g = places::unit_group(cell, m, n);
-        put_pair(cell, control::unit_pair(m, g, sums, 2 * n), grid);
-        put_pair(cell, control::unit_pair(m, g, sums, 2 * n + 1), grid);
+        put_pair(cell, control::unit_pair(cell, m, s, g, sums, 2 * n), grid);
+        put_pair(
+            cell,
+            control::unit_pair(cell, m, s, g, sums, 2 * n + 1),
+            grid,
+        );
         n += 1;
     }
 }

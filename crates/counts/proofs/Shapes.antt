@@ -14,7 +14,7 @@ use Rattle.plan.specs.declared.Cell.{Cell}
 use Rattle.plan.specs.declared.Frame.{Frame}
 use Rattle.plan.specs.declared.User.{User}
 use Rattle.layout.specs.Rules.{slotLength}
-use Rattle.layout.specs.Owners.{controlSymbols}
+use Rattle.plan.specs.Fields.{controlSymbols}
 use Rattle.layout.proofs.Pilot.{slot-length}
 use Rattle.counts.specs.declared.SlotShape.{SlotShape}
 use Rattle.counts.specs.declared.Shape.{Shape}

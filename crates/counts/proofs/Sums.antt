@@ -2,7 +2,7 @@
 use Prim.Native.Nat.{ℕ, zero, suc, _+_, _*_, _%_, _≤_, _<_}
 use mathlib.Core.Path.{_≡_, refl, sym, _∙_}
 use mathlib.Core.List.{List, [], _∷_, _++_}
-use native.Mathlib.Nat.{add-zero, add-suc, suc-mul, zero-mul, add-mul, not-suc-le-zero}
+use native.Mathlib.Nat.{add-zero, add-suc, suc-mul, zero-mul, add-mul, not-suc-le-zero, mul-zero, mul-suc}
 use native.Mathlib.Omega.{arith}
 use lib.Dec.{eqb}
 use borrow.Author.Tests.{eqb-true, eqb-false}
@@ -64,6 +64,12 @@ sum-part (suc n) f j l =
     by-test (eqb j n)
     (λ e. rw (eqb-true j n e) (omega arith))
     (λ e. let z : (j ≡ n) → ⊥ = eqb-false j n e in omega (arith, sum-part n f j (omega arith)))
+
+-- z at a time
+pub blocks : (z n : ℕ) (f : ℕ → ℕ) → sumTo (z * n) f ≡ sumTo n (λ b. sumTo z (λ r. f (z * b + r)))
+unfolding sumTo
+blocks z zero f = rw (mul-zero z) refl
+blocks z (suc n) f = rw (mul-suc z n, sum-parts (z * n) z f, blocks z n f) refl
 
 -- six at a time
 abbrev pub six : (ℕ → ℕ) → ℕ → ℕ

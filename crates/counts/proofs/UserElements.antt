@@ -8,11 +8,11 @@ use native.Mathlib.Nat.{not-suc-le-zero, le-of-suc-le-suc, mul-comm}
 use native.Mathlib.Omega.{arith}
 use lib.Dec.{T, leb, ltb, eqb}
 use lib.ListN.{length, getD}
-use borrow.Author.Tests.{ne-eqb, lt-ltb, le-ltb, le-leb, lt-leb, ltb-true, ltb-false}
+use borrow.Author.Tests.{lt-ltb, le-ltb, le-leb, lt-leb, ltb-true, ltb-false}
 use Rattle.base.proofs.Tests.{by-test, clash}
 use Rattle.base.specs.Tables.{table}
 use Rattle.plan.specs.Lists.{noneOf}
-use Rattle.plan.specs.Fields.{mappingUnits}
+use Rattle.plan.specs.Fields.{controlSymbols, mappingUnits}
 use Rattle.plan.specs.Check.{checkOf}
 use Rattle.plan.specs.CommandLists.{usersOf}
 use Rattle.plan.specs.Valid.{UserIn, Valid}
@@ -25,8 +25,7 @@ use Rattle.plan.proofs.Listed.{every-at}
 use Rattle.plan.proofs.Valid.{valid}
 use Rattle.base.specs.Choice.{indicator}
 use Rattle.layout.specs.Rules.{slotLength, slotOf, crs, crsBelow, crsOfFour, crsAny, marked, centre, used, pss, sss, inSyncArea, heldBySync, inPbchArea, pbch, heldByPbch, held}
-use Rattle.layout.specs.Rules.{pcfich, phich}
-use Rattle.layout.specs.Owners.{symbols, carriers, controlSymbols, fixedRule, above, free, userHas, userRule, blocksHave, owns}
+use Rattle.layout.specs.Owners.{symbols, carriers, fixedRule, above, free, userHas, userRule, blocksHave, owns}
 use Rattle.layout.specs.declared.Owner.{Owner}
 use Rattle.layout.specs.declared.Owner.the-variants.{Phich, User as UserOf}
 use Rattle.counts.specs.Sums.{sumTo}
@@ -36,12 +35,11 @@ use Rattle.counts.proofs.Logic.{by-table, agree, agreed}
 use Rattle.counts.proofs.Sums.{sum-same, sum-none, sum-times, by-six}
 use Rattle.layout.proofs.Fixed.{used-centre}
 use Rattle.layout.proofs.Pilot.{hits}
-use Rattle.layout.proofs.GroupShape.{pcfich-first, phich-first}
-use Rattle.layout.proofs.ControlRegion.{region-least}
+use Rattle.layout.proofs.ControlRegion.{AfterRegion, after-region}
 use Rattle.counts.proofs.Signals.{Refs, refs, half-left}
 use Rattle.counts.proofs.Halves.{within, central, blocks-half, centre-half, halves-are}
 
--- ---- which places no owner above the users has, after symbol 0
+-- ---- which places no owner above the users has, after the control region
 -- the tests of CRS (r0 to r3), of the marks' symbols (y and z, in a subframe with marks m), of the centre (c) and what is used of it (v),
 -- of PBCH's area (a) and of the places that it skips (q), taken together
 abbrev noneAbove : Bool → Bool → Bool → Bool → Bool → Bool → Bool → Bool → Bool → Bool → Bool → Bool
@@ -66,24 +64,18 @@ joined r0 r1 r2 r3 m y z c v a q h = agreed _ _ (unless v c _ (by-table 11 told 
 spread : (x y c : Bool) → (x || y) && c ≡ x && c || y && c
 spread x y c = agreed _ _ (by-table 3 (λ x y c. agree ((x || y) && c) (x && c || y && c)) tt x y c)
 
-module _ (c : Cell) (f : Frame) (s k : ℕ) (late : 0 < s) where
-  no-unit : (m : ℕ) → phich c m s k ≡ false
-  no-unit m = phich-first c s k m ∙ rw (ne-eqb s 0 (λ e. omega arith)) (and-false (ltb m (mappingUnits c)))
-
+module _ (c : Cell) (f : Frame) (s k : ℕ) (late : AfterRegion c s) where
   no-units : (n : ℕ) (g : ℕ → ℕ) → noneOf (λ (o : Owner). fixedRule c f o s k) (table n (λ i. Phich (g i))) ≡ true
   unfolding noneOf table fixedRule
   no-units zero g = refl
-  no-units (suc n) g = rw (no-unit (g 0)) (no-units n (λ i. g (suc i)))
-
-  no-format : pcfich c s k ≡ false
-  no-format = pcfich-first c s k ∙ rw (ne-eqb s 0 (λ e. omega arith)) refl
+  no-units (suc n) g = rw (late .no-unit k (g 0)) (no-units n (λ i. g (suc i)))
 
   -- no owner above the users: no reference signal, and neither the area of the marks nor PBCH's
   pub area-free : free c f s k ≡ not (crsAny c s k) && not (inSyncArea c f s k || inPbchArea c f s k)
   unfolding free above noneOf fixedRule pss sss pbch held heldBySync heldByPbch crsBelow crs inSyncArea
   area-free =
       let L = slotLength c in
-      rw (no-format, no-units (mappingUnits c) (λ i. i))
+      rw (late .no-format k, no-units (mappingUnits c) (λ i. i))
       (joined (crs c 0 s k) (crs c 1 s k) (crs c 2 s k) (crs c 3 s k) (marked f) (eqb (s + 1) L) (eqb (s + 2) L) (centre c k) (used c k) (inPbchArea c f s k) (crsOfFour c s k) (used-centre c k))
 
   -- so not the centre where it is taken
@@ -124,7 +116,7 @@ module _ (w : List ℕ) (p : Plan) (ok : Valid w p) (d : User) (i : ℕ) (li : i
       rw (lt-ltb s (controlSymbols (p .cell) (p .frame)) l)
       (sum-none (carriers (p .cell)) _ (λ k m. rw (lt-leb (controlSymbols (p .cell) (p .frame)) s l, and-false) refl))
 
-  module _ (late : controlSymbols (p .cell) (p .frame) ≤ s) (some : 0 < s) where
+  module _ (late : controlSymbols (p .cell) (p .frame) ≤ s) where
     at-place : (q : Refs (p .cell) (p .cell .ports) s) (h r k : ℕ) → r < 6 → k ≡ 6 * h + r
         → indicator (userRule w p i s k) ≡ indicator (has h && not (hits (q .u) (q .v) (q .x) r))
     unfolding userRule
@@ -132,7 +124,8 @@ module _ (w : List ℕ) (p : Plan) (ok : Valid w p) (d : User) (i : ℕ) (li : i
         let x : k / 6 ≡ h = omega arith in
         let y : k % 6 ≡ r = omega arith in
         let n = slotOf (p .cell) s in
-        rw (has-at d (usersOf w p) i n k li, blocks-half u n k, le-leb (controlSymbols (p .cell) (p .frame)) s late, late-free (p .cell) (p .frame) s k some, q .held k, centre-half (p .cell) k, x, y)
+        let opens = late-free (p .cell) (p .frame) s k (after-region w p ok s late) in
+        rw (has-at d (usersOf w p) i n k li, blocks-half u n k, le-leb (controlSymbols (p .cell) (p .frame)) s late, opens, q .held k, centre-half (p .cell) k, x, y)
         (ap indicator (shuffle (within (2 * u .first) (2 * (u .first + u .count)) h) (hits (q .u) (q .v) (q .x) r) (taken (p .cell) (p .frame) s && central (p .cell) h)))
 
     late-row : Row ≡ rowElements (p .cell) (p .frame) (u .first) (u .count) s
@@ -152,7 +145,7 @@ module _ (w : List ℕ) (p : Plan) (ok : Valid w p) (d : User) (i : ℕ) (li : i
   row =
       by-test (ltb s (controlSymbols (p .cell) (p .frame)))
       (λ e. early-row (ltb-true _ _ e))
-      (λ e. let z = ltb-false _ _ e in late-row z (omega (arith, region-least (p .cell) (p .frame), ok .frame .some)))
+      (λ e. late-row (ltb-false _ _ e))
 
 -- THE LAW: user i's element count, for any d (there is a user i)
 pub user-elements : (w : List ℕ) (p : Plan) → checkOf w ≡ accepted p → (d : User) (i : ℕ) → i < length (usersOf w p)

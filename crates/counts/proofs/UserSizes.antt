@@ -25,9 +25,11 @@ use Rattle.plan.proofs.Valid.{valid}
 use Rattle.plan.proofs.Counts.{blocks-most}
 use Rattle.base.specs.Choice.{indicator}
 use Rattle.layout.specs.Rules.{slotLength, inSlot, marked}
-use Rattle.layout.specs.Owners.{symbols, carriers, controlSymbols}
+use Rattle.plan.specs.Fields.{controlSymbols}
+use Rattle.layout.specs.Owners.{symbols, carriers}
 use Rattle.layout.proofs.Pilot.{slot-length, slot-short, late-unused}
-use Rattle.layout.proofs.ControlRegion.{region-six, region-before-sync}
+use Rattle.plan.proofs.ControlRegion.{region-six}
+use Rattle.layout.proofs.ControlRegion.{region-before-sync}
 use Rattle.layout.specs.declared.Owner.the-variants.{User as UserOf}
 use Rattle.counts.specs.Sums.{sumTo, sumOf}
 use Rattle.counts.specs.Counts.{countOf}

@@ -7,7 +7,7 @@ use Rattle.plan.specs.declared.Frame.{Frame}
 use Rattle.plan.specs.declared.User.{User}
 use Rattle.base.specs.Choice.{if_then_else_}
 use Rattle.layout.specs.Rules.{slotLength}
-use Rattle.layout.specs.Owners.{controlSymbols}
+use Rattle.plan.specs.Fields.{controlSymbols}
 use Rattle.counts.specs.declared.SlotShape.{SlotShape}
 use Rattle.counts.specs.declared.Shape.{Shape}
 use Rattle.counts.specs.Sums.{sumTo}

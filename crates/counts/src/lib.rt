@@ -99,7 +99,7 @@ fn centre_halves(cell: Cell, first: u8, count: u8) -> usize
 fn row_places(cell: Cell, frame: Frame, s: usize) -> usize
     ensures { λ r. ⌜ r ≡ rowPlaces cell frame s ⌝ }
 {
-    if s < layout::control_symbols(cell, frame) {
+    if s < plan::control_symbols(cell, frame) {
         return 0;
     }
     half_places(cell, s)

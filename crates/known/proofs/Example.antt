@@ -7,15 +7,14 @@ use lib.ListN.{length, getD}
 use borrow.Author.Tests.{eq-eqb}
 use Rattle.base.specs.Tables.{table}
 use Rattle.plan.specs.Lists.{oneOf, noneOf}
-use Rattle.plan.specs.Commands.{cellOf, frameOf, hiOf, userOf, entries, entryIn, sizeOf, commandOf, commandsAfter}
-use Rattle.plan.specs.Fields.{cellOk, frameOk, mappingUnits, phichGroups, sequencesOf, hiOk, samePair, userOk, clash}
+use Rattle.plan.specs.Commands.{cellWith, cellOf, frameOf, hiOf, userOf, entries, entryIn, sizeOf, commandOf, commandsAfter}
+use Rattle.plan.specs.Fields.{controlSymbols, cellOk, frameOk, phichFits, mappingUnits, phichGroups, sequencesOf, hiOk, samePair, userOk, clash}
 use Rattle.plan.specs.Check.{begin, hiFault, userFault, fault, stateAfter, planOf, run, checkOf}
 use Rattle.plan.specs.declared.Plan.{Plan}
 use Rattle.plan.specs.declared.Checked.the-variants.{Plan as accepted}
 use Rattle.plan.specs.CommandLists.{commandsFrom, usersOf}
 use Rattle.base.specs.Bits.{bitAt}
 use Rattle.layout.specs.Rules.{slotLength, inSlot, crsSymbol, marked}
-use Rattle.layout.specs.Owners.{controlSymbols}
 use Rattle.counts.specs.Sums.{sumTo, sumOf}
 use Rattle.counts.specs.Counts.{kinds, kindCount}
 use Rattle.counts.specs.Users.{signals, taken, halves, rowElements, userElements, allElements, usersElements}
@@ -31,12 +30,12 @@ use Rattle.counted.specs.Gridcount.{acceptedWith, countedOf, gridcountOf}
 use Rattle.known.specs.Example.{example, examplePlan, broadcast, broadcastPlan, zeros, exampleCounts, broadcastCounts, Example}
 
 example-plan : checkOf example ≡ accepted examplePlan
-unfolding oneOf noneOf cellOf frameOf hiOf userOf entries entryIn sizeOf commandOf commandsAfter cellOk frameOk mappingUnits phichGroups sequencesOf hiOk samePair userOk clash
+unfolding oneOf noneOf cellWith cellOf frameOf hiOf userOf entries entryIn sizeOf commandOf commandsAfter cellOk frameOk phichFits mappingUnits phichGroups sequencesOf hiOk samePair userOk clash
     begin hiFault userFault fault stateAfter planOf run checkOf
 example-plan = refl
 
 broadcast-plan : checkOf broadcast ≡ accepted broadcastPlan
-unfolding oneOf noneOf cellOf frameOf hiOf userOf entries entryIn sizeOf commandOf commandsAfter cellOk frameOk mappingUnits phichGroups sequencesOf hiOk samePair userOk clash
+unfolding oneOf noneOf cellWith cellOf frameOf hiOf userOf entries entryIn sizeOf commandOf commandsAfter cellOk frameOk phichFits mappingUnits phichGroups sequencesOf hiOk samePair userOk clash
     begin hiFault userFault fault stateAfter planOf run checkOf
 broadcast-plan = refl
 

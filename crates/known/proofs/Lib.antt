@@ -1,3 +1,4 @@
 pub mod Known
 pub mod Example
 pub mod SixBlocks
+pub mod Extended

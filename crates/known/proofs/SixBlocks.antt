@@ -4,14 +4,13 @@ use mathlib.Core.Path.{_≡_, refl, sym, _∙_}
 use mathlib.Core.List.{List, [], _∷_}
 use Rattle.base.specs.Tables.{table}
 use Rattle.plan.specs.Lists.{oneOf, noneOf}
-use Rattle.plan.specs.Commands.{cellOf, frameOf, hiOf, userOf, entries, entryIn, sizeOf, commandOf, commandsAfter}
-use Rattle.plan.specs.Fields.{cellOk, frameOk, mappingUnits, phichGroups, sequencesOf, hiOk, samePair, userOk, clash}
+use Rattle.plan.specs.Commands.{cellWith, cellOf, frameOf, hiOf, userOf, entries, entryIn, sizeOf, commandOf, commandsAfter}
+use Rattle.plan.specs.Fields.{controlSymbols, cellOk, frameOk, phichFits, mappingUnits, phichGroups, sequencesOf, hiOk, samePair, userOk, clash}
 use Rattle.plan.specs.Check.{begin, hiFault, userFault, fault, stateAfter, planOf, run, checkOf, verdictOf}
 use Rattle.plan.specs.declared.Checked.the-variants.{Plan as accepted}
 use Rattle.plan.specs.CommandLists.{commandsFrom, usersOf}
 use Rattle.base.specs.Bits.{bitAt}
 use Rattle.layout.specs.Rules.{slotLength, inSlot, crsSymbol, marked}
-use Rattle.layout.specs.Owners.{controlSymbols}
 use Rattle.counts.specs.Sums.{sumTo, sumOf}
 use Rattle.counts.specs.Counts.{kinds, kindCount}
 use Rattle.counts.specs.Users.{signals, taken, halves, rowElements, userElements, allElements, usersElements}
@@ -29,7 +28,7 @@ abbrev narrow : List ℕ
 narrow = narrowWith 6
 
 narrow-checked : (checkOf narrow ≡ accepted narrowPlan) × (verdictOf (checkOf (narrowWith 5)) ≡ 3) × (verdictOf (checkOf (narrowWith 7)) ≡ 3)
-unfolding oneOf noneOf cellOf frameOf hiOf userOf entries entryIn sizeOf commandOf commandsAfter cellOk frameOk mappingUnits phichGroups sequencesOf hiOk samePair userOk clash
+unfolding oneOf noneOf cellWith cellOf frameOf hiOf userOf entries entryIn sizeOf commandOf commandsAfter cellOk frameOk phichFits mappingUnits phichGroups sequencesOf hiOk samePair userOk clash
     begin hiFault userFault fault stateAfter planOf run checkOf
 narrow-checked = (refl, refl, refl)
 

@@ -22,9 +22,9 @@ Agree (entry a b ∷ entries) = (a ≡ b) × Agree entries
 abbrev pub pair : ℤ → ℤ → Pair
 pair i j = record { re = i; im = j }
 
--- a cell of 15 blocks; of its other fields the groups ask only the identity
+-- a cell of 15 blocks with the normal PHICH duration; of its other fields the groups of symbol 0 ask only the identity
 abbrev pub cell15 : ℕ → Cell
-cell15 C = record { identity = C; blocks = 15; prefix = 0; ports = 1; sixths = 1 }
+cell15 C = record { identity = C; blocks = 15; prefix = 0; ports = 1; sixths = 1; duration = 0 }
 
 abbrev pub entries : List Entry
 entries =

@@ -19,7 +19,7 @@ example = 0x10 ∷ 0 ∷ 0 ∷ 0x0F ∷ 0 ∷ 1 ∷ 1 ∷ 0x11 ∷ 0 ∷ 0 ∷ 1
 abbrev pub examplePlan : Plan
 examplePlan =
     record {
-      cell = record { identity = 0; blocks = 15; prefix = 0; ports = 1; sixths = 1 };
+      cell = record { identity = 0; blocks = 15; prefix = 0; ports = 1; sixths = 1; duration = 0 };
       frame = record { number = 0; subframe = 1; cfi = 1 };
       his = record { at = 12; count = 1 };
       users = record { at = 15; count = 1 };
@@ -32,7 +32,7 @@ broadcast = 0x10 ∷ 0 ∷ 0 ∷ 0x0F ∷ 0 ∷ 1 ∷ 1 ∷ 0x11 ∷ 0 ∷ 0 ∷
 abbrev pub broadcastPlan : Plan
 broadcastPlan =
     record {
-      cell = record { identity = 0; blocks = 15; prefix = 0; ports = 1; sixths = 1 };
+      cell = record { identity = 0; blocks = 15; prefix = 0; ports = 1; sixths = 1; duration = 0 };
       frame = record { number = 0; subframe = 0; cfi = 1 };
       his = record { at = 12; count = 0 };
       users = record { at = 12; count = 1 };

@@ -18,7 +18,7 @@ narrowWith N = 0x10 ∷ 0 ∷ 0 ∷ N ∷ 1 ∷ 1 ∷ 12 ∷ 0x11 ∷ 0 ∷ 0 �
 abbrev pub narrowPlan : Plan
 narrowPlan =
     record {
-      cell = record { identity = 0; blocks = 6; prefix = 1; ports = 1; sixths = 12 };
+      cell = record { identity = 0; blocks = 6; prefix = 1; ports = 1; sixths = 12; duration = 0 };
       frame = record { number = 0; subframe = 0; cfi = 3 };
       his = record { at = 12; count = 0 };
       users = record { at = 12; count = 1 };

@@ -1,7 +1,7 @@
 -- The owners above the users: a rule that holds is the owner that fixedAt names, and what fixedAt names has a rule that holds.
--- Assumes nothing.
-use Prim.Native.Nat.{ℕ, _+_, _*_, _/_, _%_, _≤_, _<_}
-use mathlib.Core.Path.{_≡_, refl, sym, _∙_}
+-- Assumes an accepted cell and a subcarrier of its grid.
+use Prim.Native.Nat.{ℕ, _+_, _*_, _/_, _≤_, _<_}
+use mathlib.Core.Path.{_≡_, refl, sym, ap, _∙_}
 use mathlib.Core.Logic.{_⊎_, inl, inr}
 use mathlib.Core.Bool.{Bool, true, false, not, _&&_, _||_, and-false}
 use native.Mathlib.Omega.{arith}
@@ -29,10 +29,12 @@ use Rattle.layout.specs.Rules.{
   heldByPbch,
   held,
 }
-use Rattle.layout.specs.Rules.{groupSize, elementGroup, inGroup, isFormat, pcfich, isLeft, mappingUnitHas, phich}
+use Rattle.layout.specs.Rules.{symbolGroups, elementGroup, inGroup, isFormat, formatHas, pcfich, quadSymbol, isLeft, groupsLeft, quadNumber, quadGroup, phich}
 use Rattle.layout.specs.Owners.{fixedRule}
-use Rattle.layout.specs.Chain.{pilot, number, takes, groupAt, controlAt, fixedAt, isIdle}
+use Rattle.layout.specs.Chain.{pilot, number, groupAt, controlAt, fixedAt, isIdle}
 use Rattle.plan.specs.Fields.{mappingUnits}
+use Rattle.plan.specs.Valid.{CellIn}
+use Rattle.plan.proofs.Counts.{blocks-least, ports-most, sixths-most}
 use Rattle.plan.specs.declared.Cell.{Cell}
 use Rattle.plan.specs.declared.Frame.{Frame}
 use Rattle.layout.specs.declared.Mark.{Mark}
@@ -42,8 +44,8 @@ use Rattle.layout.specs.declared.Owner.the-variants.{Crs, Sync, Pbch, Pc
 use Rattle.plan.proofs.Listed.{and-left, and-right}
 use Rattle.layout.proofs.Pilot.{slot-length, late-unused, crs-is, below-is}
 use Rattle.layout.proofs.Groups.{number-small}
-use Rattle.layout.proofs.GroupShape.{kept-clear, pcfich-first, phich-first}
-use Rattle.layout.proofs.Units.{units-fit, unit-has, unit-at, unit-sound}
+use Rattle.layout.proofs.GroupShape.{group-clear, group-below, quad-low}
+use Rattle.layout.proofs.Units.{units-fit, unit-left, unit-number, group-of-number, quad-unit, phich-parts, Takes, number-taken, number-sound}
 
 -- no reference signal in the last two symbols of a slot
 pilot-late : (c : Cell) (s k : ℕ) → s < slotLength c → slotLength c ≤ s + 2 → pilot c s k ≡ 4
@@ -61,11 +63,9 @@ used-centre c k e =
     let b : k < 6 * N + 31 = ltb-true _ _ (and-right (leb (6 * N) (k + 31)) (ltb k (6 * N + 31)) e) in
     both (le-leb (6 * N) (k + 36) (omega arith)) (lt-ltb k (6 * N + 36) (omega arith))
 
--- what a cell and a frame have to satisfy
+-- what a cell and a subcarrier have to satisfy
 pub record Fit (c : Cell) (k : ℕ) : Type 0 where
-  pub wide : 6 ≤ c .blocks
-  pub ports : c .ports ≤ 4
-  pub sixths : c .sixths ≤ 12
+  pub cell : CellIn c
   pub inside : k < 12 * c .blocks
 
 module _ (c : Cell) (f : Frame) (s k : ℕ) (fit : Fit c k) where
@@ -84,6 +84,15 @@ module _ (c : Cell) (f : Frame) (s k : ℕ) (fit : Fit c k) where
   h6 : 6 ≤ slotLength c
   h6 = slot-length c .0
 
+  wide : 6 ≤ c .blocks
+  wide = blocks-least c (fit .cell)
+
+  few-ports : c .ports ≤ 4
+  few-ports = ports-most c (fit .cell)
+
+  units : (t : ℕ) → mappingUnits c ≤ groupsLeft c t / 3
+  units = units-fit c (sixths-most c (fit .cell)) wide
+
   abbrev At : Owner → Type 0
   At o = fixedAt c f s k ≡ o
 
@@ -91,7 +100,7 @@ module _ (c : Cell) (f : Frame) (s k : ℕ) (fit : Fit c k) where
   unfolding crs fixedAt
   at-crs p e =
       let l : p < c .ports = ltb-true _ _ (and-left (ltb p (c .ports)) (crsOf c p s k) e) in
-      let z : q ≡ p = eqb-true _ _ (sym (crs-is c s k p (omega arith)) ∙ and-right (ltb p (c .ports)) (crsOf c p s k) e) in
+      let z : q ≡ p = eqb-true _ _ (sym (crs-is c s k p (omega (arith, few-ports))) ∙ and-right (ltb p (c .ports)) (crsOf c p s k) e) in
       rw (z, lt-ltb p (c .ports) l) refl
 
   -- in the two symbols of the synchronisation marks
@@ -99,7 +108,7 @@ module _ (c : Cell) (f : Frame) (s k : ℕ) (fit : Fit c k) where
     in-sync : marked f ≡ true → (eqb (s + 1) L || eqb (s + 2) L) ≡ true → centre c k ≡ true
         → fixedAt c f s k ≡ (if used c k then Sync (if eqb (s + 1) L then Primary else Secondary) else Held)
     unfolding fixedAt inSyncArea
-    in-sync m e w = rw (pilot-late c s k l u, le-ltb 4 (c .ports) (fit .ports), ne-eqb s 0 (λ z. omega (arith, h6)), m, e, w) refl
+    in-sync m e w = rw (pilot-late c s k l u, le-ltb 4 (c .ports) few-ports, le-ltb s 3 (omega (arith, h6)), m, e, w) refl
 
   at-pss : pss c f s k ≡ true → At (Sync Primary)
   unfolding pss
@@ -150,14 +159,14 @@ module _ (c : Cell) (f : Frame) (s k : ℕ) (fit : Fit c k) where
   unfolding fixedAt inSyncArea
   in-pbch e w =
       let l : L ≤ s = area-second e in
-      rw (w, ne-eqb s 0 (λ z. omega (arith, h6)), ne-eqb (s + 1) L (λ z. omega arith), ne-eqb (s + 2) L (λ z. omega arith), and-false (marked f), e) refl
+      rw (w, le-ltb s 3 (omega (arith, h6)), ne-eqb (s + 1) L (λ z. omega arith), ne-eqb (s + 2) L (λ z. omega arith), and-false (marked f), e) refl
 
   at-pbch : pbch c f s k ≡ true → At Pbch
   unfolding pbch
   at-pbch e =
       let w : ltb q 4 ≡ false = sym (below-is c s k 4 (omega arith)) ∙ not-true _ (and-right (inPbchArea c f s k) (not (crsOfFour c s k)) e) in
       let z : 4 ≤ q = ltb-false _ _ w in
-      in-pbch (and-left (inPbchArea c f s k) (not (crsOfFour c s k)) e) (le-ltb q (c .ports) (omega (arith, fit .ports))) ∙ rw w refl
+      in-pbch (and-left (inPbchArea c f s k) (not (crsOfFour c s k)) e) (le-ltb q (c .ports) (omega (arith, few-ports))) ∙ rw w refl
 
   at-held-pbch : heldByPbch c f s k ≡ true → At Held
   unfolding heldByPbch
@@ -165,7 +174,7 @@ module _ (c : Cell) (f : Frame) (s k : ℕ) (fit : Fit c k) where
       let a = inPbchArea c f s k in
       let b = crsOfFour c s k in
       let e₁ : a && b ≡ true = and-left (a && b) (not (crsAny c s k)) e in
-      let w : ltb q (c .ports) ≡ false = sym (below-is c s k (c .ports) (fit .ports)) ∙ not-true _ (and-right (a && b) (not (crsAny c s k)) e) in
+      let w : ltb q (c .ports) ≡ false = sym (below-is c s k (c .ports) few-ports) ∙ not-true _ (and-right (a && b) (not (crsAny c s k)) e) in
       let v : ltb q 4 ≡ true = sym (below-is c s k 4 (omega arith)) ∙ and-right a b e₁ in
       in-pbch (and-left a b e₁) w ∙ rw v refl
 
@@ -177,43 +186,40 @@ module _ (c : Cell) (f : Frame) (s k : ℕ) (fit : Fit c k) where
       go (inl w) = at-held-sync w
       go (inr w) = at-held-pbch w
 
-  in-group : k / 6 < 2 * N
-  in-group = omega (arith, fit .inside)
+  -- a place of a group of the first three symbols
+  abbrev g : ℕ
+  g = elementGroup c s k
 
-  -- a place of a group of symbol 0
   abbrev kept : Bool
-  kept = inGroup c 0 k
+  kept = inGroup c s k
 
-  in-quad : eqb s 0 ≡ true → kept ≡ true → fixedAt c f s k ≡ groupAt c (k / 6)
-  unfolding inGroup groupSize fixedAt controlAt
-  in-quad z e =
-      let w : eqb (k % 3) (C % 3) ≡ false = not-true _ e in
-      let v : 4 ≤ q = ltb-false q 4 (sym (below-is c s k 4 (omega arith)) ∙ kept-clear c 4 s k w) in
-      rw (le-ltb q (c .ports) (omega (arith, fit .ports)), z, w) refl
+  in-group : elementGroup c s k < symbolGroups c s
+  in-group = group-below c s k (fit .inside)
+
+  in-quad : s < 3 → kept ≡ true → fixedAt c f s k ≡ groupAt c s g
+  unfolding fixedAt controlAt
+  in-quad l e =
+      let v : ltb q (c .ports) ≡ false = sym (below-is c s k (c .ports) few-ports) ∙ group-clear c (fit .cell) s k (omega arith) e in
+      rw (v, lt-ltb s 3 l, e) refl
 
   at-pcfich : pcfich c s k ≡ true → At Pcfich
-  unfolding groupAt elementGroup groupSize
+  unfolding pcfich formatHas groupAt
   at-pcfich e =
-      let b = isFormat c (k / 6) in
-      let e₁ : eqb s 0 && (kept && b) ≡ true = sym (pcfich-first c s k) ∙ e in
-      let e₂ = and-right (eqb s 0) (kept && b) e₁ in
-      in-quad (and-left (eqb s 0) (kept && b) e₁) (and-left kept b e₂) ∙ rw (and-right kept b e₂) refl
+      let has = eqb s 0 && isFormat c g in
+      let z : s ≡ 0 = eqb-true s 0 (and-left (eqb s 0) (isFormat c g) (and-right kept has e)) in
+      in-quad (omega arith) (and-left kept has e) ∙ rw (and-right kept has e) refl
 
   at-phich : (m : ℕ) → phich c m s k ≡ true → At (Phich m)
-  unfolding groupAt isLeft elementGroup groupSize
+  unfolding groupAt isLeft
   at-phich m e =
-      let a = ltb m (mappingUnits c) in
-      let u = mappingUnitHas c m 0 (k / 6) in
-      let d = not (isFormat c (k / 6)) in
-      let t = takes c m (number c (k / 6)) in
-      let e₁ : a && (eqb s 0 && (kept && u)) ≡ true = sym (phich-first c s k m) ∙ e in
-      let e₂ = and-right a (eqb s 0 && (kept && u)) e₁ in
-      let e₃ = and-right (eqb s 0) (kept && u) e₂ in
-      let dt : d && t ≡ true = sym (unit-has c (fit .wide) m (k / 6) in-group) ∙ and-right kept u e₃ in
-      let z : 6 ≤ N = fit .wide in
-      in-quad (and-left (eqb s 0) (kept && u) e₂) (and-left kept u e₃)
-      ∙ rw (not-true (isFormat c (k / 6)) (and-left d t dt))
-      (unit-at c (omega arith) (units-fit c (fit .sixths) (fit .wide)) m (ltb-true _ _ (and-left a (eqb s 0 && (kept && u)) e₁)) (number c (k / 6)) (and-right d t dt))
+      let x = phich-parts c m s k e in
+      let i = x .2 .0 in
+      let es : s ≡ quadSymbol c i = x .2 .2 in
+      let eg : g ≡ quadGroup c m i = x .2 .3 in
+      let left : not (formatHas c s g) ≡ true = ap (λ (t : ℕ). isLeft c t g) es ∙ ap (isLeft c (quadSymbol c i)) eg ∙ unit-left c wide m i in
+      let n : number c s g ≡ quadNumber c m i = ap (λ (t : ℕ). number c t g) es ∙ ap (number c (quadSymbol c i)) eg ∙ unit-number c wide m i in
+      in-quad (omega (arith, quad-low c i, x .2 .1)) (x .1)
+      ∙ rw (not-true (formatHas c s g) left) (number-taken c wide units s (number c s g) m (x .0) (i, x .2 .1, sym es, n))
 
   -- a rule that holds is the owner's that fixedAt names
   pub fixed-at : (o : Owner) → fixedRule c f o s k ≡ true → fixedAt c f s k ≡ o
@@ -240,29 +246,29 @@ module _ (c : Cell) (f : Frame) (s k : ℕ) (fit : Fit c k) where
   unfolding fixedRule crs
   ok-crs e i =
       let l : q < c .ports = ltb-true _ _ e in
-      both e (crs-is c s k q (omega (arith, fit .ports)) ∙ eq-eqb q q refl)
+      both e (crs-is c s k q (omega (arith, few-ports)) ∙ eq-eqb q q refl)
 
-  module _ (z : eqb s 0 ≡ true) (w : eqb (k % 3) (C % 3) ≡ false) where
-    ok-pcfich : isFormat c (k / 6) ≡ true → Ok Pcfich
-    unfolding fixedRule inGroup elementGroup groupSize
-    ok-pcfich e i = pcfich-first c s k ∙ both z (both (is-not _ w) e)
+  module _ (e : kept ≡ true) where
+    ok-pcfich : formatHas c s g ≡ true → Ok Pcfich
+    unfolding fixedRule pcfich
+    ok-pcfich h i = both e h
 
-    ok-phich : isFormat c (k / 6) ≡ false → (m : ℕ) → m < mappingUnits c → takes c m (number c (k / 6)) ≡ true → Ok (Phich m)
-    unfolding fixedRule isLeft inGroup elementGroup groupSize
-    ok-phich e m l t i =
-        phich-first c s k m ∙ both (lt-ltb _ _ l) (both z (both (is-not _ w) (unit-has c (fit .wide) m (k / 6) in-group ∙ both (is-not _ e) t)))
+    ok-phich : formatHas c s g ≡ false → (m : ℕ) → m < mappingUnits c → Takes c m s (number c s g) → Ok (Phich m)
+    unfolding fixedRule phich isLeft
+    ok-phich h m l (i, u, es, en) d =
+        let left = ap (λ (t : ℕ). isLeft c t g) es ∙ is-not (formatHas c s g) h in
+        let t : g ≡ quadGroup c m i = group-of-number c wide m i g (omega (arith, in-group, ap (symbolGroups c) es)) left (ap (λ (t : ℕ). number c t g) es ∙ en) in
+        both (both (lt-ltb m (mappingUnits c) l) e) (quad-unit c m s g (i, u, sym es, t))
 
-    ok-group : Ok (groupAt c (k / 6))
+    ok-group : Ok (groupAt c s g)
     unfolding groupAt isLeft
     ok-group =
-        on-if Ok (isFormat c (k / 6)) ok-pcfich
-        (λ e. let y : 6 ≤ N = fit .wide in
-        unit-sound c (omega arith) (units-fit c (fit .sixths) (fit .wide)) Ok ok-idle (number c (k / 6))
-        (number-small c (fit .wide) (k / 6) in-group (is-not _ e)) (ok-phich e))
+        on-if Ok (formatHas c s g) ok-pcfich
+        (λ h. number-sound c wide units s (number c s g) Ok ok-idle (number-small c wide s g in-group (is-not (formatHas c s g) h)) (ok-phich h))
 
-  ok-control : eqb s 0 ≡ true → Ok (controlAt c k)
+  ok-control : ltb s 3 ≡ true → Ok (controlAt c s k)
   unfolding controlAt
-  ok-control z = on-if Ok (eqb (k % 3) (C % 3)) (λ e. ok-idle) (λ e. ok-group z e)
+  ok-control l = on-if Ok kept ok-group (λ e. ok-idle)
 
   module _ (a : inSyncArea c f s k ≡ true) where
     area : (marked f ≡ true) × (eqb (s + 1) L || eqb (s + 2) L ≡ true) × (centre c k ≡ true)
@@ -291,7 +297,7 @@ module _ (c : Cell) (f : Frame) (s k : ℕ) (fit : Fit c k) where
   module _ (a : inPbchArea c f s k ≡ true) (w : ltb q (c .ports) ≡ false) where
     ok-held-pbch : ltb q 4 ≡ true → Ok Held
     unfolding fixedRule held heldByPbch
-    ok-held-pbch u i = or-right (heldBySync c f s k) _ (both (both a (below-is c s k 4 (omega arith) ∙ u)) (is-not _ (below-is c s k (c .ports) (fit .ports) ∙ w)))
+    ok-held-pbch u i = or-right (heldBySync c f s k) _ (both (both a (below-is c s k 4 (omega arith) ∙ u)) (is-not _ (below-is c s k (c .ports) few-ports ∙ w)))
 
     ok-pbch : ltb q 4 ≡ false → Ok Pbch
     unfolding fixedRule pbch
@@ -301,7 +307,7 @@ module _ (c : Cell) (f : Frame) (s k : ℕ) (fit : Fit c k) where
   unfolding fixedAt
   fixed-ok =
       on-if Ok (ltb q (c .ports)) ok-crs
-      (λ w. on-if Ok (eqb s 0) ok-control
+      (λ w. on-if Ok (ltb s 3) ok-control
       (λ z. on-if Ok (inSyncArea c f s k) ok-sync
       (λ n. on-if Ok (inPbchArea c f s k)
       (λ a. on-if Ok (ltb q 4) (ok-held-pbch a w) (ok-pbch a w))

@@ -1,15 +1,15 @@
 -- The groups of the control symbols 0 to 3: they have six subcarriers exactly where some port of the cell uses the symbol for its reference
--- signals, and none of a group's places has one of these. What PCFICH and a PHICH unit have is in symbol 0. Assumes an accepted cell.
-use Prim.Native.Nat.{ℕ, zero, suc, _+_, _%_, _≤_, _<_}
+-- signals, and none of a group's places has one of these. Their number, and the symbols of PHICH's quads. Assumes an accepted cell.
+use Prim.Native.Nat.{ℕ, zero, suc, _+_, _*_, _/_, _%_, _≤_, _<_}
 use mathlib.Core.Path.{_≡_, refl}
 use mathlib.Core.Logic.{_↔_, _⊎_, inl, inr}
-use mathlib.Core.Bool.{Bool, true, false, not, _&&_, _||_, and-assoc, and-false}
+use mathlib.Core.Bool.{Bool, true, false, not, _&&_, _||_}
 use native.Mathlib.Omega.{arith}
 use lib.Dec.{ltb, eqb}
 use borrow.Author.Tests.{eq-eqb, ne-eqb, lt-ltb, eqb-true, eqb-false, ltb-true, not-true}
 use Rattle.base.proofs.Tests.{by-test, clash, or-cases, is-false, on-if}
 use Rattle.plan.specs.Lists.{Among}
-use Rattle.plan.specs.Fields.{portCounts, mappingUnits}
+use Rattle.plan.specs.Fields.{portCounts}
 use Rattle.plan.specs.Valid.{CellIn}
 use Rattle.plan.specs.declared.Cell.{Cell}
 use Rattle.plan.proofs.Listed.{and-left, and-right}
@@ -25,13 +25,10 @@ use Rattle.layout.specs.Rules.{
   crsBelow,
   crsAny,
   groupSize,
+  symbolGroups,
   elementGroup,
   inGroup,
-  isFormat,
-  formatHas,
-  pcfich,
-  mappingUnitHas,
-  phich,
+  quadSymbol,
 }
 use Rattle.layout.proofs.Pilot.{slot-length, slot-short, slot-long}
 
@@ -129,18 +126,37 @@ group-clear c ok s k l e = go (or-cases (eqb (groupSize c s) 4) (not (eqb (k % 3
     go (inl z) = none-below c (c .ports) s k (λ p m. rw (four-without c ok s l (eqb-true _ 4 z) p m) refl)
     go (inr w) = kept-clear c (c .ports) s k (not-true _ w)
 
--- ---- the rule of a channel that has the groups of symbol 0 of which `has` holds, and that of PCFICH and of a PHICH unit
-abbrev pub inFirst : Cell → (ℕ → Bool) → ℕ → ℕ → Bool
-inFirst c has s k = eqb s 0 && (inGroup c 0 k && has (elementGroup c 0 k))
+-- ---- how many groups a symbol has, and that of a subcarrier
+pub first-groups : (c : Cell) → symbolGroups c 0 ≡ 2 * c .blocks
+unfolding symbolGroups groupSize
+first-groups c = omega arith
 
-module _ (c : Cell) (s k : ℕ) where
-  pub pcfich-first : pcfich c s k ≡ inFirst c (isFormat c) s k
-  unfolding pcfich formatHas
-  pcfich-first = by-test (eqb s 0) (λ e. let z = eqb-true s 0 e in rw z refl) (λ e. rw e (and-false (inGroup c s k)))
+module _ (c : Cell) (s : ℕ) where
+  pub groups-least : 2 * c .blocks ≤ symbolGroups c s
+  unfolding symbolGroups
+  groups-least = by-size (λ (z : ℕ). 2 * c .blocks ≤ 12 * c .blocks / z) c s (omega arith) (omega arith)
 
-  pub phich-first : (m : ℕ) → phich c m s k ≡ ltb m (mappingUnits c) && inFirst c (mappingUnitHas c m 0) s k
-  unfolding phich mappingUnitHas
-  phich-first m =
-      by-test (eqb s 0)
-      (λ e. let z = eqb-true s 0 e in rw z (and-assoc (ltb m (mappingUnits c)) (inGroup c 0 k) (mappingUnitHas c m 0 (elementGroup c 0 k))))
-      (λ e. rw e (simp and-false))
+  pub groups-most : symbolGroups c s ≤ 3 * c .blocks
+  unfolding symbolGroups
+  groups-most = by-size (λ (z : ℕ). 12 * c .blocks / z ≤ 3 * c .blocks) c s (omega arith) (omega arith)
+
+  pub group-below : (k : ℕ) → k < 12 * c .blocks → elementGroup c s k < symbolGroups c s
+  unfolding elementGroup symbolGroups
+  group-below k l = by-size (λ (z : ℕ). k / z < 12 * c .blocks / z) c s (omega arith) (omega arith)
+
+-- ---- the symbols that PCFICH and PHICH use: symbol 0, and with the extended duration as many as a unit has quads
+module _ (c : Cell) where
+  pub quad-normal : (i : ℕ) → (c .duration ≡ 1 → ⊥) → quadSymbol c i ≡ 0
+  unfolding quadSymbol
+  quad-normal i n = rw (ne-eqb (c .duration) 1 n) refl
+
+  pub quad-extended : (i : ℕ) → c .duration ≡ 1 → quadSymbol c i ≡ i
+  unfolding quadSymbol
+  quad-extended i e = rw (eq-eqb (c .duration) 1 e) refl
+
+  pub quad-low : (i : ℕ) → quadSymbol c i ≤ i
+  unfolding quadSymbol
+  quad-low i = on-if (λ (n : ℕ). n ≤ i) (eqb (c .duration) 1) (λ e. omega arith) (λ e. omega arith)
+
+  pub first-quad : quadSymbol c 0 ≡ 0
+  first-quad = omega (arith, quad-low 0)

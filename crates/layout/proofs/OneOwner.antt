@@ -13,14 +13,13 @@ use Rattle.plan.proofs.Valid.{valid}
 use Rattle.layout.specs.Owners.{symbols, carriers, owns, ownerOf}
 use Rattle.layout.specs.Chain.{ownerAt}
 use Rattle.layout.specs.declared.Owner.{Owner}
-use Rattle.layout.proofs.Few.{blocks-least, ports-most, sixths-most}
 use Rattle.layout.proofs.Fixed.{Fit}
 use Rattle.layout.proofs.Partition as partition
 
 -- what the inner laws ask of a cell and a subcarrier
 pub fit : (w : List ℕ) (p : Plan) → checkOf w ≡ accepted p → (k : ℕ) → k < carriers (p .cell) → Fit (p .cell) k
 fit w p ok k in-k =
-    record { wide = blocks-least w p ok; ports = ports-most w p ok; sixths = sixths-most w p ok; inside = in-k }
+    record { cell = valid w p ok .cell; inside = in-k }
 
 -- the owner that the code finds is the one whose rule holds
 pub owner-is :

@@ -11,7 +11,7 @@ use borrow.Author.Tests.{le-ltb, le-leb, ltb-true, ltb-false, leb-true}
 use Rattle.base.proofs.Tests.{by-test, clash, both, is-false, on-if}
 use Rattle.base.specs.Tables.{table}
 use Rattle.plan.specs.Lists.{noneOf, Every, Apart}
-use Rattle.plan.specs.Fields.{mappingUnits}
+use Rattle.plan.specs.Fields.{controlSymbols, mappingUnits}
 use Rattle.plan.specs.CommandLists.{usersOf}
 use Rattle.plan.specs.Valid.{Has, Disjoint}
 use Rattle.plan.specs.declared.Cell.{Cell}
@@ -19,14 +19,16 @@ use Rattle.plan.specs.declared.Frame.{Frame}
 use Rattle.plan.specs.declared.User.{User}
 use Rattle.plan.specs.declared.Plan.{Plan}
 use Rattle.plan.proofs.Listed.{and-left, and-right}
+use Rattle.plan.proofs.Counts.{ports-most}
 use Rattle.base.specs.Choice.{if_then_else_}
-use Rattle.layout.specs.Rules.{slotOf, crs, crsOf, phich, inGroup, elementGroup, mappingUnitHas}
-use Rattle.layout.specs.Owners.{fixedRule, above, free, controlSymbols, blocksHave, userHas, userRule, rest, owns, owners, ownerOf}
+use Rattle.layout.specs.Rules.{slotOf, crs, crsOf}
+use Rattle.layout.specs.Owners.{fixedRule, above, free, blocksHave, userHas, userRule, rest, owns, owners, ownerOf}
 use Rattle.layout.specs.Chain.{fixedAt, isIdle, userFrom, ownerAt}
 use Rattle.layout.specs.declared.Mark.the-variants.{Primary, Secondary}
 use Rattle.layout.specs.declared.Owner.{Owner}
 use Rattle.layout.specs.declared.Owner.the-variants.{Crs, Sync, Pbch, Pcfich, Phich, User as UserOf, Held, Idle}
 use Rattle.layout.proofs.Lists.{In, here, there, in-left, in-right, table-in, none-in, none-at, some-in, first-is}
+use Rattle.layout.proofs.Units.{phich-parts}
 use Rattle.layout.proofs.Fixed.{Fit, fixed-at, fixed-ok}
 
 -- ---- the owners above the users
@@ -36,11 +38,8 @@ module _ (c : Cell) (f : Frame) (s k : ℕ) (fit : Fit c k) where
   port-small q e = ltb-true _ _ (and-left (ltb q (c .ports)) (crsOf c q s k) e)
 
   unit-small : (m : ℕ) → fixedRule c f (Phich m) s k ≡ true → m < mappingUnits c
-  unfolding fixedRule phich
-  unit-small m e =
-      let a = ltb m (mappingUnits c) in
-      let b = inGroup c s k in
-      ltb-true _ _ (and-left a b (and-left (a && b) (mappingUnitHas c m s (elementGroup c s k)) e))
+  unfolding fixedRule
+  unit-small m e = phich-parts c m s k e .0
 
   port-in : (q : ℕ) → q < 4 → In (Crs q) (above c)
   unfolding above
@@ -53,7 +52,7 @@ module _ (c : Cell) (f : Frame) (s k : ℕ) (fit : Fit c k) where
   -- an owner above the users that has the place stands in their list
   pub listed : (o : Owner) → fixedRule c f o s k ≡ true → In o (above c)
   unfolding above fixedRule
-  listed (Crs q) e = port-in q (let z : q < 4 = omega (arith, port-small q e, fit .ports) in z)
+  listed (Crs q) e = port-in q (let z : q < 4 = omega (arith, port-small q e, ports-most c (fit .cell)) in z)
   listed (Sync Primary) e = there (there (there (there here)))
   listed (Sync Secondary) e = there (there (there (there (there here))))
   listed Pbch e = there (there (there (there (there (there here)))))

@@ -1,161 +1,230 @@
--- PHICH: a unit has the groups left whose numbers it takes, no two units take one number, and unitAt names the unit that takes it.
--- Assumes six blocks.
-use Prim.Native.Nat.{ℕ, _+_, _-_, _*_, _/_, _%_, _≤_, _<_}
+-- PHICH: a unit's quads have the groups left whose numbers they take, each in its symbol; no two quads of any two units take one number, in
+-- either duration; and unitAt names the unit that takes a number. Assumes six blocks.
+use Prim.Native.Nat.{ℕ, zero, suc, _+_, _-_, _*_, _/_, _%_, _≤_, _<_}
 use mathlib.Core.Path.{_≡_, refl, sym, ap, _∙_}
-use mathlib.Core.Logic.{_⊎_, inl, inr}
-use mathlib.Core.Bool.{Bool, true, false, _&&_, _||_, and-false, or-true}
+use mathlib.Core.Bool.{true, false, _&&_, and-false}
 use native.Mathlib.Omega.{arith}
-use native.Mathlib.Nat.{mod-lt, suc-mul, mul-le-mul-right, add-assoc}
+use native.Mathlib.Nat.{not-suc-le-zero, mod-lt, suc-mul, mul-le-mul-right, mul-div-cancel, add-assoc}
+use native.Mathlib.Decide.{decLe, ℕ-discrete}
 use lib.Dec.{leb, ltb, eqb}
-use borrow.Author.Tests.{eq-eqb, lt-ltb, le-ltb, le-leb, eqb-true, ltb-true, leb-true}
-use Rattle.base.proofs.Tests.{or-cases, on-if}
-use Rattle.base.specs.Counts.{cnt}
-use Rattle.base.proofs.Counts.{nth-is, nth-test}
-use Rattle.layout.specs.Rules.{groupsLeft, isLeft, quadNumber, quadGroup, mappingUnitHas}
-use Rattle.layout.specs.Chain.{number, takes, unitAt, past}
+use borrow.Author.Tests.{eq-eqb, lt-ltb, le-leb, lt-leb, eqb-true, ltb-true, leb-true}
+use Rattle.base.proofs.Tests.{both, on-if}
+use Rattle.base.proofs.Some.{someOf, passed, which-passed}
+use Rattle.base.specs.Counts.{nth}
+use Rattle.base.proofs.Counts.{nth-is, nth-of}
+use Rattle.layout.specs.Rules.{symbolGroups, elementGroup, inGroup, quadSymbol, isLeft, groupsLeft, startNumber, quadNumber, quadGroup, quadHas, mappingUnitHas, phich}
+use Rattle.layout.specs.Chain.{number, past, quadIn, unitAt, numberAt}
 use Rattle.plan.specs.Fields.{mappingUnits}
 use Rattle.plan.specs.declared.Cell.{Cell}
 use Rattle.layout.specs.declared.Owner.{Owner}
 use Rattle.layout.specs.declared.Owner.the-variants.{Phich, Idle}
 use Rattle.plan.proofs.Listed.{and-left, and-right}
 use Rattle.layout.proofs.Ring as ring
-use Rattle.layout.proofs.Groups.{left-count}
+use Rattle.layout.proofs.GroupShape.{quad-normal}
+use Rattle.layout.proofs.Groups.{left-first, left-least, left-some}
 
--- the units fill at most a third of the numbers
-pub units-fit : (c : Cell) → c .sixths ≤ 12 → 6 ≤ c .blocks → mappingUnits c ≤ groupsLeft c / 3
+-- the units fill at most a third of the numbers of any symbol
+pub units-fit : (c : Cell) → c .sixths ≤ 12 → 6 ≤ c .blocks → (s : ℕ) → mappingUnits c ≤ groupsLeft c s / 3
 unfolding mappingUnits
-units-fit c l m = omega (arith, mul-le-mul-right (c .blocks) l)
+units-fit c l m s = omega (arith, mul-le-mul-right (c .blocks) l, left-least c m s)
 
--- how far the number of quad i lies past the identity's
-past-of-unit : (c : Cell) → 0 < groupsLeft c → (m i n : ℕ) → m + i * groupsLeft c / 3 < groupsLeft c → n ≡ quadNumber c m i → past (c .identity) (groupsLeft c) n ≡ m + i * groupsLeft c / 3
-unfolding quadNumber
-past-of-unit c pos m i n l e =
-    let h = groupsLeft c in
-    ring.past-of (c .identity) h pos (m + i * h / 3) n l (e ∙ ap (λ (x : ℕ). x % h) (add-assoc (c .identity) m (i * h / 3)))
+-- numbers in thirds of h: the i-th begins at i·h/3
+module _ (h m i : ℕ) (third : m < h / 3) where
+  third-in : i < 3 → m + i * h / 3 < h
+  third-in l = let y : i * h ≤ 2 * h = mul-le-mul-right h (omega arith) in omega arith
+
+  third-after : (j : ℕ) → i < j → m + i * h / 3 < j * h / 3
+  third-after j l = let z : i * h + h ≤ j * h = rw (← suc-mul i h) (mul-le-mul-right h l) in omega arith
+
+same-third : (h m m′ i i′ : ℕ) → m < h / 3 → m′ < h / 3 → m + i * h / 3 ≡ m′ + i′ * h / 3 → i ≡ i′
+same-third h m m′ i i′ l l′ e = go (decLe (suc i) i′) (decLe (suc i′) i)
+  where
+    go : Dec (suc i ≤ i′) → Dec (suc i′ ≤ i) → i ≡ i′
+    go (yes u) q = absurd (let n : ⊥ = omega (arith, third-after h m i l i′ u) in n)
+    go (no u) (yes v) = absurd (let n : ⊥ = omega (arith, third-after h m′ i′ l′ i v) in n)
+    go (no u) (no v) = omega arith
 
 -- ---- the groups of a unit's quads
-pub number-lt : (c : Cell) → 6 ≤ c .blocks → (m i : ℕ) → quadNumber c m i < groupsLeft c
-unfolding quadNumber
-number-lt c big m i = mod-lt (c .identity + m + i * groupsLeft c / 3) (omega arith)
+module _ (c : Cell) (big : 6 ≤ c .blocks) where
+  -- the symbol of quad i, and how many groups are left there
+  abbrev S : ℕ → ℕ
+  S i = quadSymbol c i
 
-spread : (a x y z : Bool) → a && x || a && y || a && z ≡ a && (x || y || z)
-spread true x y z = refl
-spread false x y z = refl
+  abbrev h : ℕ → ℕ
+  h i = groupsLeft c (quadSymbol c i)
 
-module _ (c : Cell) (big : 6 ≤ c .blocks) (m : ℕ) where
-  numbered : (i : ℕ) → quadNumber c m i < cnt (isLeft c) (2 * c .blocks)
-  numbered i = omega (arith, number-lt c big m i, left-count c big)
+  pub number-lt : (m i : ℕ) → quadNumber c m i < h i
+  unfolding quadNumber
+  number-lt m i = mod-lt (startNumber c (S i) + m + i * h i / 3) (left-some c big (S i))
+
+  -- document 01's rule, with the normal duration: "(C+m+floor(ih/3)) mod h", h = 2N−4
+  pub normal-number : (c .duration ≡ 1 → ⊥) → (m i : ℕ) → quadNumber c m i ≡ (c .identity + m + i * (2 * c .blocks - 4) / 3) % (2 * c .blocks - 4)
+  unfolding quadNumber startNumber
+  normal-number n m i =
+      let g = 2 * c .blocks - 4 in
+      rw (quad-normal c i n, left-first c big) (ap (λ (x : ℕ). (x + m + i * g / 3) % g) (mul-div-cancel (c .identity) {n = g} (omega arith)))
+
+  numbered : (m i : ℕ) → (isLeft c (S i) (quadGroup c m i) ≡ true) × (quadGroup c m i < symbolGroups c (S i)) × (number c (S i) (quadGroup c m i) ≡ quadNumber c m i)
+  unfolding quadGroup groupsLeft
+  numbered m i = nth-is (isLeft c (S i)) (symbolGroups c (S i)) (quadNumber c m i) (number-lt m i)
 
   -- the group of quad i is left, and has its number
-  pub unit-left : (i : ℕ) → isLeft c (quadGroup c m i) ≡ true
+  pub unit-left : (m i : ℕ) → isLeft c (S i) (quadGroup c m i) ≡ true
+  unit-left m i = numbered m i .0
+
+  pub unit-small : (m i : ℕ) → quadGroup c m i < symbolGroups c (S i)
+  unit-small m i = numbered m i .1
+
+  pub unit-number : (m i : ℕ) → number c (S i) (quadGroup c m i) ≡ quadNumber c m i
+  unit-number m i = numbered m i .2
+
+  -- and is the one left with that number
+  pub group-of-number : (m i t : ℕ) → t < symbolGroups c (S i) → isLeft c (S i) t ≡ true → number c (S i) t ≡ quadNumber c m i → t ≡ quadGroup c m i
   unfolding quadGroup
-  unit-left i = nth-is (isLeft c) (2 * c .blocks) (quadNumber c m i) (numbered i) .0
+  group-of-number m i t l e n = sym (nth-of (isLeft c (S i)) (symbolGroups c (S i)) t e l) ∙ ap (nth (isLeft c (S i)) (symbolGroups c (S i))) n
 
-  pub unit-small : (i : ℕ) → quadGroup c m i < 2 * c .blocks
-  unfolding quadGroup
-  unit-small i = nth-is (isLeft c) (2 * c .blocks) (quadNumber c m i) (numbered i) .1
+  -- how far the number of quad i lies past the start
+  past-of-unit : (m i n : ℕ) → m + i * h i / 3 < h i → n ≡ quadNumber c m i → past (startNumber c (S i)) (h i) n ≡ m + i * h i / 3
+  unfolding quadNumber
+  past-of-unit m i n l e =
+      ring.past-of (startNumber c (S i)) (h i) (left-some c big (S i)) (m + i * h i / 3) n l
+      (e ∙ ap (λ (x : ℕ). x % h i) (add-assoc (startNumber c (S i)) m (i * h i / 3)))
 
-  unit-number : (i : ℕ) → number c (quadGroup c m i) ≡ quadNumber c m i
-  unfolding quadGroup
-  unit-number i = nth-is (isLeft c) (2 * c .blocks) (quadNumber c m i) (numbered i) .2
+  -- THE LAW OF UNITS, for both durations: quads that have one group of one symbol are one quad of one unit
+  module _ (fit : (s : ℕ) → mappingUnits c ≤ groupsLeft c s / 3) where
+    pub units-apart :
+        (m m′ i i′ : ℕ) → m < mappingUnits c → m′ < mappingUnits c → i < 3 → i′ < 3
+        → quadSymbol c i ≡ quadSymbol c i′ → quadGroup c m i ≡ quadGroup c m′ i′ → (m ≡ m′) × (i ≡ i′)
+    units-apart m m′ i i′ l l′ u u′ es eg = (omega (arith, around, ap (λ (x : ℕ). x * h i / 3) one), one)
+      where
+        a : m < h i / 3
+        a = omega (arith, fit (S i))
 
-  -- a unit in the first third of the numbers has three groups
-  pub unit-apart : m < groupsLeft c / 3 → (i j : ℕ) → i < j → j < 3 → quadGroup c m i ≡ quadGroup c m j → ⊥
-  unit-apart third i j l u e =
-      let h = groupsLeft c in
-      let z : i * h + h ≤ j * h = rw (← suc-mul i h) (mul-le-mul-right h l) in
-      let y : j * h ≤ 2 * h = mul-le-mul-right h (omega arith) in
-      let d : quadNumber c m i ≡ quadNumber c m j = sym (unit-number i) ∙ ap (number c) e ∙ unit-number j in
-      let a = past-of-unit c (omega arith) m i (quadNumber c m i) (omega arith) refl in
-      let b = past-of-unit c (omega arith) m j (quadNumber c m i) (omega arith) d in
-      omega (arith, a, b)
+        a′ : m′ < h i′ / 3
+        a′ = omega (arith, fit (S i′))
 
-  module _ (t : ℕ) (in-t : t < 2 * c .blocks) where
-    -- t is the group of quad i
-    group-test : (i : ℕ) → eqb t (quadGroup c m i) ≡ isLeft c t && eqb (number c t) (quadNumber c m i)
-    unfolding quadGroup
-    group-test i = nth-test (isLeft c) (2 * c .blocks) (quadNumber c m i) t in-t (numbered i)
+        same : quadNumber c m i ≡ quadNumber c m′ i′
+        same = sym (unit-number m i) ∙ ap (λ (s : ℕ). number c s (quadGroup c m i)) es ∙ ap (number c (S i′)) eg ∙ unit-number m′ i′
 
-    -- the unit has a group where it is left and the unit takes its number
-    pub unit-has : mappingUnitHas c m 0 t ≡ isLeft c t && takes c m (number c t)
-    unfolding mappingUnitHas takes
-    unit-has =
-        rw (group-test 0, group-test 1, group-test 2)
-        (spread (isLeft c t) (eqb (number c t) (quadNumber c m 0)) (eqb (number c t) (quadNumber c m 1)) (eqb (number c t) (quadNumber c m 2)))
+        around : m + i * h i / 3 ≡ m′ + i′ * h i / 3
+        around =
+            sym (past-of-unit m i (quadNumber c m i) (third-in (h i) m i a u) refl)
+            ∙ ap (λ (s : ℕ). past (startNumber c s) (groupsLeft c s) (quadNumber c m i)) es
+            ∙ past-of-unit m′ i′ (quadNumber c m i) (third-in (h i′) m′ i′ a′ u′) same
+            ∙ ap (λ (s : ℕ). m′ + i′ * groupsLeft c s / 3) (sym es)
+
+        one : i ≡ i′
+        one = same-third (h i) m m′ i i′ a (rw (← ap (groupsLeft c) es) at a′) around
+
+-- ---- the quads of a unit's rule
+pub quads-some : (c : Cell) (m s t : ℕ) → mappingUnitHas c m s t ≡ someOf (quadHas c m s t) 3
+unfolding mappingUnitHas
+quads-some c m s t = refl
+
+-- unit m has group t of symbol s: one of its quads lies there
+abbrev pub QuadAt : Cell → ℕ → ℕ → ℕ → Type 0
+QuadAt c m s t = (i : ℕ) × (i < 3) × (s ≡ quadSymbol c i) × (t ≡ quadGroup c m i)
+
+pub unit-quad : (c : Cell) (m s t : ℕ) → mappingUnitHas c m s t ≡ true → QuadAt c m s t
+unfolding quadHas
+unit-quad c m s t e =
+    let q = which-passed (quadHas c m s t) 3 (sym (quads-some c m s t) ∙ e) in
+    let i = q .0 in (
+      i,
+      q .1,
+      eqb-true s (quadSymbol c i) (and-left (eqb s (quadSymbol c i)) (eqb t (quadGroup c m i)) (q .2)),
+      eqb-true t (quadGroup c m i) (and-right (eqb s (quadSymbol c i)) (eqb t (quadGroup c m i)) (q .2)),
+    )
+
+pub quad-unit : (c : Cell) (m s t : ℕ) → QuadAt c m s t → mappingUnitHas c m s t ≡ true
+unfolding quadHas
+quad-unit c m s t (i, l, es, et) = quads-some c m s t ∙ passed (quadHas c m s t) 3 i l (both (eq-eqb s (quadSymbol c i) es) (eq-eqb t (quadGroup c m i) et))
+
+-- the parts of a unit's rule
+pub phich-parts : (c : Cell) (m s k : ℕ) → phich c m s k ≡ true → (m < mappingUnits c) × (inGroup c s k ≡ true) × QuadAt c m s (elementGroup c s k)
+unfolding phich
+phich-parts c m s k e =
+    let a = ltb m (mappingUnits c) in
+    let b = inGroup c s k in
+    let u = mappingUnitHas c m s (elementGroup c s k) in
+    let ab = and-left (a && b) u e in
+    (ltb-true m (mappingUnits c) (and-left a b ab), and-right a b ab, unit-quad c m s (elementGroup c s k) (and-right (a && b) u e))
+
+-- NO UNIT OVERLAPS ANOTHER, in either duration
+pub no-overlap : (c : Cell) → c .sixths ≤ 12 → 6 ≤ c .blocks → (m m′ s k : ℕ) → phich c m s k ≡ true → phich c m′ s k ≡ true → m ≡ m′
+no-overlap c few big m m′ s k e e′ =
+    let p = phich-parts c m s k e in
+    let p′ = phich-parts c m′ s k e′ in
+    let q = p .2 in
+    let q′ = p′ .2 in
+    units-apart c big (units-fit c few big) m m′ (q .0) (q′ .0) (p .0) (p′ .0) (q .1) (q′ .1) (sym (q .2) ∙ q′ .2) (sym (q .3) ∙ q′ .3) .0
 
 -- ---- and unitAt names the unit that takes a number
-module _ (c : Cell) (pos : 0 < groupsLeft c) (fit : mappingUnits c ≤ groupsLeft c / 3) where
-  abbrev C : ℕ
-  C = c .identity
+module _ (c : Cell) (fit : (s : ℕ) → mappingUnits c ≤ groupsLeft c s / 3) (s d : ℕ) where
+  abbrev H : ℕ
+  H = groupsLeft c s
 
-  abbrev h : ℕ
-  h = groupsLeft c
+  module _ (m i : ℕ) (in-m : m < mappingUnits c) (es : quadSymbol c i ≡ s) (ed : d ≡ m + i * groupsLeft c s / 3) where
+    quad-true : quadIn c s d i ≡ true
+    unfolding quadIn
+    quad-true = both (eq-eqb (quadSymbol c i) s es) (both (le-leb (i * H / 3) d (omega arith)) (lt-ltb d (i * H / 3 + mappingUnits c) (omega arith)))
 
-  abbrev M : ℕ
-  M = mappingUnits c
+    quad-false : (j : ℕ) → i < j → quadIn c s d j ≡ false
+    unfolding quadIn
+    quad-false j l =
+        rw (lt-leb (j * H / 3) d (omega (arith, third-after H m i (omega (arith, fit s)) j l))) (and-false (eqb (quadSymbol c j) s))
 
-  unit-of-past : (m i n : ℕ) → n < h → past C h n ≡ m + i * h / 3 → eqb n (quadNumber c m i) ≡ true
-  unfolding quadNumber
-  unit-of-past m i n l e = eq-eqb _ _ (ring.of-past C h pos n l ∙ ap (λ (x : ℕ). (C + x) % h) e ∙ ap (λ (x : ℕ). x % h) (sym (add-assoc C m (i * h / 3))))
-
-  taken0 : (m n : ℕ) → eqb n (quadNumber c m 0) ≡ true → takes c m n ≡ true
-  unfolding takes
-  taken0 m n e = rw e refl
-
-  taken1 : (m n : ℕ) → eqb n (quadNumber c m 1) ≡ true → takes c m n ≡ true
-  unfolding takes
-  taken1 m n e = rw (e, or-true (eqb n (quadNumber c m 0))) refl
-
-  taken2 : (m n : ℕ) → eqb n (quadNumber c m 2) ≡ true → takes c m n ≡ true
-  unfolding takes
-  taken2 m n e = rw (e, or-true (eqb n (quadNumber c m 0) || eqb n (quadNumber c m 1))) refl
-
-  module _ (m : ℕ) (in-m : m < M) where
-    at0 : (d : ℕ) → d ≡ m + 0 * h / 3 → unitAt c d ≡ Phich m
+    quad-found : (n : ℕ) → i < n → unitAt c s d n ≡ Phich m
     unfolding unitAt
-    at0 d e = rw (lt-ltb d M (omega arith)) (ap Phich (let z : d ≡ m = omega arith in z))
-
-    at1 : (d : ℕ) → d ≡ m + 1 * h / 3 → unitAt c d ≡ Phich m
-    unfolding unitAt
-    at1 d e =
-        rw (le-ltb d M (omega arith), le-leb (1 * h / 3) d (omega arith), lt-ltb d (1 * h / 3 + M) (omega arith))
-        (ap Phich (let z : d - 1 * h / 3 ≡ m = omega arith in z))
-
-    at2 : (d : ℕ) → d ≡ m + 2 * h / 3 → unitAt c d ≡ Phich m
-    unfolding unitAt
-    at2 d e =
-        rw (le-ltb d M (omega arith), le-ltb d (1 * h / 3 + M) (omega arith), and-false (leb (1 * h / 3) d), le-leb (2 * h / 3) d (omega arith), lt-ltb d (2 * h / 3 + M) (omega arith))
-        (ap Phich (let z : d - 2 * h / 3 ≡ m = omega arith in z))
-
-    -- a number that unit m takes
-    pub unit-at : (n : ℕ) → takes c m n ≡ true → unitAt c (past C h n) ≡ Phich m
-    unfolding takes
-    unit-at n e = go (or-cases _ _ e)
+    quad-found zero l = absurd (not-suc-le-zero l)
+    quad-found (suc n) l = go (ℕ-discrete i n) (λ u. quad-found n u)
       where
-        on : (i : ℕ) → m + i * h / 3 < h → eqb n (quadNumber c m i) ≡ true → past C h n ≡ m + i * h / 3
-        on i l w = past-of-unit c pos m i n l (eqb-true _ _ w)
+        go : Dec (i ≡ n) → (i < n → unitAt c s d n ≡ Phich m) → unitAt c s d (suc n) ≡ Phich m
+        go (yes e) below = rw (← e, quad-true) (ap Phich (let z : d - i * H / 3 ≡ m = omega arith in z))
+        go (no e) below = rw (quad-false n (omega arith)) (below (omega arith))
 
-        go₁ : (eqb n (quadNumber c m 0) ≡ true) ⊎ (eqb n (quadNumber c m 1) ≡ true) → unitAt c (past C h n) ≡ Phich m
-        go₁ (inl w) = at0 (past C h n) (on 0 (omega arith) w)
-        go₁ (inr w) = at1 (past C h n) (on 1 (omega arith) w)
-
-        go : (eqb n (quadNumber c m 0) || eqb n (quadNumber c m 1) ≡ true) ⊎ (eqb n (quadNumber c m 2) ≡ true) → unitAt c (past C h n) ≡ Phich m
-        go (inl w) = go₁ (or-cases _ _ w)
-        go (inr w) = at2 (past C h n) (on 2 (omega arith) w)
-
-  -- whatever unitAt answers is a unit that takes the number, or idle
-  module _ (P : Owner → Type 0) (idle : P Idle) (n : ℕ) (small : n < h) (unit : (m : ℕ) → m < M → takes c m n ≡ true → P (Phich m)) where
-    pub unit-sound : P (unitAt c (past C h n))
-    unfolding unitAt
-    unit-sound =
+  -- whatever it names of the quads below n
+  module _ (P : Owner → Type 0) (idle : P Idle) (unit : (m i : ℕ) → m < mappingUnits c → i < 3 → quadSymbol c i ≡ s → d ≡ m + i * groupsLeft c s / 3 → P (Phich m)) where
+    quad-sound : (n : ℕ) → n ≤ 3 → P (unitAt c s d n)
+    unfolding unitAt quadIn
+    quad-sound zero l = idle
+    quad-sound (suc n) l =
         on-if P _
-        (λ e. unit (past C h n) (ltb-true _ M e) (taken0 _ n (unit-of-past (past C h n) 0 n small (omega arith))))
-        (λ e. on-if P _
-        (λ w. let l : 1 * h / 3 ≤ past C h n = leb-true _ _ (and-left (leb (1 * h / 3) (past C h n)) (ltb (past C h n) (1 * h / 3 + M)) w) in
-        let u : past C h n < 1 * h / 3 + M = ltb-true _ _ (and-right (leb (1 * h / 3) (past C h n)) (ltb (past C h n) (1 * h / 3 + M)) w) in
-        unit (past C h n - 1 * h / 3) (omega arith) (taken1 _ n (unit-of-past (past C h n - 1 * h / 3) 1 n small (omega arith))))
-        (λ w. on-if P _
-        (λ v. let l : 2 * h / 3 ≤ past C h n = leb-true _ _ (and-left (leb (2 * h / 3) (past C h n)) (ltb (past C h n) (2 * h / 3 + M)) v) in
-        let u : past C h n < 2 * h / 3 + M = ltb-true _ _ (and-right (leb (2 * h / 3) (past C h n)) (ltb (past C h n) (2 * h / 3 + M)) v) in
-        unit (past C h n - 2 * h / 3) (omega arith) (taken2 _ n (unit-of-past (past C h n - 2 * h / 3) 2 n small (omega arith))))
-        (λ v. idle)))
+        (λ e. let a = n * H / 3 in
+        let b = leb a d && ltb d (a + mappingUnits c) in
+        let t : b ≡ true = and-right (eqb (quadSymbol c n) s) b e in
+        let x : a ≤ d = leb-true a d (and-left (leb a d) (ltb d (a + mappingUnits c)) t) in
+        let y : d < a + mappingUnits c = ltb-true d (a + mappingUnits c) (and-right (leb a d) (ltb d (a + mappingUnits c)) t) in
+        unit (d - a) n (omega arith) (omega arith) (eqb-true (quadSymbol c n) s (and-left (eqb (quadSymbol c n) s) b e)) (omega arith))
+        (λ e. quad-sound n (omega arith))
+
+-- unit m takes number n of the groups left in symbol s
+abbrev pub Takes : Cell → ℕ → ℕ → ℕ → Type 0
+Takes c m s n = (i : ℕ) × (i < 3) × (quadSymbol c i ≡ s) × (n ≡ quadNumber c m i)
+
+module _ (c : Cell) (big : 6 ≤ c .blocks) (fit : (s : ℕ) → mappingUnits c ≤ groupsLeft c s / 3) (s n : ℕ) where
+  pub number-taken : (m : ℕ) → m < mappingUnits c → Takes c m s n → numberAt c s n ≡ Phich m
+  unfolding numberAt
+  number-taken m l (i, u, es, en) =
+      quad-found c fit s (past (startNumber c s) (groupsLeft c s) n) m i l es
+      (ap (λ (s : ℕ). past (startNumber c s) (groupsLeft c s) n) (sym es)
+      ∙ past-of-unit c big m i n (third-in (groupsLeft c (quadSymbol c i)) m i (omega (arith, fit (quadSymbol c i))) u) en
+      ∙ ap (λ (s : ℕ). m + i * groupsLeft c s / 3) es)
+      3 u
+
+  -- whatever numberAt answers is a unit that takes the number, or idle
+  pub number-sound : (P : Owner → Type 0) → P Idle → n < groupsLeft c s → ((m : ℕ) → m < mappingUnits c → Takes c m s n → P (Phich m)) → P (numberAt c s n)
+  unfolding numberAt quadNumber
+  number-sound P idle small unit =
+      quad-sound c fit s (past C H₁ n) P idle (λ m i l u es ed. unit m l (i, u, es, taken m i es ed)) 3 (omega arith)
+    where
+      C : ℕ
+      C = startNumber c s
+
+      H₁ : ℕ
+      H₁ = groupsLeft c s
+
+      taken : (m i : ℕ) → quadSymbol c i ≡ s → past C H₁ n ≡ m + i * H₁ / 3 → n ≡ quadNumber c m i
+      taken m i es ed =
+          ring.of-past C H₁ (left-some c big s) n small ∙ ap (λ (x : ℕ). (C + x) % H₁) ed ∙ ap (λ (x : ℕ). x % H₁) (sym (add-assoc C m (i * H₁ / 3)))
+          ∙ ap (λ (s : ℕ). (startNumber c s + m + i * groupsLeft c s / 3) % groupsLeft c s) (sym es)

@@ -1,10 +1,10 @@
 -- For the inner contracts and loops only: the owner of a place by few tests in turn, as the code finds it. proofs/OneOwner.antt: it is
 -- the owner whose rule holds.
-use Prim.Native.Nat.{ℕ, _+_, _-_, _*_, _/_, _%_}
-use mathlib.Core.Bool.{Bool, true, false, _&&_, _||_}
+use Prim.Native.Nat.{ℕ, zero, suc, _+_, _-_, _*_, _/_, _%_}
+use mathlib.Core.Bool.{Bool, true, false, _&&_}
 use mathlib.Core.List.{List, [], _∷_}
 use lib.Dec.{leb, ltb, eqb}
-use Rattle.plan.specs.Fields.{mappingUnits}
+use Rattle.plan.specs.Fields.{controlSymbols, mappingUnits}
 use Rattle.plan.specs.CommandLists.{usersOf}
 use Rattle.plan.specs.declared.Cell.{Cell}
 use Rattle.plan.specs.declared.Frame.{Frame}
@@ -12,8 +12,8 @@ use Rattle.plan.specs.declared.User.{User}
 use Rattle.plan.specs.declared.Plan.{Plan}
 use Rattle.base.specs.Choice.{if_then_else_, indicator}
 use Rattle.base.specs.Counts.{cnt}
-use Rattle.layout.specs.Rules.{slotLength, slotOf, crsSymbol, crsShift, standsAt, used, inSyncArea, inPbchArea, isFormat, groupsLeft, isLeft, quadNumber}
-use Rattle.layout.specs.Owners.{controlSymbols, blocksHave}
+use Rattle.layout.specs.Rules.{slotLength, slotOf, crsSymbol, crsShift, standsAt, used, inSyncArea, inPbchArea, elementGroup, inGroup, formatHas, quadSymbol, isLeft, groupsLeft, startNumber}
+use Rattle.layout.specs.Owners.{blocksHave}
 use Rattle.layout.specs.declared.Mark.the-variants.{Primary, Secondary}
 use Rattle.layout.specs.declared.Owner.{Owner}
 use Rattle.layout.specs.declared.Owner.the-variants.{Crs, Sync, Pbch, Pcfich, Phich, User as UserOf, Held, Idle}
@@ -30,40 +30,39 @@ pilot c s k = if crsSymbol c 0 s then pilotOf c 0 s k else if crsSymbol c 2 s th
 abbrev pub belowOf : ℕ → ℕ → ℕ → ℕ → ℕ → ℕ
 belowOf a b c d t = indicator (ltb a t) + indicator (ltb b t) + indicator (ltb c t) + indicator (ltb d t)
 
--- a group left's number: how many groups left stand below it; and whether unit m takes number n
-abbrev pub number : Cell → ℕ → ℕ
-number c t = cnt (isLeft c) t
+-- a group's number in symbol s: how many groups left stand below it
+abbrev pub number : Cell → ℕ → ℕ → ℕ
+number c s t = cnt (isLeft c s) t
 
-unfoldable pub takes : Cell → ℕ → ℕ → Bool
-takes c m n = eqb n (quadNumber c m 0) || eqb n (quadNumber c m 1) || eqb n (quadNumber c m 2)
-
--- how far n lies past C around a ring of h numbers
+-- how far n lies past a around a ring of h numbers
 abbrev pub past : ℕ → ℕ → ℕ → ℕ
-past C h n = (n + (h - C % h)) % h
+past a h n = (n + (h - a % h)) % h
 
--- the unit that takes the number d past the identity's: the first M from 0, h/3 and 2h/3 on are the units'
-unfoldable pub unitAt : Cell → ℕ → Owner
-unitAt c d =
-    let h = groupsLeft c in
-    let M = mappingUnits c in
-    if ltb d M then Phich d
-    else if leb (1 * h / 3) d && ltb d (1 * h / 3 + M) then Phich (d - 1 * h / 3)
-    else if leb (2 * h / 3) d && ltb d (2 * h / 3 + M) then Phich (d - 2 * h / 3)
-    else Idle
+-- of the groups left in symbol s, those of the units' quads i are as many as units, from i·h/3 past the start on; the unit that takes the number d past it, of the
+-- quads below n
+unfoldable pub quadIn : Cell → ℕ → ℕ → ℕ → Bool
+quadIn c s d i = let a = i * groupsLeft c s / 3 in eqb (quadSymbol c i) s && (leb a d && ltb d (a + mappingUnits c))
 
--- group t of symbol 0, and subcarrier k there
-unfoldable pub groupAt : Cell → ℕ → Owner
-groupAt c t = if isFormat c t then Pcfich else unitAt c (past (c .identity) (groupsLeft c) (number c t))
+unfoldable pub unitAt : Cell → ℕ → ℕ → ℕ → Owner
+unitAt c s d zero = Idle
+unitAt c s d (suc i) = if quadIn c s d i then Phich (d - i * groupsLeft c s / 3) else unitAt c s d i
 
-unfoldable pub controlAt : Cell → ℕ → Owner
-controlAt c k = if eqb (k % 3) (c .identity % 3) then Idle else groupAt c (k / 6)
+-- the unit that has the group left with number n in symbol s; group t of the symbol, and subcarrier k there
+unfoldable pub numberAt : Cell → ℕ → ℕ → Owner
+numberAt c s n = unitAt c s (past (startNumber c s) (groupsLeft c s) n) 3
+
+unfoldable pub groupAt : Cell → ℕ → ℕ → Owner
+groupAt c s t = if formatHas c s t then Pcfich else numberAt c s (number c s t)
+
+unfoldable pub controlAt : Cell → ℕ → ℕ → Owner
+controlAt c s k = if inGroup c s k then groupAt c s (elementGroup c s k) else Idle
 
 -- the owner above the users, or idle
 unfoldable pub fixedAt : Cell → Frame → ℕ → ℕ → Owner
 fixedAt c f s k =
     let q = pilot c s k in
     if ltb q (c .ports) then Crs q
-    else if eqb s 0 then controlAt c k
+    else if ltb s 3 then controlAt c s k
     else if inSyncArea c f s k
     then (if used c k then Sync (if eqb (s + 1) (slotLength c) then Primary else Secondary) else Held)
     else if inPbchArea c f s k

@@ -4,17 +4,17 @@
 use Prim.Native.Nat.{ℕ, zero, suc, _+_, _*_, _<_}
 use mathlib.Core.Bool.{Bool, false, _&&_}
 use mathlib.Core.List.{List, [], _∷_, _++_}
-use lib.Dec.{leb, ltb, eqb}
+use lib.Dec.{leb, ltb}
 use lib.ListN.{length}
 use Rattle.base.specs.Tables.{table}
 use Rattle.plan.specs.Lists.{noneOf}
-use Rattle.plan.specs.Fields.{mappingUnits}
+use Rattle.plan.specs.Fields.{controlSymbols, mappingUnits}
 use Rattle.plan.specs.CommandLists.{usersOf}
 use Rattle.plan.specs.declared.Cell.{Cell}
 use Rattle.plan.specs.declared.Frame.{Frame}
 use Rattle.plan.specs.declared.User.{User}
 use Rattle.plan.specs.declared.Plan.{Plan}
-use Rattle.base.specs.Choice.{if_then_else_, firstOf}
+use Rattle.base.specs.Choice.{firstOf}
 use Rattle.layout.specs.Rules.{slotLength, slotOf, crs, pss, sss, pbch, held, pcfich, phich}
 use Rattle.layout.specs.declared.Mark.the-variants.{Primary, Secondary}
 use Rattle.layout.specs.declared.Owner.{Owner}
@@ -65,11 +65,6 @@ above c = Crs 0 ∷ Crs 1 ∷ Crs 2 ∷ Crs 3 ∷ Sync Primary ∷ Sync Secondar
 
 unfoldable pub free : Cell → Frame → ℕ → ℕ → Bool
 free c f s k = noneOf (λ (o : Owner). fixedRule c f o s k) (above c)
-
--- how many symbols the control region has: "N = 6 joins the widths, and there the control region is CFI + 1 symbols; at other widths it
--- is CFI" (document 02, #102)
-unfoldable pub controlSymbols : Cell → Frame → ℕ
-controlSymbols c f = if eqb (c .blocks) 6 then f .cfi + 1 else f .cfi
 
 -- subcarrier k lies in the user's blocks in slot n, here the same blocks in both; and in those of user i
 unfoldable pub blocksHave : User → ℕ → ℕ → Bool

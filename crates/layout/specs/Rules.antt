@@ -5,7 +5,7 @@ use Prim.Native.Nat.{ℕ, zero, suc, _+_, _-_, _*_, _/_, _%_}
 use mathlib.Core.Bool.{Bool, not, _&&_, _||_}
 use lib.Dec.{leb, ltb, eqb}
 use Rattle.base.specs.Choice.{if_then_else_}
-use Rattle.base.specs.Counts.{nth}
+use Rattle.base.specs.Counts.{cnt, nth}
 use Rattle.plan.specs.Fields.{mappingUnits}
 use Rattle.plan.specs.declared.Cell.{Cell}
 use Rattle.plan.specs.declared.Frame.{Frame}
@@ -101,8 +101,11 @@ held c f s k = heldBySync c f s k || heldByPbch c f s k
 unfoldable pub groupSize : Cell → ℕ → ℕ
 groupSize c s = if eqb s 0 || (eqb s 1 && eqb (c .ports) 4) || (eqb s 3 && eqb (c .prefix) 1) then 6 else 4
 
--- the group of subcarrier k in control symbol s, and whether (s, k) is one of a group's four places: of six, "a group's four places skip
+-- how many groups the symbol has, the group of subcarrier k there, and whether (s, k) is one of a group's four places: of six, "a group's four places skip
 -- k with k mod 3 = C mod 3, also for one port"
+unfoldable pub symbolGroups : Cell → ℕ → ℕ
+symbolGroups c s = 12 * c .blocks / groupSize c s
+
 unfoldable pub elementGroup : Cell → ℕ → ℕ → ℕ
 elementGroup c s k = k / groupSize c s
 
@@ -124,23 +127,36 @@ unfoldable pub pcfich : Cell → ℕ → ℕ → Bool
 pcfich c s k = inGroup c s k && formatHas c s (elementGroup c s k)
 
 -- ---- PHICH, of unit m: "With h = 2N−4 groups left in ascending order, quad i of unit m takes number (C+m+floor(ih/3)) mod h", i = 0..2.
--- h, and whether group t is left
-abbrev pub groupsLeft : Cell → ℕ
-groupsLeft c = 2 * c .blocks - 4
+-- Document 02, #108: "Extended: quad i lies in symbol i, its number (floor(C×h_i/h_0)+m+floor(i×h_i/3)) mod h_i, where h_i counts the groups
+-- of symbol i not given to PCFICH". Else every quad lies in symbol 0, and floor(C×h_0/h_0) is C
+unfoldable pub quadSymbol : Cell → ℕ → ℕ
+quadSymbol c i = if eqb (c .duration) 1 then i else 0
 
-unfoldable pub isLeft : Cell → ℕ → Bool
-isLeft c t = not (isFormat c t)
+-- whether group t of symbol s is left, and h_s
+unfoldable pub isLeft : Cell → ℕ → ℕ → Bool
+isLeft c s t = not (formatHas c s t)
 
--- the number that quad i takes, and the group with that number: those left are numbered from 0 on, in ascending order
+unfoldable pub groupsLeft : Cell → ℕ → ℕ
+groupsLeft c s = cnt (isLeft c s) (symbolGroups c s)
+
+-- floor(C×h_s/h_0), from which the units' numbers in symbol s are counted
+unfoldable pub startNumber : Cell → ℕ → ℕ
+startNumber c s = c .identity * groupsLeft c s / groupsLeft c 0
+
+-- the number that quad i takes, of the groups left in its symbol, and the group with that number: those left are numbered from 0 on, in
+-- ascending order
 unfoldable pub quadNumber : Cell → ℕ → ℕ → ℕ
-quadNumber c m i = (c .identity + m + i * groupsLeft c / 3) % groupsLeft c
+quadNumber c m i = let s = quadSymbol c i in (startNumber c s + m + i * groupsLeft c s / 3) % groupsLeft c s
 
 unfoldable pub quadGroup : Cell → ℕ → ℕ → ℕ
-quadGroup c m i = nth (isLeft c) (2 * c .blocks) (quadNumber c m i)
+quadGroup c m i = let s = quadSymbol c i in nth (isLeft c s) (symbolGroups c s) (quadNumber c m i)
 
--- unit m has group t of symbol s
+-- quad i of unit m has group t of symbol s, and unit m has it
+unfoldable pub quadHas : Cell → ℕ → ℕ → ℕ → ℕ → Bool
+quadHas c m s t i = eqb s (quadSymbol c i) && eqb t (quadGroup c m i)
+
 unfoldable pub mappingUnitHas : Cell → ℕ → ℕ → ℕ → Bool
-mappingUnitHas c m s t = eqb s 0 && (eqb t (quadGroup c m 0) || eqb t (quadGroup c m 1) || eqb t (quadGroup c m 2))
+mappingUnitHas c m s t = quadHas c m s t 0 || quadHas c m s t 1 || quadHas c m s t 2
 
 unfoldable pub phich : Cell → ℕ → ℕ → ℕ → Bool
 phich c m s k = ltb m (mappingUnits c) && inGroup c s k && mappingUnitHas c m s (elementGroup c s k)

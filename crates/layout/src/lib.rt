@@ -7,9 +7,9 @@ ghost use lib.Dec.{leb, ltb};
 ghost use Rattle.plan.specs.Check.{checkOf};
 ghost use Rattle.plan.specs.CommandLists.{usersFrom};
 ghost use Rattle.plan.specs.declared.Checked.the-variants.{Plan as accepted};
-ghost use Rattle.layout.specs.Rules.{slotLength, inSlot, crsSymbol, crsShift, middle, marked, inSyncArea, inPbchArea, formatGroup, groupsLeft};
-ghost use Rattle.layout.specs.Owners.{ownerNumber, symbols as symbolsOf, carriers as carriersOf, gridPlace, controlSymbols, blocksHave, ownerOf};
-ghost use Rattle.layout.specs.Chain.{pilotOf, pilot, unitAt, groupAt, controlAt, fixedAt, userFrom, belowOf};
+ghost use Rattle.layout.specs.Rules.{slotLength, inSlot, crsSymbol, crsShift, middle, marked, inSyncArea, inPbchArea, groupSize, formatGroup, groupsLeft, quadSymbol, startNumber};
+ghost use Rattle.layout.specs.Owners.{ownerNumber, symbols as symbolsOf, carriers as carriersOf, gridPlace, blocksHave, ownerOf};
+ghost use Rattle.layout.specs.Chain.{pilotOf, pilot, quadIn, unitAt, numberAt, groupAt, controlAt, fixedAt, userFrom, belowOf};
 ghost use Rattle.layout.specs.Query.{inGrid, ownerQueryOf};
 use plan::Cell;
 use plan::Checked;
@@ -241,40 +241,102 @@ pub fn formats_below(a: usize, b: usize, c: usize, d: usize, t: usize) -> usize
     base::one_below(a, t) + base::one_below(b, t) + base::one_below(c, t) + base::one_below(d, t)
 }
 
-// The number of the groups that PCFICH leaves, h.
-pub fn groups_left(cell: Cell) -> usize
-    requires { ⌜ 2 ≤ cell .blocks ⌝ }
-    ensures { λ r. ⌜ r ≡ groupsLeft cell ⌝ }
+// The subcarriers of a group of control symbol s. PCFICH and PHICH use the first three.
+pub fn group_size(cell: Cell, s: usize) -> usize
+    requires { ⌜ s < 3 ⌝ }
+    ensures { λ r. ⌜ r ≡ groupSize cell s ⌝ }
 {
-    2 * base::wide(cell.blocks) - 4
+    if s == 0 {
+        return 6;
+    }
+    if s == 1 {
+        if cell.ports == 4 { 6 } else { 4 }
+    } else {
+        4
+    }
 }
 
-// The unit that takes the number d past the identity's, or idle.
-fn unit_in(cell: Cell, d: usize) -> Owner
-    requires { ⌜ (6 ≤ cell .blocks) × (cell .sixths ≤ 12) ⌝ }
-    ensures { λ r. ⌜ r ≡ unitAt cell d ⌝ }
+// The number of the groups that PCFICH leaves in control symbol s: all but four of symbol 0.
+pub fn groups_left(cell: Cell, s: usize) -> usize
+    requires { ⌜ (6 ≤ cell .blocks) × (s < 3) ⌝ }
+    ensures { λ r. ⌜ (r ≡ groupsLeft cell s) × (0 < r) × (r < 1024) ⌝ }
 {
-    let units = plan::units(cell);
-    if d < units {
-        return Owner::Phich(d as u8);
+    let n = base::wide(cell.blocks);
+    if s == 0 {
+        return 2 * n - 4;
     }
-    let h = groups_left(cell);
-    let a = h / 3;
-    if within(a, a + units, d) {
-        return Owner::Phich((d - a) as u8);
+    if group_size(cell, s) == 4 {
+        3 * n
+    } else {
+        2 * n
     }
-    let b = 2 * h / 3;
-    if within(b, b + units, d) {
-        return Owner::Phich((d - b) as u8);
+}
+
+// The symbol of a PHICH unit's quad i: with the extended duration each has its own.
+pub fn quad_symbol(cell: Cell, i: usize) -> usize
+    ensures { λ r. ⌜ r ≡ quadSymbol cell i ⌝ }
+{
+    if cell.duration == 1 { i } else { 0 }
+}
+
+// The number, of the groups left in symbol s, that the units' are counted from: in symbol 0, with nothing to divide, the identity.
+pub fn start_number(cell: Cell, s: usize) -> usize
+    requires { ⌜ (6 ≤ cell .blocks) × (s < 3) ⌝ }
+    ensures { λ r. ⌜ (r ≡ startNumber cell s) × (r < 67108864) ⌝ }
+{
+    let identity = cell.identity as usize;
+    if s == 0 {
+        return identity;
+    }
+    identity * groups_left(cell, s) / groups_left(cell, 0)
+}
+
+// Whether quad i lies in symbol s, and a unit's there takes the number d past the start.
+fn quad_in(cell: Cell, s: usize, d: usize, i: usize) -> bool
+    requires { ⌜ (6 ≤ cell .blocks) × (s < 3) × (i < 3) ⌝ }
+    ensures { λ r. ⌜ r ≡ quadIn cell s d i ⌝ }
+{
+    if quad_symbol(cell, i) != s {
+        return false;
+    }
+    let a = i * groups_left(cell, s) / 3;
+    within(a, a + plan::units(cell), d)
+}
+
+// The unit that takes the number d past the start in symbol s, or idle.
+fn unit_in(cell: Cell, s: usize, d: usize) -> Owner
+    requires { ⌜ (6 ≤ cell .blocks) × (cell .sixths ≤ 12) × (s < 3) ⌝ }
+    ensures { λ r. ⌜ r ≡ unitAt cell s d 3 ⌝ }
+{
+    let h = groups_left(cell, s);
+    let mut i: usize = 3;
+    while 0 < i {
+        i -= 1;
+        if quad_in(cell, s, d, i) {
+            return Owner::Phich((d - i * h / 3) as u8);
+        }
     }
     Owner::Idle
 }
 
-// The owner of group t's four places in symbol 0.
-fn group_at(cell: Cell, t: usize) -> Owner
-    requires { ⌜ (6 ≤ cell .blocks) × (cell .sixths ≤ 12) × (t < 2 * cell .blocks) ⌝ }
-    ensures { λ r. ⌜ r ≡ groupAt cell t ⌝ }
+// The unit that has the group left with number n in symbol s, or idle.
+fn number_at(cell: Cell, s: usize, n: usize) -> Owner
+    requires { ⌜ (6 ≤ cell .blocks) × (cell .sixths ≤ 12) × (s < 3) × (n < 1024) ⌝ }
+    ensures { λ r. ⌜ r ≡ numberAt cell s n ⌝ }
 {
+    let h = groups_left(cell, s);
+    let far = (n + (h - start_number(cell, s) % h)) % h;
+    unit_in(cell, s, far)
+}
+
+// The owner of group t's four places in symbol s. PCFICH has groups of symbol 0 alone.
+fn group_at(cell: Cell, s: usize, t: usize) -> Owner
+    requires { ⌜ (6 ≤ cell .blocks) × (cell .sixths ≤ 12) × (s < 3) × (t < 1024) ⌝ }
+    ensures { λ r. ⌜ r ≡ groupAt cell s t ⌝ }
+{
+    if 0 < s {
+        return number_at(cell, s, t);
+    }
     let a = format_group(cell, 0);
     let b = format_group(cell, 1);
     let c = format_group(cell, 2);
@@ -291,21 +353,21 @@ fn group_at(cell: Cell, t: usize) -> Owner
     if t == d {
         return Owner::Pcfich;
     }
-    let n = t - formats_below(a, b, c, d, t);
-    let h = groups_left(cell);
-    let far = (n + (h - (cell.identity as usize) % h)) % h;
-    unit_in(cell, far)
+    number_at(cell, s, t - formats_below(a, b, c, d, t))
 }
 
-// The owner of subcarrier k in symbol 0 beside the cell's reference signals. A group skips two places, also with one port.
-fn control_at(cell: Cell, k: usize) -> Owner
-    requires { ⌜ (6 ≤ cell .blocks) × (cell .sixths ≤ 12) × (k < 12 * cell .blocks) ⌝ }
-    ensures { λ r. ⌜ r ≡ controlAt cell k ⌝ }
+// The owner of subcarrier k in control symbol s beside the cell's reference signals. A group of six skips two places, also with one port.
+fn control_at(cell: Cell, s: usize, k: usize) -> Owner
+    requires { ⌜ (6 ≤ cell .blocks) × (cell .sixths ≤ 12) × (s < 3) × (k < 12 * cell .blocks) ⌝ }
+    ensures { λ r. ⌜ r ≡ controlAt cell s k ⌝ }
 {
+    if group_size(cell, s) == 4 {
+        return group_at(cell, s, k / 4);
+    }
     if k % 3 == (cell.identity as usize) % 3 {
         return Owner::Idle;
     }
-    group_at(cell, k / 6)
+    group_at(cell, s, k / 6)
 }
 
 // The owner above the users, or idle.
@@ -317,8 +379,8 @@ fn fixed_at(cell: Cell, frame: Frame, s: usize, k: usize) -> Owner
     if q < cell.ports {
         return Owner::Crs(q);
     }
-    if s == 0 {
-        return control_at(cell, k);
+    if s < 3 {
+        return control_at(cell, s, k);
     }
     if in_sync(cell, frame, s, k) {
         if in_middle(cell, 31, k) {
@@ -364,14 +426,6 @@ fn user_from(plan: &[u8], start: usize, count: usize, k: usize) -> Owner
     Owner::Idle
 }
 
-// The number of symbols of the control region, one more than the CFI where the cell has six blocks.
-pub fn control_symbols(cell: Cell, frame: Frame) -> usize
-    ensures { λ r. ⌜ r ≡ controlSymbols cell frame ⌝ }
-{
-    let cfi = frame.cfi as usize;
-    if cell.blocks == 6 { cfi + 1 } else { cfi }
-}
-
 // The owner of a place, for whoever asks for many. Whoever calls has p from the plan check of these bytes, and asks inside the grid.
 pub fn owner_at(plan: &[u8], p: Plan, s: usize, k: usize) -> Owner
     requires { ⌜ (checkOf (now plan) ≡ accepted p) × gridPlace (p .cell) s k ⌝ }
@@ -382,7 +436,7 @@ pub fn owner_at(plan: &[u8], p: Plan, s: usize, k: usize) -> Owner
     let users = p.users;
     let o = fixed_at(cell, frame, s, k);
     if let Owner::Idle = o {
-        if s < control_symbols(cell, frame) {
+        if s < plan::control_symbols(cell, frame) {
             return Owner::Idle;
         }
         user_from(plan, users.at, users.count, k)

@@ -14,7 +14,8 @@ use Rattle.plan.specs.Answers.{Answer, given, refusedBy}
 use Rattle.plan.specs.Check.{refusalNumber, checkOf, refusedAs, unlessRefused}
 use Rattle.plan.specs.declared.Plan.{Plan}
 use Rattle.plan.specs.declared.Refusal.{Refusal}
-use Rattle.plan.specs.declared.Refusal.the-variants.{Unreadable, Order, CellField, FrameField, HiField, UserField, Used, Outside, NoElement, GridLength, PayloadLength, SpareBit, NoPayload}
+use Rattle.plan.specs.declared.Refusal.the-variants.{Unreadable, Order, CellField, FrameField, HiField, UserField, Used, ShortRegion}
+use Rattle.plan.specs.declared.Refusal.the-variants.{Outside, NoElement, GridLength, PayloadLength, SpareBit, NoPayload}
 use Rattle.plan.specs.declared.Checked.{Checked}
 use Rattle.plan.specs.declared.Checked.the-variants.{Plan as accepted, Refused as refused}
 use Rattle.plan.proofs.Answers.{no-number}
@@ -76,6 +77,7 @@ refusal-small GridLength = omega arith
 refusal-small PayloadLength = omega arith
 refusal-small SpareBit = omega arith
 refusal-small NoPayload = omega arith
+refusal-small ShortRegion = omega arith
 
 -- ---- and those of the calls
 numbered-small : (f : Plan → ℕ) (a : Checked) → ((p : Plan) → a ≡ accepted p → f p < 2 ^ 63) → (n : Number) → numberAnswer n ≡ answerWith f a → Small n

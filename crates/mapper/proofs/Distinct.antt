@@ -21,6 +21,7 @@ use Rattle.plan.specs.declared.Refusal.the-variants.{
   PayloadLength,
   SpareBit,
   NoPayload,
+  ShortRegion,
 }
 use Rattle.build.specs.Build.{builtAnswer}
 use Rattle.build.specs.declared.Built.{Built}
@@ -32,14 +33,15 @@ use Rattle.mapper.specs.Calls.{numberAnswer}
 use Rattle.mapper.specs.declared.Number.{Number}
 use Rattle.mapper.specs.declared.Number.the-variants as number
 
+-- refusals 1 to 13
 all : List Refusal
 all =
     Unreadable ∷ Order ∷ CellField ∷ FrameField ∷ HiField ∷ UserField ∷ Used ∷ Outside ∷ NoElement ∷ GridLength ∷ PayloadLength ∷ SpareBit
     ∷ NoPayload ∷ []
 
--- the refusal of a number
+-- the refusal of a number: 18 is the one beyond the list
 abbrev refusalAt : ℕ → Refusal
-refusalAt n = getD all (n - 1) Unreadable
+refusalAt n = getD all (n - 1) ShortRegion
 
 found : (r : Refusal) → refusalAt (refusalNumber r) ≡ r
 unfolding all
@@ -56,6 +58,7 @@ found GridLength = refl
 found PayloadLength = refl
 found SpareBit = refl
 found NoPayload = refl
+found ShortRegion = refl
 
 module _ {A : Type 0} (f : A → Answer) (is : ℕ → A) (refused : Refusal → A) where
   abbrev undone : Answer → A

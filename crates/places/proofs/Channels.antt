@@ -1,37 +1,46 @@
--- PCFICH's quads and a PHICH unit's: the groups that their rules name, each once. Assumes six blocks, and a unit in the first third of
--- the numbers.
-use Prim.Native.Nat.{ℕ, _*_, _/_, _≤_, _<_}
-use mathlib.Core.Path.{_≡_, refl, sym, _∙_}
-use Rattle.base.proofs.Some.{isSome, some-in, in-some, all-apart}
+-- PCFICH's quads and a PHICH unit's: the groups that their rules name, each once. Assumes six blocks, and that the units fill at most a third
+-- of the numbers.
+use Prim.Native.Nat.{ℕ, _/_, _≤_, _<_}
+use mathlib.Core.Path.{_≡_, refl, sym}
+use mathlib.Core.Bool.{true}
+use native.Mathlib.Omega.{arith}
+use lib.Dec.{eqb}
+use borrow.Author.Tests.{eqb-true}
+use Rattle.base.proofs.Some.{in-some}
+use Rattle.plan.specs.Fields.{mappingUnits}
 use Rattle.plan.specs.declared.Cell.{Cell}
-use Rattle.layout.specs.Rules.{formatGroup, isFormat, groupsLeft, quadGroup, mappingUnitHas}
-use Rattle.layout.proofs.Groups.{format-small, format-apart}
-use Rattle.layout.proofs.Units.{unit-small, unit-apart}
-use Rattle.places.proofs.Quads.{Groups}
-
-format-some : (c : Cell) (t : ℕ) → isFormat c t ≡ isSome (formatGroup c) 4 t
-unfolding isFormat
-format-some c t = refl
-
-unit-some : (c : Cell) (m t : ℕ) → mappingUnitHas c m 0 t ≡ isSome (quadGroup c m) 3 t
-unfolding mappingUnitHas
-unit-some c m t = refl
+use Rattle.plan.proofs.Listed.{and-left, and-right}
+use Rattle.layout.specs.Rules.{formatGroup, isFormat, formatHas, quadSymbol, groupsLeft, quadGroup, mappingUnitHas}
+use Rattle.layout.proofs.GroupShape.{first-groups, quad-low}
+use Rattle.layout.proofs.Groups.{is-format, format-small, format-once}
+use Rattle.layout.proofs.Units.{unit-small, units-apart, unit-quad, quad-unit}
+use Rattle.places.proofs.Numbers.{symbols-least}
+use Rattle.places.proofs.Quads.{QuadChannel}
 
 module _ (c : Cell) (big : 6 ≤ c .blocks) where
-  pub format-groups : Groups 4 (2 * c .blocks) (formatGroup c) (isFormat c)
+  format-found : (s g : ℕ) → formatHas c s g ≡ true → (i : ℕ) × (i < 4) × (s ≡ 0) × (g ≡ formatGroup c i)
+  unfolding formatHas isFormat
+  format-found s g e =
+      let i = in-some (formatGroup c) 4 g (and-right (eqb s 0) (isFormat c g) e) in
+      (i .0, i .1, eqb-true s 0 (and-left (eqb s 0) (isFormat c g) e), sym (i .2))
+
+  pub format-groups : QuadChannel c 4 (λ (i : ℕ). 0) (formatGroup c) (formatHas c)
+  unfolding formatHas
   format-groups =
       record {
-        small = λ i l. format-small c big i;
-        has-group = λ i l. format-some c (formatGroup c i) ∙ some-in (formatGroup c) 4 (formatGroup c i) i l refl;
-        apart = all-apart (formatGroup c) 4 (format-apart c big);
-        some = λ g l e. in-some (formatGroup c) 4 g (sym (format-some c g) ∙ e);
+        low = λ i l. omega (arith, symbols-least c);
+        small = λ i l. omega (arith, format-small c big i, first-groups c);
+        has-group = λ i l. is-format c (formatGroup c i) i l refl;
+        apart = λ i j l m a b. format-once c big i j l m b;
+        some = format-found;
       }
 
-  pub unit-groups : (m : ℕ) → m < groupsLeft c / 3 → Groups 3 (2 * c .blocks) (quadGroup c m) (mappingUnitHas c m 0)
-  unit-groups m third =
+  pub unit-groups : ((s : ℕ) → mappingUnits c ≤ groupsLeft c s / 3) → (m : ℕ) → m < mappingUnits c → QuadChannel c 3 (quadSymbol c) (quadGroup c m) (mappingUnitHas c m)
+  unit-groups fit m in-m =
       record {
+        low = λ i l. omega (arith, quad-low c i, symbols-least c);
         small = λ i l. unit-small c big m i;
-        has-group = λ i l. unit-some c m (quadGroup c m i) ∙ some-in (quadGroup c m) 3 (quadGroup c m i) i l refl;
-        apart = all-apart (quadGroup c m) 3 (unit-apart c big m third);
-        some = λ g l e. in-some (quadGroup c m) 3 g (sym (unit-some c m g) ∙ e);
+        has-group = λ i l. quad-unit c m (quadSymbol c i) (quadGroup c m i) (i, l, refl, refl);
+        apart = λ i j l u a b. units-apart c big fit m m i j in-m in-m l u a b .1;
+        some = unit-quad c m;
       }

@@ -14,11 +14,13 @@ use Rattle.plan.specs.declared.Frame.{Frame}
 use Rattle.plan.specs.declared.User.{User}
 use Rattle.plan.specs.declared.Plan.{Plan}
 use Rattle.plan.specs.declared.Checked.the-variants.{Plan as accepted}
+use Rattle.plan.specs.Valid.{Valid}
 use Rattle.plan.proofs.Valid.{valid}
 use Rattle.layout.specs.Rules.{slotOf, standsAt, crsOf, crsBelow, crsAny, middle, centre, inSyncArea, inPbchArea, pbch}
-use Rattle.layout.specs.Owners.{controlSymbols, blocksHave, userHas, userRule, free, fixedRule, owns}
+use Rattle.plan.specs.Fields.{controlSymbols}
+use Rattle.layout.specs.Owners.{blocksHave, userHas, userRule, free, fixedRule, owns}
 use Rattle.layout.specs.declared.Owner.the-variants.{Pbch, User as UserOf}
-use Rattle.layout.proofs.ControlRegion.{region-least}
+use Rattle.layout.proofs.ControlRegion.{AfterRegion, after-region}
 use Rattle.counts.proofs.UserElements.{area-free}
 use Rattle.places.specs.Halves.{without, openPlace, openOfFour, inPbch, takenHalf, openTo}
 
@@ -74,16 +76,13 @@ order true false false = refl
 lost : (x y f z v : Bool) → x && false && f ≡ y && false && z && v
 lost x y f z v = simp and-false
 
-late-symbol : (c : Cell) (f : Frame) (s : ℕ) → 1 ≤ f .cfi → leb (controlSymbols c f) s ≡ true → 0 < s
-late-symbol c f s h e = omega (arith, region-least c f, leb-true (controlSymbols c f) s e)
-
 -- PBCH's: those without reference signals of four ports, or none
 pub pbch-half : (w : List ℕ) (p : Plan) (s b r : ℕ) → r < 6 → owns w p Pbch s (6 * b + r) ≡ inPbch (p .cell) (p .frame) s b && openOfFour (p .cell) s r
 unfolding owns fixedRule pbch without
 pbch-half w p s b r h = rw (area-six b r h (p .cell) (p .frame) s, below-six b r h (p .cell) 4 s) refl
 
-module _ (w : List ℕ) (p : Plan) (control : 1 ≤ p .frame .cfi) where
-  free-half : (s b r : ℕ) → r < 6 → 0 < s → free (p .cell) (p .frame) s (6 * b + r) ≡ not (crsAny (p .cell) s r) && not (takenHalf (p .cell) (p .frame) s b)
+module _ (w : List ℕ) (p : Plan) (ok : Valid w p) where
+  free-half : (s b r : ℕ) → r < 6 → AfterRegion (p .cell) s → free (p .cell) (p .frame) s (6 * b + r) ≡ not (crsAny (p .cell) s r) && not (takenHalf (p .cell) (p .frame) s b)
   unfolding takenHalf
   free-half s b r h late =
       area-free (p .cell) (p .frame) s (6 * b + r) late
@@ -97,9 +96,9 @@ module _ (w : List ℕ) (p : Plan) (control : 1 ≤ p .frame .cfi) where
       let n = not (crsAny (p .cell) s r) in
       let t = not (takenHalf (p .cell) (p .frame) s b) in
       by-test (leb (controlSymbols (p .cell) (p .frame)) s)
-      (λ e. rw (e, user-six b r h, free-half s b r h (late-symbol (p .cell) (p .frame) s control e)) (order (u (6 * b)) n t))
+      (λ e. rw (e, user-six b r h, free-half s b r h (after-region w p ok s (leb-true (controlSymbols (p .cell) (p .frame)) s e))) (order (u (6 * b)) n t))
       (λ e. rw e (lost (u (6 * b + r)) (u (6 * b)) (free (p .cell) (p .frame) s (6 * b + r)) t n))
 
 -- a user's, under an accepted plan
 pub user-places : (w : List ℕ) (p : Plan) → checkOf w ≡ accepted p → (i s b r : ℕ) → r < 6 → owns w p (UserOf i) s (6 * b + r) ≡ openTo w p i s b && openPlace (p .cell) s r
-user-places w p ok = user-half w p (valid w p ok .frame .some)
+user-places w p ok = user-half w p (valid w p ok)

@@ -1,5 +1,5 @@
 -- A group of any symbol has four places, and a channel of quads has just the places of its quads' groups, each once; index and place
--- undo each other. Assumes of a channel that its groups are symbol 0's.
+-- undo each other. Assumes of a channel that its quads' symbols and groups are the grid's.
 use Prim.Native.Nat.{ℕ, _+_, _-_, _*_, _/_, _%_, _≤_, _<_}
 use mathlib.Core.Path.{_≡_, refl, sym, ap, ap₂, _∙_}
 use mathlib.Core.Logic.{_↔_}
@@ -11,14 +11,16 @@ use borrow.Author.Tests.{eq-eqb, ne-eqb, eqb-true, ltb-true}
 use Rattle.base.specs.Choice.{indicator}
 use Rattle.base.specs.Counts.{cnt, nth, which, Listed}
 use Rattle.base.proofs.Computed.{allBelow, below-at}
-use Rattle.base.proofs.Counts.{cnt-none, cnt-add, cnt-same, cnt-skip, cnt-lt, nth-of, nth-is, which-is}
+use Rattle.base.proofs.Counts.{cnt-none, cnt-add, cnt-same, cnt-skip, cnt-all, cnt-lt, nth-of, nth-is, which-is}
 use Rattle.base.proofs.Tests.{both}
 use Rattle.plan.specs.declared.Cell.{Cell}
 use Rattle.plan.proofs.Listed.{and-left, and-right}
-use Rattle.layout.specs.Rules.{groupSize, elementGroup, inGroup}
-use Rattle.layout.proofs.GroupShape.{by-size}
-use Rattle.layout.specs.Owners.{carriers}
+use Rattle.layout.specs.Rules.{groupSize, symbolGroups, elementGroup, inGroup}
+use Rattle.layout.proofs.GroupShape.{by-size, group-below}
+use Rattle.layout.specs.Owners.{symbols, carriers}
 use Rattle.places.specs.Quads.{groupHas, quadPlace, quadIndex, quadsPlace, quadsIndex, InQuads}
+use Rattle.places.specs.Places.{placeNumber, symbolAt, carrierAt, placesOf}
+use Rattle.places.proofs.Numbers.{place-symbol, place-carrier, place-both, place-inside, carrier-inside}
 
 -- ---- a place of a group, in any symbol
 module _ (c : Cell) (s t j : ℕ) (in-j : j < cnt (groupHas c s t) (carriers c)) where
@@ -88,14 +90,11 @@ module _ (c : Cell) (s : ℕ) where
   group-around t k = by-size (λ (z : ℕ). k / z ≡ t → (z * t ≤ k) × (k < z * t + z)) c s (λ e. (omega arith, omega arith)) (λ e. (omega arith, omega arith))
 
   -- the groups fill the symbol: 12N is a multiple of six and of four
-  last-group : (t : ℕ) → t < carriers c / z → z * t + z ≤ carriers c
+  last-group : (t : ℕ) → t < symbolGroups c s → z * t + z ≤ carriers c
+  unfolding symbolGroups
   last-group t = by-size (λ (z : ℕ). t < carriers c / z → z * t + z ≤ carriers c) c s (λ l. omega arith) (λ l. omega arith)
 
-  pub group-below : (k : ℕ) → k < carriers c → elementGroup c s k < carriers c / z
-  unfolding elementGroup
-  group-below k l = by-size (λ (z : ℕ). k / z < carriers c / z) c s (omega arith) (omega arith)
-
-  module _ (t : ℕ) (in-t : t < carriers c / z) where
+  module _ (t : ℕ) (in-t : t < symbolGroups c s) where
     abbrev v : ℕ
     v = c .identity % 3
 
@@ -129,29 +128,40 @@ module _ (c : Cell) (s : ℕ) where
 pub index-small : (c : Cell) (s k : ℕ) → k < carriers c → inGroup c s k ≡ true → quadIndex c s k < 4
 index-small c s k h e = omega (arith, index-below c s k h e, four c s (elementGroup c s k) (group-below c s k h))
 
--- ---- symbol 0 has 2N groups
-first-groups : (c : Cell) → carriers c / groupSize c 0 ≡ 2 * c .blocks
-unfolding groupSize
-first-groups c = omega arith
-
-module _ (c : Cell) (t : ℕ) (in-t : t < 2 * c .blocks) where
+module _ (c : Cell) (s t : ℕ) (in-t : t < symbolGroups c s) where
   module _ (j : ℕ) (in-j : j < 4) where
-    small : j < cnt (groupHas c 0 t) (carriers c)
-    small = omega (arith, four c 0 t (omega (arith, first-groups c)))
+    small : j < cnt (groupHas c s t) (carriers c)
+    small = omega (arith, four c s t in-t)
 
-    pub place-group : elementGroup c 0 (quadPlace c 0 t j) ≡ t
-    place-group = group-place c 0 t j small
+    pub place-group : elementGroup c s (quadPlace c s t j) ≡ t
+    place-group = group-place c s t j small
 
-    pub place-kept : inGroup c 0 (quadPlace c 0 t j) ≡ true
-    place-kept = place-in c 0 t j small
+    pub place-kept : inGroup c s (quadPlace c s t j) ≡ true
+    place-kept = place-in c s t j small
 
-    pub place-below : quadPlace c 0 t j < carriers c
-    place-below = carrier-place c 0 t j small
+    pub place-below : quadPlace c s t j < carriers c
+    place-below = carrier-place c s t j small
 
-    pub place-index : quadIndex c 0 (quadPlace c 0 t j) ≡ j
-    place-index = index-of-place c 0 t j small
+    pub place-index : quadIndex c s (quadPlace c s t j) ≡ j
+    place-index = index-of-place c s t j small
 
--- the j-th place by its offset: two of each three subcarriers
+  -- the j-th place by its offset r in the group: j of those below are kept, and so is r
+  place-offset : (j r : ℕ) → r < groupSize c s → keeps (groupSize c s) (c .identity % 3) r ≡ true → cnt (keeps (groupSize c s) (c .identity % 3)) r ≡ j → quadPlace c s t j ≡ groupSize c s * t + r
+  unfolding quadPlace
+  place-offset j r l kept count =
+      let z = groupSize c s in
+      ap (nth (groupHas c s t) (carriers c)) (sym (up-to c s t in-t r (omega arith) ∙ count))
+      ∙ nth-of (groupHas c s t) (carriers c) (z * t + r) (in-size c s t in-t r l ∙ kept) (omega (arith, last-group c s t in-t))
+
+  -- all of four subcarriers
+  pub place-four : (j : ℕ) → j < 4 → groupSize c s ≡ 4 → quadPlace c s t j ≡ 4 * t + j
+  place-four j l e =
+      let all = keeps 4 (c .identity % 3) in
+      let z : 0 + j ≡ j = omega arith in
+      let count : cnt all j ≡ j = omega (arith, ap (cnt all) (sym z) ∙ cnt-all all 0 j (λ r a b. refl), cnt-none all) in
+      place-offset j j (omega (arith, e)) (rw e refl) (rw e count) ∙ ap (λ (z : ℕ). z * t + j) e
+
+-- and of six two of each three
 unfoldable offset : ℕ → ℕ → ℕ
 offset v j = 3 * (j / 2) + j % 2 + indicator (ltb v (j % 2 + 1))
 
@@ -162,110 +172,157 @@ offsets : T (allBelow (λ (v : ℕ). allBelow (offsetIs v) 4) 3)
 unfolding cnt offset
 offsets = tt
 
-pub place-is : (c : Cell) (t j : ℕ) → t < 2 * c .blocks → j < 4 → quadPlace c 0 t j ≡ 6 * t + (3 * (j / 2) + j % 2 + indicator (ltb (c .identity % 3) (j % 2 + 1)))
-unfolding quadPlace offset groupSize
-place-is c t j in-t h =
+pub place-six : (c : Cell) (s t j : ℕ) → t < symbolGroups c s → j < 4 → groupSize c s ≡ 6 → quadPlace c s t j ≡ 6 * t + (3 * (j / 2) + j % 2 + indicator (ltb (c .identity % 3) (j % 2 + 1)))
+unfolding offset
+place-six c s t j in-t h e =
     let v = c .identity % 3 in
     let r = offset v j in
     let a = eqb (cnt (keeps 6 v) r) j in
-    let e = is-true (offsetIs v j) (below-at (offsetIs v) 4 (below-at (λ (v : ℕ). allBelow (offsetIs v) 4) 3 offsets v (omega arith)) j h) in
-    let ab = and-left (a && keeps 6 v r) (ltb r 6) e in
-    let l : r < 6 = ltb-true r 6 (and-right (a && keeps 6 v r) (ltb r 6) e) in
-    let first : t < carriers c / groupSize c 0 = omega (arith, first-groups c) in
-    let own : groupHas c 0 t (6 * t + r) ≡ true = in-size c 0 t first r l ∙ and-right a (keeps 6 v r) ab in
-    let count : cnt (groupHas c 0 t) (6 * t + r) ≡ j = up-to c 0 t first r (omega arith) ∙ eqb-true _ _ (and-left a (keeps 6 v r) ab) in
-    ap (nth (groupHas c 0 t) (carriers c)) (sym count) ∙ nth-of (groupHas c 0 t) (carriers c) (6 * t + r) own (omega arith)
+    let i = is-true (offsetIs v j) (below-at (offsetIs v) 4 (below-at (λ (v : ℕ). allBelow (offsetIs v) 4) 3 offsets v (omega arith)) j h) in
+    let ab = and-left (a && keeps 6 v r) (ltb r 6) i in
+    let l : r < 6 = ltb-true r 6 (and-right (a && keeps 6 v r) (ltb r 6) i) in
+    place-offset c s t in-t j r (omega (arith, e)) (rw e (and-right a (keeps 6 v r) ab)) (rw e (eqb-true _ _ (and-left a (keeps 6 v r) ab)))
+    ∙ ap (λ (z : ℕ). z * t + r) e
 
--- ---- a channel of n quads: has holds of just their groups, which are below 2N and different
-pub record Groups (n H : ℕ) (group : ℕ → ℕ) (has : ℕ → Bool) : Type 0 where
-  pub small : (i : ℕ) → i < n → group i < H
-  pub has-group : (i : ℕ) → i < n → has (group i) ≡ true
-  pub apart : (i j : ℕ) → i < n → j < n → group i ≡ group j → i ≡ j
-  pub some : (g : ℕ) → g < H → has g ≡ true → (i : ℕ) × (i < n) × (group i ≡ g)
+position-is : (c : Cell) (n : ℕ) (symbol group : ℕ → ℕ) (s k : ℕ) → quadIndex c s k < 4 → quadsIndex c n symbol group s k % 4 ≡ quadIndex c s k
+unfolding quadsIndex
+position-is c n symbol group s k l = omega arith
 
-module _ (c : Cell) (n : ℕ) (group : ℕ → ℕ) (has : ℕ → Bool) (gs : Groups n (2 * c .blocks) group has) where
-  abbrev pub rule : ℕ → Bool
-  rule k = inGroup c 0 k && has (elementGroup c 0 k)
+-- ---- a channel of n quads: has holds of just their groups, which are of the grid's symbols and different
+pub record QuadChannel (c : Cell) (n : ℕ) (symbol group : ℕ → ℕ) (has : ℕ → ℕ → Bool) : Type 0 where
+  pub low : (i : ℕ) → i < n → symbol i < symbols c
+  pub small : (i : ℕ) → i < n → group i < symbolGroups c (symbol i)
+  pub has-group : (i : ℕ) → i < n → has (symbol i) (group i) ≡ true
+  pub apart : (i j : ℕ) → i < n → j < n → symbol i ≡ symbol j → group i ≡ group j → i ≡ j
+  pub some : (s g : ℕ) → has s g ≡ true → (i : ℕ) × (i < n) × (s ≡ symbol i) × (g ≡ group i)
+
+module _ (c : Cell) (n : ℕ) (symbol group : ℕ → ℕ) (has : ℕ → ℕ → Bool) (gs : QuadChannel c n symbol group has) where
+  abbrev pub quadRule : ℕ → ℕ → Bool
+  quadRule s k = inGroup c s k && has s (elementGroup c s k)
+
+  -- quad i is the one whose group has the place
+  abbrev isQuad : ℕ → ℕ → ℕ → Bool
+  isQuad s k i = eqb s (symbol i) && eqb (elementGroup c s k) (group i)
+
+  one-quad : (s k i : ℕ) → i < n → s ≡ symbol i → elementGroup c s k ≡ group i → which (isQuad s k) n ≡ i
+  one-quad s k i l es eg =
+      which-is (isQuad s k) n i l (both (eq-eqb s (symbol i) es) (eq-eqb (elementGroup c s k) (group i) eg))
+      (λ j m e.
+      let x = eqb-true s (symbol j) (and-left (eqb s (symbol j)) (eqb (elementGroup c s k) (group j)) e) in
+      let y = eqb-true (elementGroup c s k) (group j) (and-right (eqb s (symbol j)) (eqb (elementGroup c s k) (group j)) e) in
+      gs .apart j i m l (sym x ∙ es) (sym y ∙ eg))
 
   module _ (j : ℕ) (in-j : j < 4 * n) where
+    abbrev S : ℕ
+    S = symbol (j / 4)
+
     in-quad : j % 4 < 4
     in-quad = omega arith
 
     quad : j / 4 < n
     quad = omega arith
 
-    of-group : elementGroup c 0 (quadsPlace c group j) ≡ group (j / 4)
+    of-group : elementGroup c S (quadsPlace c symbol group j) ≡ group (j / 4)
     unfolding quadsPlace
-    of-group = place-group c (group (j / 4)) (gs .small (j / 4) quad) (j % 4) in-quad
+    of-group = place-group c S (group (j / 4)) (gs .small (j / 4) quad) (j % 4) in-quad
 
-    inside : quadsPlace c group j < carriers c
+    inside : quadsPlace c symbol group j < carriers c
     unfolding quadsPlace
-    inside = place-below c (group (j / 4)) (gs .small (j / 4) quad) (j % 4) in-quad
+    inside = place-below c S (group (j / 4)) (gs .small (j / 4) quad) (j % 4) in-quad
 
-    is-kept : inGroup c 0 (quadsPlace c group j) ≡ true
+    is-kept : inGroup c S (quadsPlace c symbol group j) ≡ true
     unfolding quadsPlace
-    is-kept = place-kept c (group (j / 4)) (gs .small (j / 4) quad) (j % 4) in-quad
+    is-kept = place-kept c S (group (j / 4)) (gs .small (j / 4) quad) (j % 4) in-quad
 
-    owned : rule (quadsPlace c group j) ≡ true
+    owned : quadRule S (quadsPlace c symbol group j) ≡ true
     owned = rw (is-kept, of-group) (gs .has-group (j / 4) quad)
 
-    position : quadIndex c 0 (quadsPlace c group j) ≡ j % 4
+    position : quadIndex c S (quadsPlace c symbol group j) ≡ j % 4
     unfolding quadsPlace
-    position = place-index c (group (j / 4)) (gs .small (j / 4) quad) (j % 4) in-quad
+    position = place-index c S (group (j / 4)) (gs .small (j / 4) quad) (j % 4) in-quad
 
-    back : quadsIndex c n group (quadsPlace c group j) ≡ j
+    back : quadsIndex c n symbol group S (quadsPlace c symbol group j) ≡ j
     unfolding quadsIndex
-    back = omega (arith, position, ap (which group n) of-group ∙ which-is group n (gs .apart) (j / 4) quad)
+    back = omega (arith, position, one-quad S (quadsPlace c symbol group j) (j / 4) quad refl of-group)
 
-  module _ (k : ℕ) (in-k : k < carriers c) (e : rule k ≡ true) where
-    kept : inGroup c 0 k ≡ true
-    kept = and-left (inGroup c 0 k) (has (elementGroup c 0 k)) e
+  module _ (s k : ℕ) (in-k : k < carriers c) (e : quadRule s k ≡ true) where
+    kept : inGroup c s k ≡ true
+    kept = and-left (inGroup c s k) (has s (elementGroup c s k)) e
 
-    found : (i : ℕ) × (i < n) × (group i ≡ elementGroup c 0 k)
-    found = gs .some (elementGroup c 0 k) (omega (arith, group-below c 0 k in-k, first-groups c)) (and-right (inGroup c 0 k) (has (elementGroup c 0 k)) e)
+    found : (i : ℕ) × (i < n) × (s ≡ symbol i) × (elementGroup c s k ≡ group i)
+    found = gs .some s (elementGroup c s k) (and-right (inGroup c s k) (has s (elementGroup c s k)) e)
 
-    which-one : which group n (elementGroup c 0 k) ≡ found .0
-    which-one = ap (which group n) (sym (found .2)) ∙ which-is group n (gs .apart) (found .0) (found .1)
+    which-one : which (isQuad s k) n ≡ found .0
+    which-one = one-quad s k (found .0) (found .1) (found .2) (found .3)
 
-    below : quadsIndex c n group k < 4 * n
+    below : quadsIndex c n symbol group s k < 4 * n
     unfolding quadsIndex
-    below = omega (arith, which-one, found .1, index-small c 0 k in-k kept)
+    below = omega (arith, which-one, found .1, index-small c s k in-k kept)
 
-    again : quadsPlace c group (quadsIndex c n group k) ≡ k
-    unfolding quadsPlace quadsIndex
+    quad-of-index : quadsIndex c n symbol group s k / 4 ≡ found .0
+    unfolding quadsIndex
+    quad-of-index = omega (arith, which-one, index-small c s k in-k kept)
+
+    symbol-again : symbol (quadsIndex c n symbol group s k / 4) ≡ s
+    symbol-again = ap symbol quad-of-index ∙ sym (found .2)
+
+    again : quadsPlace c symbol group (quadsIndex c n symbol group s k) ≡ k
+    unfolding quadsPlace
     again =
-        let q = which group n (elementGroup c 0 k) in
-        let r = quadIndex c 0 k in
-        let d : (4 * q + r) / 4 ≡ q = omega (arith, index-small c 0 k in-k kept) in
-        let m : (4 * q + r) % 4 ≡ r = omega (arith, index-small c 0 k in-k kept) in
-        ap₂ (λ (x y : ℕ). quadPlace c 0 (group x) y) d m ∙ ap (λ (x : ℕ). quadPlace c 0 x r) (ap group which-one ∙ found .2) ∙ index-place c 0 k in-k kept
-
-  pub quads-listed : Listed rule (carriers c) (4 * n) (quadsPlace c group) (quadsIndex c n group)
-  quads-listed = record { inside = inside; owned = owned; back = back; below = below; again = again }
+        let j = quadsIndex c n symbol group s k in
+        ap₂ (λ (x y : ℕ). quadPlace c x y (j % 4)) symbol-again (ap group quad-of-index ∙ sym (found .3)) ∙ ap (quadPlace c s (elementGroup c s k)) position-again ∙ index-place c s k in-k kept
+      where
+        position-again : quadsIndex c n symbol group s k % 4 ≡ quadIndex c s k
+        position-again = position-is c n symbol group s k (index-small c s k in-k kept)
 
   -- the rule holds just at the places of the quads
-  pub quads-exactly : (k : ℕ) → k < carriers c → (rule k ≡ true) ↔ InQuads c n group k
-  quads-exactly k in-k = (to, from)
+  pub quads-exactly : (s k : ℕ) → k < carriers c → (quadRule s k ≡ true) ↔ InQuads c n symbol group s k
+  quads-exactly s k in-k = (to, from)
     where
-      to : rule k ≡ true → InQuads c n group k
+      to : quadRule s k ≡ true → InQuads c n symbol group s k
       to e =
-          let f = found k in-k e in
-          (f .0, quadIndex c 0 k, f .1, index-small c 0 k in-k (kept k in-k e), sym (ap (λ (g : ℕ). quadPlace c 0 g (quadIndex c 0 k)) (f .2) ∙ index-place c 0 k in-k (kept k in-k e)))
+          let f = found s k in-k e in
+          let x = kept s k in-k e in
+          (f .0, quadIndex c s k, f .1, index-small c s k in-k x, f .2, sym (ap (λ (g : ℕ). quadPlace c s g (quadIndex c s k)) (sym (f .3)) ∙ index-place c s k in-k x))
 
-      from : InQuads c n group k → rule k ≡ true
-      from (i, j, a, b, e) = rw (e, place-kept c (group i) (gs .small i a) j b, place-group c (group i) (gs .small i a) j b) (gs .has-group i a)
+      from : InQuads c n symbol group s k → quadRule s k ≡ true
+      from (i, j, a, b, es, ek) =
+          let t : group i < symbolGroups c s = omega (arith, gs .small i a, ap (symbolGroups c) es) in
+          rw (ek, place-kept c s (group i) t j b, place-group c s (group i) t j b) (ap (λ (x : ℕ). has x (group i)) es ∙ gs .has-group i a)
 
-  -- no two quads have a place in common, and no two places of a quad are one
-  pub quads-apart : (i i′ j j′ : ℕ) → i < n → i′ < n → j < 4 → j′ < 4 → quadPlace c 0 (group i) j ≡ quadPlace c 0 (group i′) j′ → (i ≡ i′) × (j ≡ j′)
-  quads-apart i i′ j j′ a a′ b b′ e = (
-    gs .apart i i′ a a′ (sym (place-group c (group i) (gs .small i a) j b) ∙ ap (elementGroup c 0) e ∙ place-group c (group i′) (gs .small i′ a′) j′ b′),
-    sym (place-index c (group i) (gs .small i a) j b) ∙ ap (quadIndex c 0) e ∙ place-index c (group i′) (gs .small i′ a′) j′ b′,
-  )
+  -- ---- over the numbers of all places
+  module _ (someC : 0 < carriers c) where
+    abbrev at : ℕ → ℕ
+    at j = placeNumber c (symbol (j / 4)) (quadsPlace c symbol group j)
+
+    abbrev index : ℕ → ℕ
+    index t = quadsIndex c n symbol group (symbolAt c t) (carrierAt c t)
+
+    symbol-at : (j : ℕ) → j < 4 * n → symbolAt c (at j) ≡ symbol (j / 4)
+    symbol-at j h = place-symbol c (symbol (j / 4)) (quadsPlace c symbol group j) (inside j h)
+
+    carrier-at : (j : ℕ) → j < 4 * n → carrierAt c (at j) ≡ quadsPlace c symbol group j
+    carrier-at j h = place-carrier c (symbol (j / 4)) (quadsPlace c symbol group j) (inside j h)
+
+    pub by-quads : (own : ℕ → Bool) → ((t : ℕ) → own t ≡ quadRule (symbolAt c t) (carrierAt c t)) → Listed own (placesOf c) (4 * n) at index
+    by-quads own same =
+        record {
+          inside = λ j h. place-inside c (symbol (j / 4)) (quadsPlace c symbol group j) (gs .low (j / 4) (quad j h)) (inside j h);
+          owned = λ j h. same (at j) ∙ ap₂ quadRule (symbol-at j h) (carrier-at j h) ∙ owned j h;
+          back = λ j h. ap₂ (quadsIndex c n symbol group) (symbol-at j h) (carrier-at j h) ∙ back j h;
+          below = λ t h e. below (symbolAt c t) (carrierAt c t) (carrier-inside c someC t) (sym (same t) ∙ e);
+          again = λ t h e.
+              let r = sym (same t) ∙ e in
+              let l = carrier-inside c someC t in
+              ap₂ (placeNumber c) (symbol-again (symbolAt c t) (carrierAt c t) l r) (again (symbolAt c t) (carrierAt c t) l r) ∙ place-both c t;
+        }
 
 -- index 4i + j is the j-th place of quad i
-pub quads-at : (c : Cell) (group : ℕ → ℕ) (i j : ℕ) → j < 4 → quadsPlace c group (4 * i + j) ≡ quadPlace c 0 (group i) j
+pub quads-at :
+    (c : Cell) (symbol group : ℕ → ℕ) (i j : ℕ) → j < 4
+    → placeNumber c (symbol ((4 * i + j) / 4)) (quadsPlace c symbol group (4 * i + j)) ≡ placeNumber c (symbol i) (quadPlace c (symbol i) (group i) j)
 unfolding quadsPlace
-quads-at c group i j h =
+quads-at c symbol group i j h =
     let d : (4 * i + j) / 4 ≡ i = omega arith in
     let r : (4 * i + j) % 4 ≡ j = omega arith in
-    ap₂ (λ (x y : ℕ). quadPlace c 0 (group x) y) d r
+    rw (d, r) refl

@@ -1,37 +1,60 @@
 -- What each function hands back, over plain values. Assumes what the functions require.
 use Prim.Native.Nat.{ℕ, _+_, _*_, _/_, _%_, _≤_, _<_}
-use mathlib.Core.Path.{_≡_, refl, sym, ap, _∙_}
+use mathlib.Core.Path.{_≡_, refl, sym, _∙_}
 use native.Mathlib.Nat.{mul-le-mul}
 use native.Mathlib.Omega.{arith}
 use lib.Dec.{ltb}
 use Rattle.base.specs.Choice.{indicator}
 use Rattle.plan.specs.declared.Cell.{Cell}
-use Rattle.layout.specs.Rules.{formatGroup, groupsLeft, quadNumber, quadGroup}
+use Rattle.layout.specs.Rules.{groupSize, symbolGroups, formatGroup, quadSymbol, groupsLeft, startNumber, quadNumber, quadGroup}
+use Rattle.layout.specs.Owners.{carriers}
+use Rattle.layout.proofs.GroupShape.{by-size, groups-most}
+use Rattle.layout.proofs.Groups.{left-most}
 use Rattle.layout.proofs.Units.{number-lt}
 use Rattle.places.specs.Quads.{quadPlace}
 use Rattle.layout.specs.Chain.{belowOf}
 use Rattle.places.specs.Steps.{stepOf}
-use Rattle.places.proofs.Quads.{place-is}
-use Rattle.places.proofs.Inserted.{unit-inserted}
+use Rattle.places.specs.Places.{placeNumber}
+use Rattle.places.proofs.Quads.{place-four, place-six}
+use Rattle.places.proofs.Inserted.{unit-inserted, unit-later}
 
--- h is the number of the groups left
-module _ (c : Cell) {h : ℕ} (eh : h ≡ groupsLeft c) where
-  pub left-product : (i : ℕ) → c .blocks < 256 → i < 4 → i * h ≤ 1536
-  left-product i small l = mul-le-mul {n₁ = i} {m₁ = h} {n₂ = 3} {m₂ = 512} (omega arith) (omega arith)
+pub left-product : {h : ℕ} (i : ℕ) → i < 3 → h < 1024 → i * h ≤ 2 * 1023
+left-product {h = h} i l few = mul-le-mul {n₁ = i} {m₁ = h} {n₂ = 2} {m₂ = 1023} (omega arith) (omega arith)
 
-  pub number-in : (m i : ℕ) → 6 ≤ c .blocks → c .blocks < 256 → ((c .identity + m + i * h / 3) % h ≡ quadNumber c m i) × ((c .identity + m + i * h / 3) % h < 512)
-  unfolding quadNumber
-  number-in m i big small = rw eh (refl, omega (arith, number-lt c big m i))
+-- quad i's symbol s, the number h of the groups left there, and the start's number b
+pub number-in :
+    (c : Cell) {s h b : ℕ} (m i : ℕ) → s ≡ quadSymbol c i → h ≡ groupsLeft c s → b ≡ startNumber c s → 6 ≤ c .blocks → c .blocks < 256
+    → ((b + m + i * h / 3) % h ≡ quadNumber c m i) × ((b + m + i * h / 3) % h < 1024)
+unfolding quadNumber
+number-in c m i es eh eb big small =
+    rw (eb, eh, es) (refl, omega (arith, number-lt c big m i, left-most c big (quadSymbol c i)))
 
 pub step-sum : (a b c d n t : ℕ) {x r : ℕ} → x ≡ belowOf a b c d t → r ≡ indicator (ltb t (n + 1 + x)) → r ≡ stepOf a b c d n t
 step-sum a b c d n t ex er = rw (← ex) er
 
-module _ (c : Cell) (m i : ℕ) (big : 6 ≤ c .blocks) {w x y z n : ℕ}
-    (ew : w ≡ formatGroup c 0) (ex : x ≡ formatGroup c 1) (ey : y ≡ formatGroup c 2) (ez : z ≡ formatGroup c 3) (en : n ≡ quadNumber c m i) where
+module _ (c : Cell) (m i : ℕ) (big : 6 ≤ c .blocks) {n : ℕ} (en : n ≡ quadNumber c m i) where
   pub unit-sum :
-      {a b d e : ℕ} → a ≡ stepOf w x y z n w → b ≡ stepOf w x y z n x → d ≡ stepOf w x y z n y → e ≡ stepOf w x y z n z
+      {s : ℕ} → s ≡ quadSymbol c i → s ≤ 0 → {w x y z : ℕ} → w ≡ formatGroup c 0 → x ≡ formatGroup c 1 → y ≡ formatGroup c 2 → z ≡ formatGroup c 3
+      → {a b d e : ℕ} → a ≡ stepOf w x y z n w → b ≡ stepOf w x y z n x → d ≡ stepOf w x y z n y → e ≡ stepOf w x y z n z
       → n + (a + b + d + e) ≡ quadGroup c m i
-  unit-sum ea eb ed ee = cc (unit-inserted c big m i)
+  unit-sum es l ew ex ey ez ea eb ed ee = let z : quadSymbol c i ≡ 0 = omega arith in cc (unit-inserted c big m i z)
 
-pub place-sum : (c : Cell) (g j : ℕ) {x : ℕ} → g < 2 * c .blocks → j < 4 → x ≡ indicator (ltb (c .identity % 3) (j % 2 + 1)) → 6 * g + (3 * (j / 2) + j % 2 + x) ≡ quadPlace c 0 g j
-place-sum c g j in-g h e = ap (λ (x : ℕ). 6 * g + (3 * (j / 2) + j % 2 + x)) e ∙ sym (place-is c g j in-g h)
+  pub unit-sum-later : {s : ℕ} → s ≡ quadSymbol c i → 0 < s → n ≡ quadGroup c m i
+  unit-sum-later es l = en ∙ unit-later c big m i (omega arith)
+
+-- W is the number of subcarriers, z a group's
+module _ (c : Cell) (s g j : ℕ) {z : ℕ} (in-g : g < symbolGroups c s) (in-j : j < 4) (ez : z ≡ groupSize c s) {W : ℕ} (eW : W ≡ carriers c) where
+  pub place-of-four : z ≡ 4 → s * W + (4 * g + j) ≡ placeNumber c s (quadPlace c s g j)
+  place-of-four e = rw (eW, place-four c s g in-g j in-j (sym ez ∙ e)) refl
+
+  pub place-of-six : (z ≡ 4 → ⊥) → {x : ℕ} → x ≡ indicator (ltb (c .identity % 3) (j % 2 + 1)) → s * W + (6 * g + (3 * (j / 2) + j % 2 + x)) ≡ placeNumber c s (quadPlace c s g j)
+  place-of-six n ex =
+      let six : groupSize c s ≡ 6 = by-size (λ (y : ℕ). z ≡ y → y ≡ 6) c s (λ e. refl) (λ e. absurd (n e)) ez in
+      rw (eW, ex, place-six c s g j in-g in-j six) refl
+
+-- what fits the machine's words
+pub rows-few : (c : Cell) (s : ℕ) {W : ℕ} → W ≡ carriers c → s < 3 → c .blocks < 256 → s * W ≤ 2 * 3060
+rows-few c s {W = W} e l small = mul-le-mul {n₁ = s} {m₁ = W} {n₂ = 2} {m₂ = 3060} (omega arith) (omega arith)
+
+pub groups-few : (c : Cell) (s g : ℕ) → g < symbolGroups c s → c .blocks < 256 → g < 1024
+groups-few c s g l small = omega (arith, groups-most c s)

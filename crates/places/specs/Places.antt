@@ -5,7 +5,7 @@ use mathlib.Core.Bool.{Bool}
 use mathlib.Core.List.{List}
 use Rattle.plan.specs.declared.Cell.{Cell}
 use Rattle.plan.specs.declared.Plan.{Plan}
-use Rattle.layout.specs.Rules.{formatGroup, quadGroup}
+use Rattle.layout.specs.Rules.{formatGroup, quadSymbol, quadGroup}
 use Rattle.layout.specs.Owners.{symbols, carriers, owns}
 use Rattle.layout.specs.declared.Owner.{Owner}
 use Rattle.layout.specs.declared.Owner.the-variants.{Crs, Sync, Pbch, Pcfich, Phich, User as UserOf, Held, Idle}
@@ -30,28 +30,28 @@ placesOf c = symbols c * carriers c
 unfoldable pub ownsAt : List ℕ → Plan → Owner → ℕ → Bool
 ownsAt w p o t = owns w p o (symbolAt (p .cell) t) (carrierAt (p .cell) t)
 
--- the order of an owner's places: "k first, then s", or by quads, n of them, quad i in group `group i` of symbol 0
+-- the order of an owner's places: "k first, then s", or by quads, n of them, quad i in group `group i` of symbol `symbol i`
 pub data FillingOrder : Type 0 where
   ascending : FillingOrder
-  quads : ℕ → (ℕ → ℕ) → FillingOrder
+  quads : ℕ → (ℕ → ℕ) → (ℕ → ℕ) → FillingOrder
 
 unfoldable pub placeOrder : Cell → Owner → FillingOrder
 placeOrder c (Crs q) = ascending
 placeOrder c (Sync m) = ascending
 placeOrder c Pbch = ascending
-placeOrder c Pcfich = quads 4 (formatGroup c)
-placeOrder c (Phich m) = quads 3 (quadGroup c m)
+placeOrder c Pcfich = quads 4 (λ (i : ℕ). 0) (formatGroup c)
+placeOrder c (Phich m) = quads 3 (quadSymbol c) (quadGroup c m)
 placeOrder c (UserOf i) = ascending
 placeOrder c Held = ascending
 placeOrder c Idle = ascending
 
 unfoldable pub placeBy : Cell → (ℕ → Bool) → FillingOrder → ℕ → ℕ
 placeBy c own ascending j = nth own (placesOf c) j
-placeBy c own (quads n group) j = placeNumber c 0 (quadsPlace c group j)
+placeBy c own (quads n symbol group) j = placeNumber c (symbol (j / 4)) (quadsPlace c symbol group j)
 
 unfoldable pub indexBy : Cell → (ℕ → Bool) → FillingOrder → ℕ → ℕ
 indexBy c own ascending t = cnt own t
-indexBy c own (quads n group) t = quadsIndex c n group (carrierAt c t)
+indexBy c own (quads n symbol group) t = quadsIndex c n symbol group (symbolAt c t) (carrierAt c t)
 
 -- THE PLACE of the owner's index j, and the index of its place t
 unfoldable pub placeOf : List ℕ → Plan → Owner → ℕ → ℕ

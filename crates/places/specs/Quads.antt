@@ -20,14 +20,14 @@ quadPlace c s t j = nth (groupHas c s t) (carriers c) j
 unfoldable pub quadIndex : Cell → ℕ → ℕ → ℕ
 quadIndex c s k = cnt (groupHas c s (elementGroup c s k)) k
 
--- a channel of n quads, quad i in group `group i` of symbol 0: the subcarrier of its index j, which is 4 × quad + position in the
--- group, and the index of subcarrier k
-unfoldable pub quadsPlace : Cell → (ℕ → ℕ) → ℕ → ℕ
-quadsPlace c group j = quadPlace c 0 (group (j / 4)) (j % 4)
+-- a channel of n quads, quad i in group `group i` of symbol `symbol i`: the subcarrier of its index j, which is 4 × quad + position in the
+-- group, there; and the index of (s, k)
+unfoldable pub quadsPlace : Cell → (ℕ → ℕ) → (ℕ → ℕ) → ℕ → ℕ
+quadsPlace c symbol group j = quadPlace c (symbol (j / 4)) (group (j / 4)) (j % 4)
 
-unfoldable pub quadsIndex : Cell → ℕ → (ℕ → ℕ) → ℕ → ℕ
-quadsIndex c n group k = 4 * which group n (elementGroup c 0 k) + quadIndex c 0 k
+unfoldable pub quadsIndex : Cell → ℕ → (ℕ → ℕ) → (ℕ → ℕ) → ℕ → ℕ → ℕ
+quadsIndex c n symbol group s k = 4 * which (λ (i : ℕ). eqb s (symbol i) && eqb (elementGroup c s k) (group i)) n + quadIndex c s k
 
--- k is a place of one of its quads
-abbrev pub InQuads : Cell → ℕ → (ℕ → ℕ) → ℕ → Type 0
-InQuads c n group k = (i : ℕ) × (j : ℕ) × (i < n) × (j < 4) × (k ≡ quadPlace c 0 (group i) j)
+-- (s, k) is a place of one of its quads
+abbrev pub InQuads : Cell → ℕ → (ℕ → ℕ) → (ℕ → ℕ) → ℕ → ℕ → Type 0
+InQuads c n symbol group s k = (i : ℕ) × (j : ℕ) × (i < n) × (j < 4) × (s ≡ symbol i) × (k ≡ quadPlace c s (group i) j)

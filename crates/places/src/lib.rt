@@ -2,38 +2,44 @@
 // functions here are for the channels whose order is not that of the grid: PCFICH and the PHICH units, which go quad by quad.
 ghost use mathlib.Core.Path.{_≡_};
 ghost use Prim.Native.Nat.{_+_, _*_, _≤_, _<_};
-ghost use Rattle.layout.specs.Rules.{quadNumber, quadGroup};
+ghost use Rattle.layout.specs.Rules.{symbolGroups, quadNumber, quadGroup};
 ghost use Rattle.places.specs.Quads.{quadPlace};
+ghost use Rattle.places.specs.Places.{placeNumber};
 ghost use Rattle.places.specs.Steps.{stepOf};
 use plan::Cell;
 
-// The number that quad i of PHICH unit m takes, of the groups left.
+// The number that quad i of PHICH unit m takes, of the groups left in its symbol.
 fn unit_number(cell: Cell, m: usize, i: usize) -> usize
     requires { ⌜ (6 ≤ cell .blocks) × (m < 256) × (i < 3) ⌝ }
-    ensures { λ r. ⌜ (r ≡ quadNumber cell m i) × (r < 512) ⌝ }
+    ensures { λ r. ⌜ (r ≡ quadNumber cell m i) × (r < 1024) ⌝ }
 {
-    let h = layout::groups_left(cell);
-    ((cell.identity as usize) + m + i * h / 3) % h
+    let s = layout::quad_symbol(cell, i);
+    let h = layout::groups_left(cell, s);
+    (layout::start_number(cell, s) + m + i * h / 3) % h
 }
 
 // 1 where group t, one of PCFICH's a, b, c, d, stands below the group left with number n.
 fn step(a: usize, b: usize, c: usize, d: usize, n: usize, t: usize) -> usize
-    requires { ⌜ n < 512 ⌝ }
+    requires { ⌜ n < 1024 ⌝ }
     ensures { λ r. ⌜ (r ≡ stepOf a b c d n t) × (r ≤ 1) ⌝ }
 {
     base::one_below(t, n + 1 + layout::formats_below(a, b, c, d, t))
 }
 
-// The group of quad i of PHICH unit m. Every accepted plan has six blocks or more, and 25 units at most.
+// The group of quad i of PHICH unit m, in the quad's symbol: beyond symbol 0 all groups are left, and a group is its number. Every accepted
+// plan has six blocks or more, and 25 units at most.
 pub fn unit_group(cell: Cell, m: usize, i: usize) -> usize
     requires { ⌜ (6 ≤ cell .blocks) × (m < 256) × (i < 3) ⌝ }
     ensures { λ r. ⌜ r ≡ quadGroup cell m i ⌝ }
 {
+    let n = unit_number(cell, m, i);
+    if 0 < layout::quad_symbol(cell, i) {
+        return n;
+    }
     let a = layout::format_group(cell, 0);
     let b = layout::format_group(cell, 1);
     let c = layout::format_group(cell, 2);
     let d = layout::format_group(cell, 3);
-    let n = unit_number(cell, m, i);
     n
         + (step(a, b, c, d, n, a)
             + step(a, b, c, d, n, b)
@@ -41,11 +47,15 @@ pub fn unit_group(cell: Cell, m: usize, i: usize) -> usize
             + step(a, b, c, d, n, d))
 }
 
-// The subcarrier of the j-th place of group g in symbol 0: of each three subcarriers all but that of the identity's remainder.
-pub fn quad_place(cell: Cell, g: usize, j: usize) -> usize
-    requires { ⌜ (g < 2 * cell .blocks) × (j < 4) ⌝ }
-    ensures { λ r. ⌜ r ≡ quadPlace cell 0 g j ⌝ }
+// The number of the j-th place of group g in symbol s: of six subcarriers all but those of the identity's remainder by three.
+pub fn quad_place(cell: Cell, s: usize, g: usize, j: usize) -> usize
+    requires { ⌜ (s < 3) × (g < symbolGroups cell s) × (j < 4) ⌝ }
+    ensures { λ r. ⌜ r ≡ placeNumber cell s (quadPlace cell s g j) ⌝ }
 {
+    let start = s * layout::carriers(cell);
+    if layout::group_size(cell, s) == 4 {
+        return start + (4 * g + j);
+    }
     let rest = (cell.identity as usize) % 3;
-    6 * g + (3 * (j / 2) + j % 2 + base::one_below(rest, j % 2 + 1))
+    start + (6 * g + (3 * (j / 2) + j % 2 + base::one_below(rest, j % 2 + 1)))
 }

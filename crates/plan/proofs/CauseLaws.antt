@@ -15,7 +15,7 @@ use Rattle.base.proofs.Tests.{both}
 use Rattle.bitset.specs.Sets.{member, meet}
 use Rattle.plan.specs.Lists.{oneOf, noneOf, Every}
 use Rattle.plan.specs.Commands.{commandOf}
-use Rattle.plan.specs.Fields.{widths, portCounts, sixthCounts, orders, phichGroups, sequencesOf, samePair, clash}
+use Rattle.plan.specs.Fields.{widths, portCounts, sixthCounts, orders, phichFits, phichGroups, sequencesOf, samePair, clash}
 use Rattle.plan.specs.Finding.{demand, cellCause, frameCause, hiCause, sameRnti, sharesBlock, userCause}
 use Rattle.plan.specs.Loops.{brokenFor, lateFor, lateCause, pairOf, PairsUsed, blocksOf, UsersUsed}
 use Rattle.plan.specs.Valid.{CellIn, FrameIn, HiIn, UserIn}
@@ -24,10 +24,10 @@ use Rattle.plan.specs.declared.Frame.{Frame}
 use Rattle.plan.specs.declared.Hi.{Hi}
 use Rattle.plan.specs.declared.User.{User}
 use Rattle.plan.specs.declared.Command.{Command}
-use Rattle.plan.specs.declared.Command.the-variants.{Cell as cell, Frame as frame, Hi as hi, User as user, End as end, Broken as broken}
+use Rattle.plan.specs.declared.Command.the-variants.{Cell as cell, Cellx as cellx, Frame as frame, Hi as hi, User as user, End as end, Broken as broken}
 use Rattle.plan.specs.declared.Cause.{Cause}
 use Rattle.plan.specs.declared.Cause.the-variants.{Unknown, CutOff, NoEnd, OutOfOrder, AfterEnd}
-use Rattle.plan.specs.declared.Cause.the-variants.{Identity, Blocks, Prefix, Ports, Sixths, FrameNumber, Subframe, Cfi}
+use Rattle.plan.specs.declared.Cause.the-variants.{Identity, Blocks, Prefix, Ports, Sixths, Duration, FrameNumber, Subframe, Cfi, Region}
 use Rattle.plan.specs.declared.Cause.the-variants.{Group, Sequence, PairUsed, Rnti, Modulation, Count, LastBlock, RntiUsed, BlockUsed}
 use Rattle.plan.specs.declared.Reason.{Reason}
 use Rattle.plan.specs.declared.Reason.the-variants.{Nothing, Is}
@@ -41,12 +41,13 @@ pub passed : (t : Bool) (k : Cause) (r : Reason) → Nothing ≡ demand t k r �
 passed true k r e = (refl, e)
 passed false k r e = (cc, cc)
 
--- ---- CELL
-pub cell-tests : (c : Cell) {b p s : Bool} {r₁ r₂ r₃ r₄ r₅ : Reason} → s ≡ oneOf (c .sixths) sixthCounts → r₁ ≡ demand s Sixths Nothing →
+-- ---- CELL and CELLX
+pub cell-tests : (c : Cell) {b p s : Bool} {r₀ r₁ r₂ r₃ r₄ r₅ : Reason} → r₀ ≡ demand (leb (c .duration) 1) Duration Nothing →
+    s ≡ oneOf (c .sixths) sixthCounts → r₁ ≡ demand s Sixths r₀ →
     p ≡ oneOf (c .ports) portCounts → r₂ ≡ demand p Ports r₁ → r₃ ≡ demand (leb (c .prefix) 1) Prefix r₂ →
     b ≡ oneOf (c .blocks) widths → r₄ ≡ demand b Blocks r₃ → r₅ ≡ demand (leb (c .identity) 503) Identity r₄ → r₅ ≡ cellCause c
 unfolding cellCause
-cell-tests c es e₁ ep e₂ e₃ eb e₄ e₅ = rw (e₅, e₄, eb, e₃, e₂, ep, e₁, es) refl
+cell-tests c e₀ es e₁ ep e₂ e₃ eb e₄ e₅ = rw (e₅, e₄, eb, e₃, e₂, ep, e₁, es, e₀) refl
 
 pub cell-in : (c : Cell) → Nothing ≡ cellCause c → CellIn c
 unfolding cellCause
@@ -56,32 +57,38 @@ cell-in c e =
     let t₃ = passed (leb (c .prefix) 1) Prefix _ (t₂ .1) in
     let t₄ = passed (oneOf (c .ports) portCounts) Ports _ (t₃ .1) in
     let t₅ = passed (oneOf (c .sixths) sixthCounts) Sixths _ (t₄ .1) in
+    let t₆ = passed (leb (c .duration) 1) Duration _ (t₅ .1) in
     record {
       identity = leb-true _ _ (t₁ .0);
       blocks = among widths (c .blocks) (t₂ .0);
       prefix = leb-true _ _ (t₃ .0);
       ports = among portCounts (c .ports) (t₄ .0);
       sixths = among sixthCounts (c .sixths) (t₅ .0);
+      duration = leb-true _ _ (t₆ .0);
     }
 
 -- ---- FRAME
-pub frame-tests : (f : Frame) {r₁ r₂ r₃ : Reason} → r₁ ≡ demand (leb 1 (f .cfi) && leb (f .cfi) 3) Cfi Nothing →
-    r₂ ≡ demand (leb (f .subframe) 9) Subframe r₁ → r₃ ≡ demand (leb (f .number) 1023) FrameNumber r₂ → r₃ ≡ frameCause f
+pub frame-tests : (c : Cell) (f : Frame) {t : Bool} {r₀ r₁ r₂ r₃ : Reason} → t ≡ phichFits c f → r₀ ≡ demand t Region Nothing →
+    r₁ ≡ demand (leb 1 (f .cfi) && leb (f .cfi) 3) Cfi r₀ → r₂ ≡ demand (leb (f .subframe) 9) Subframe r₁ →
+    r₃ ≡ demand (leb (f .number) 1023) FrameNumber r₂ → r₃ ≡ frameCause c f
 unfolding frameCause
-frame-tests f e₁ e₂ e₃ = rw (e₃, e₂, e₁) refl
+frame-tests c f et e₀ e₁ e₂ e₃ = rw (e₃, e₂, e₁, e₀, et) refl
 
-pub frame-in : (f : Frame) → Nothing ≡ frameCause f → FrameIn f
+-- its fields, and the control region by the cell
+pub frame-in : (c : Cell) (f : Frame) → Nothing ≡ frameCause c f → FrameIn f × (phichFits c f ≡ true)
 unfolding frameCause
-frame-in f e =
+frame-in c f e =
     let t₁ = passed (leb (f .number) 1023) FrameNumber _ e in
     let t₂ = passed (leb (f .subframe) 9) Subframe _ (t₁ .1) in
     let t₃ = passed (leb 1 (f .cfi) && leb (f .cfi) 3) Cfi _ (t₂ .1) in
+    let fields : FrameIn f =
     record {
       number = leb-true _ _ (t₁ .0);
       subframe = leb-true _ _ (t₂ .0);
       some = leb-true _ _ (and-left _ _ (t₃ .0));
       most = leb-true _ _ (and-right (leb 1 (f .cfi)) _ (t₃ .0));
-    }
+    } in
+    (fields, passed (phichFits c f) Region _ (t₃ .1) .0)
 
 -- ---- HI
 module _ (c : Cell) (h : Hi) {g : ℕ} (eg : g ≡ phichGroups c) where
@@ -185,23 +192,24 @@ module _ (w : List ℕ) (at : ℕ) where
     pub late-broken : x ≡ broken → {k : Cause} → k ≡ brokenFor (drop at w) → k ≡ lateCause (drop at w)
     late-broken q ek = ek ∙ late-there (drop at w) (omega (arith, length-drop at w)) broken (e ∙ q)
 
-    pub late-order : OneOf (0 ∷ 1 ∷ 2 ∷ 3 ∷ 4 ∷ []) (tagOf the-type x) → OutOfOrder ≡ lateCause (drop at w)
+    pub late-order : OneOf (0 ∷ 1 ∷ 2 ∷ 3 ∷ 4 ∷ 5 ∷ []) (tagOf the-type x) → OutOfOrder ≡ lateCause (drop at w)
     unfolding oneOf
     late-order o = by x o ∙ late-there (drop at w) (omega (arith, length-drop at w)) x e
       where
-        by : (x : Command) → OneOf (0 ∷ 1 ∷ 2 ∷ 3 ∷ 4 ∷ []) (tagOf the-type x) → OutOfOrder ≡ lateFor (drop at w) x
+        by : (x : Command) → OneOf (0 ∷ 1 ∷ 2 ∷ 3 ∷ 4 ∷ 5 ∷ []) (tagOf the-type x) → OutOfOrder ≡ lateFor (drop at w) x
         by (cell y) o = refl
+        by (cellx y) o = refl
         by (frame y) o = refl
         by (hi y) o = refl
         by (user y) o = refl
         by end o = refl
-        by broken o = absurd (not-in (0 ∷ 1 ∷ 2 ∷ 3 ∷ 4 ∷ []) 5 o refl)
+        by broken o = absurd (not-in (0 ∷ 1 ∷ 2 ∷ 3 ∷ 4 ∷ 5 ∷ []) 6 o refl)
 
 -- ---- what a function gives for each cause of some, by their numbers in the list of all causes
 abbrev all : List Cause
 all =
-    Unknown ∷ CutOff ∷ NoEnd ∷ OutOfOrder ∷ AfterEnd ∷ Identity ∷ Blocks ∷ Prefix ∷ Ports ∷ Sixths ∷ FrameNumber ∷ Subframe ∷ Cfi
-    ∷ Group ∷ Sequence ∷ PairUsed ∷ Rnti ∷ Modulation ∷ Count ∷ LastBlock ∷ RntiUsed ∷ BlockUsed ∷ []
+    Unknown ∷ CutOff ∷ NoEnd ∷ OutOfOrder ∷ AfterEnd ∷ Identity ∷ Blocks ∷ Prefix ∷ Ports ∷ Sixths ∷ Duration ∷ FrameNumber ∷ Subframe ∷ Cfi
+    ∷ Region ∷ Group ∷ Sequence ∷ PairUsed ∷ Rnti ∷ Modulation ∷ Count ∷ LastBlock ∷ RntiUsed ∷ BlockUsed ∷ []
 
 abbrev numbered : ℕ → Cause
 numbered k = getD all k BlockUsed
@@ -217,9 +225,11 @@ listed Blocks = refl
 listed Prefix = refl
 listed Ports = refl
 listed Sixths = refl
+listed Duration = refl
 listed FrameNumber = refl
 listed Subframe = refl
 listed Cfi = refl
+listed Region = refl
 listed Group = refl
 listed Sequence = refl
 listed PairUsed = refl

@@ -20,7 +20,7 @@ use Rattle.plan.specs.declared.Cell.{Cell}
 use Rattle.plan.specs.declared.Frame.{Frame}
 use Rattle.plan.specs.declared.Plan.{Plan}
 use Rattle.plan.specs.declared.Command.{Command}
-use Rattle.plan.specs.declared.Command.the-variants.{Cell as cell, Frame as frame, Hi as hi, User as user, End as end, Broken as broken}
+use Rattle.plan.specs.declared.Command.the-variants.{Cell as cell, Cellx as cellx, Frame as frame, Hi as hi, User as user, End as end, Broken as broken}
 use Rattle.plan.specs.declared.Cause.{Cause}
 use Rattle.plan.specs.declared.Cause.the-variants.{NoEnd, OutOfOrder, AfterEnd, Group, Sequence, PairUsed, Rnti, Modulation, Count, LastBlock, RntiUsed, BlockUsed}
 use Rattle.plan.specs.declared.Reason.{Reason}
@@ -101,9 +101,9 @@ cell-alone : (c : Cell) → sharedIn (cellCause c) ≡ Alone
 unfolding cellCause
 cell-alone c = simp (in-demand, either-way)
 
-frame-alone : (f : Frame) → sharedIn (frameCause f) ≡ Alone
+frame-alone : (c : Cell) (f : Frame) → sharedIn (frameCause c f) ≡ Alone
 unfolding frameCause
-frame-alone f = simp (in-demand, either-way)
+frame-alone c f = simp (in-demand, either-way)
 
 broken-alone : (l : List ℕ) → sharedIn (brokenCause l) ≡ Alone
 unfolding brokenCause
@@ -156,6 +156,7 @@ module _ (w : List ℕ) (m : ℕ) (st : State) (s : SeenAll w m st) where
   seen-after : (x : Command) → commandOf (past w m) ≡ x → SeenAll w (m + 1) (stateAfter st x)
   unfolding stateAfter
   seen-after (cell y) e = record { his = seen-same (s .his); users = seen-same (s .users) }
+  seen-after (cellx y) e = record { his = seen-same (s .his); users = seen-same (s .users) }
   seen-after (frame y) e = record { his = seen-same (s .his); users = seen-same (s .users) }
   seen-after (hi h) e = let t = told (past w m) (hi h) e in record { his = seen-more (s .his) h (t .0) (t .3); users = seen-same (s .users) }
   seen-after (user u) e = let t = told (past w m) (user u) e in record { his = seen-same (s .his); users = seen-more (s .users) u (t .0) (t .3) }
@@ -185,7 +186,8 @@ module _ (w : List ℕ) (m : ℕ) (st : State) (s : SeenAll w m st) where
     field-shown : (x : Command) → commandOf l ≡ x → Shown l (sharedIn (fieldCause (st .cell) (st .his) (st .users) l x))
     unfolding fieldCause
     field-shown (cell c) e = rw (cell-alone c) (λ n. refl)
-    field-shown (frame f) e = rw (frame-alone f) (λ n. refl)
+    field-shown (cellx c) e = rw (cell-alone c) (λ n. refl)
+    field-shown (frame f) e = rw (frame-alone (st .cell) f) (λ n. refl)
     field-shown (hi h) e = hi-shown h e
     field-shown (user u) e = user-shown u e
     field-shown end e = λ n. refl

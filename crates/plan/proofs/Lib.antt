@@ -1,10 +1,11 @@
--- Laws that the proofs cite. For the crates above: Verdict, Earliest, Valid, Counts, CommandLists, Entries, Reading, Answers. About lists alone: OneOf, Listed, Few.
+-- Laws that the proofs cite. For the crates above: Verdict, Earliest, Valid, Counts, ControlRegion, CommandLists, Entries, Reading, Answers. About lists alone: OneOf, Listed, Few.
 pub mod OneOf
 pub mod Listed
 pub mod Few
 pub mod Entries
 pub mod Reading
 pub mod CommandLists
+pub mod ControlRegion
 mod FieldLaws
 mod CauseLaws
 mod Kept

@@ -1,5 +1,5 @@
 -- One command of the check: what the explanation from a position on is, by the command there and its cause. Assumes nothing.
-use Prim.Native.Nat.{ℕ, _+_, _-_, _*_, _≤_, _<_}
+use Prim.Native.Nat.{ℕ, _+_, _*_, _≤_, _<_}
 use mathlib.Core.Path.{_≡_, refl, sym, ap, ap₂, _∙_, subst}
 use mathlib.Core.Bool.{Bool, true, false, cond}
 use mathlib.Core.List.{List, [], _∷_, _++_}
@@ -23,7 +23,7 @@ use Rattle.plan.specs.declared.User.{User}
 use Rattle.plan.specs.declared.CommandList.{CommandList}
 use Rattle.plan.specs.declared.Plan.{Plan}
 use Rattle.plan.specs.declared.Command.{Command}
-use Rattle.plan.specs.declared.Command.the-variants.{Cell as cell, Frame as frame, Hi as hi, User as user, End as end, Broken as broken}
+use Rattle.plan.specs.declared.Command.the-variants.{Cell as cell, Cellx as cellx, Frame as frame, Hi as hi, User as user, End as end, Broken as broken}
 use Rattle.plan.specs.declared.Cause.{Cause}
 use Rattle.plan.specs.declared.Cause.the-variants.{Unknown, CutOff, NoEnd, OutOfOrder, AfterEnd}
 use Rattle.plan.specs.declared.Reason.{Reason}
@@ -50,12 +50,17 @@ module _ (w : List ℕ) (st : State) (n at : ℕ) (x : Command) (e : commandOf (
   pub stopped : (k : Cause) → causeOf st there x ≡ Is k → restFrom w st n at ≡ refusedAt n at k
   stopped k q = opened ∙ rw q refl
 
-  pub stepped : causeOf st there x ≡ Nothing → (s : State) → stateAfter st x ≡ s → (m to : ℕ) → n + 1 ≡ m → at + sizeOf there ≡ to → restFrom w st n at ≡ restFrom w s m to
-  stepped q s es m to em et = opened ∙ rw (q, es, em, drop-drop (sizeOf there) at w, et) refl
+  module _ (s : State) (es : stateAfter st x ≡ s) (m to : ℕ) (em : n + 1 ≡ m) (et : at + sizeOf there ≡ to) where
+    pub unless-stopped : restFrom w st n at ≡ stopAt (causeOf st there x) n at (restFrom w s m to)
+    unless-stopped = opened ∙ rw (es, em, drop-drop (sizeOf there) at w, et) refl
+
+    pub stepped : causeOf st there x ≡ Nothing → restFrom w st n at ≡ restFrom w s m to
+    stepped q = unless-stopped ∙ rw q refl
 
 -- a command that is not due, or that is missing, before END
 abbrev pub fits : ℕ → Command → Bool
 fits stage (cell c) = eqb stage 0
+fits stage (cellx c) = eqb stage 0
 fits stage (frame f) = eqb stage 1
 fits stage (hi h) = eqb stage 2
 fits stage (user u) = due stage
@@ -66,6 +71,7 @@ module _ (st : State) (q : eqb (st .stage) 4 ≡ false) where
   late-is : (l : List ℕ) (x : Command) → fits (st .stage) x ≡ false → causeOf st l x ≡ Is (lateFor l x)
   unfolding causeAt inOrder fieldCause brokenCause
   late-is l (cell y) f = rw (q, f) refl
+  late-is l (cellx y) f = rw (q, f) refl
   late-is l (frame y) f = rw (q, f) refl
   late-is l (hi y) f = rw (q, f) refl
   late-is l (user y) f = rw (q, f) refl
@@ -214,8 +220,8 @@ module _ (w : List ℕ) (c : Cell) (f : Frame) (start n mid m at : ℕ) where
 
         pub hi-step : Rest ≡ bodyRest w c f start (n + 1) (mid + 3) m to
         hi-step =
-            stepped w St (n + m + 3) at (hi h) e hi-some (hi-cause ∙ sym q) _ after-hi (n + 1 + m + 3) to (omega arith)
-            (omega (arith, et, hi-next, told here (hi h) e .1))
+            stepped w St (n + m + 3) at (hi h) e hi-some _ after-hi (n + 1 + m + 3) to (omega arith) (omega (arith, et, hi-next, told here (hi h) e .1))
+            (hi-cause ∙ sym q)
 
   -- ---- a USER
   module _ (u : User) (e : commandOf here ≡ user u) where
@@ -266,7 +272,7 @@ module _ (w : List ℕ) (c : Cell) (f : Frame) (start n mid m at : ℕ) where
 
         pub user-step : Nothing ≡ UserC u → Rest ≡ bodyRest w c f start n mid (m + 1) to
         user-step q =
-            stepped w St (n + m + 3) at (user u) e user-some (user-cause ∙ sym q) _ after-user (n + (m + 1) + 3) to (omega arith) (sym (et ∙ user-next))
+            stepped w St (n + m + 3) at (user u) e user-some _ after-user (n + (m + 1) + 3) to (omega arith) (sym (et ∙ user-next)) (user-cause ∙ sym q)
 
   -- ---- END
   module _ (e : commandOf here ≡ end) where
@@ -279,7 +285,7 @@ module _ (w : List ℕ) (c : Cell) (f : Frame) (start n mid m at : ℕ) where
 
     pub end-step : Rest ≡ restFrom w (stateAfter St end) (n + m + 3 + 1) (at + 1)
     end-step =
-        stepped w St (n + m + 3) at end e (omega (arith, told here end e .2)) end-cause _ refl _ (at + 1) refl (omega (arith, told here end e .1))
+        stepped w St (n + m + 3) at end e (omega (arith, told here end e .2)) _ refl _ (at + 1) refl (omega (arith, told here end e .1)) end-cause
 
 -- ---- after END: a command, or none
 module _ (w : List ℕ) (c : Cell) (f : Frame) (his users : CommandList) (k to : ℕ) where
@@ -313,15 +319,16 @@ module _ {w : List ℕ} {p : Plan} {at : ℕ} (d : EndDue w p at) where
     pub end-last : length w ≤ at + 1 → Accepted p ≡ planRest w p at
     end-last l = sym (step ∙ last w (p .cell) (p .frame) (p .his) (p .users) (n + 1) (at + 1) (d .mid-at) l)
 
-  pub end-late : {x : Command} → commandOf (drop at w) ≡ x → OneOf (0 ∷ 1 ∷ 2 ∷ 3 ∷ 5 ∷ []) (tagOf the-type x) →
+  pub end-late : {x : Command} → commandOf (drop at w) ≡ x → OneOf (0 ∷ 1 ∷ 2 ∷ 3 ∷ 4 ∷ 6 ∷ []) (tagOf the-type x) →
       {k : Cause} → k ≡ lateCause (drop at w) → {g : Stop} → g ≡ foundAt n at k → Refused g ≡ planRest w p at
   unfolding oneOf bodyState
   end-late {x} e h ek eg = ap Refused eg ∙ ap (refusedAt n at) ek ∙ sym (late Due (stage-last (eqb (p .users .count) 0)) w n at x e (by x e h))
     where
-      by : (x : Command) → commandOf (drop at w) ≡ x → OneOf (0 ∷ 1 ∷ 2 ∷ 3 ∷ 5 ∷ []) (tagOf the-type x) → fits (Due .stage) x ≡ false
+      by : (x : Command) → commandOf (drop at w) ≡ x → OneOf (0 ∷ 1 ∷ 2 ∷ 3 ∷ 4 ∷ 6 ∷ []) (tagOf the-type x) → fits (Due .stage) x ≡ false
       by (cell y) e h = stage-first (eqb (p .users .count) 0)
+      by (cellx y) e h = stage-first (eqb (p .users .count) 0)
       by (frame y) e h = stage-second (eqb (p .users .count) 0)
       by (hi y) e h = stage-hi (eqb (p .users .count) 0) ∙ ne-eqb (p .users .count) 0 (λ z. d .no-hi z y e)
       by (user y) e h = absurd (d .no-user y e)
-      by end e h = absurd (not-in (0 ∷ 1 ∷ 2 ∷ 3 ∷ 5 ∷ []) 4 h refl)
+      by end e h = absurd (not-in (0 ∷ 1 ∷ 2 ∷ 3 ∷ 4 ∷ 6 ∷ []) 5 h refl)
       by broken e h = refl

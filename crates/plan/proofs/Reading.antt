@@ -9,14 +9,14 @@ use lib.ListN.{length, drop, getD, length-drop, drop-of-length-le, List·getD-eq
 use lib.Seq.{getD-drop, drop-drop, drop-length}
 use borrow.Author.Tests.{eq-eqb, ne-eqb, eqb-true, le-leb, lt-leb, leb-true, leb-false}
 use Rattle.base.proofs.Tests.{both}
-use Rattle.plan.specs.Commands.{byte, cellOf, frameOf, hiOf, userOf, Entry, entries, entryIn, entryFor, sizeOf, commandOf}
+use Rattle.plan.specs.Commands.{byte, cellWith, cellOf, cellxOf, frameOf, hiOf, userOf, Entry, entries, entryIn, entryFor, sizeOf, commandOf}
 use Rattle.plan.specs.CommandLists.{nextOf}
 use Rattle.plan.specs.Loops.{standsAt}
 use Rattle.plan.specs.declared.Cell.{Cell}
 use Rattle.plan.specs.declared.Frame.{Frame}
 use Rattle.plan.specs.declared.Hi.{Hi}
 use Rattle.plan.specs.declared.User.{User}
-use Rattle.plan.specs.declared.Command.the-variants.{Cell as cell, Frame as frame, Hi as hi, User as user, End as end, Broken as broken}
+use Rattle.plan.specs.declared.Command.the-variants.{Cell as cell, Cellx as cellx, Frame as frame, Hi as hi, User as user, End as end, Broken as broken}
 use Rattle.plan.proofs.Listed.{choose, and-left, and-right}
 use Rattle.plan.proofs.Entries.{told}
 
@@ -33,9 +33,10 @@ module _ (w : List ℕ) (at i : ℕ) where
 
 -- ---- the operands, from bytes that were read one by one
 module _ (l : List ℕ) (a b d : ℕ) (ed : d ≡ a * 256 + b) (ea : a ≡ byte l 1) (eb : b ≡ byte l 2) where
-  pub cell-made : (n p q s : ℕ) → n ≡ byte l 3 → p ≡ byte l 4 → q ≡ byte l 5 → s ≡ byte l 6 → record { identity = d; blocks = n; prefix = p; ports = q; sixths = s } ≡ cellOf l
-  unfolding cellOf
-  cell-made n p q s en ep eq es = rw (ed, ea, eb, en, ep, eq, es) refl
+  pub cell-made : (n p q s k : ℕ) → n ≡ byte l 3 → p ≡ byte l 4 → q ≡ byte l 5 → s ≡ byte l 6 →
+      record { identity = d; blocks = n; prefix = p; ports = q; sixths = s; duration = k } ≡ cellWith k l
+  unfolding cellWith
+  cell-made n p q s k en ep eq es = rw (ed, ea, eb, en, ep, eq, es) refl
 
   pub frame-made : (n p : ℕ) → n ≡ byte l 3 → p ≡ byte l 4 → record { number = d; subframe = n; cfi = p } ≡ frameOf l
   unfolding frameOf
@@ -44,6 +45,10 @@ module _ (l : List ℕ) (a b d : ℕ) (ed : d ≡ a * 256 + b) (ea : a ≡ byte 
   pub user-made : (n p q : ℕ) → n ≡ byte l 3 → p ≡ byte l 4 → q ≡ byte l 5 → record { rnti = d; order = n; first = p; count = q } ≡ userOf l
   unfolding userOf
   user-made n p q en ep eq = rw (ed, ea, eb, en, ep, eq) refl
+
+pub cellx-made : (l : List ℕ) (k : ℕ) {c : Cell} → k ≡ byte l 7 → c ≡ cellWith k l → c ≡ cellxOf l
+unfolding cellxOf
+cellx-made l k ek ec = ec ∙ ap (λ (d : ℕ). cellWith d l) ek
 
 pub hi-made : (l : List ℕ) (a b : ℕ) → a ≡ byte l 1 → b ≡ byte l 2 → record { group = a; sequence = b } ≡ hiOf l
 unfolding hiOf
@@ -54,6 +59,10 @@ module _ (b : ℕ) where
   pub size-cell : b ≡ 0x10 → 7 ≡ entryFor b .size
   unfolding entryIn entries
   size-cell e = rw e refl
+
+  pub size-cellx : b ≡ 0x12 → 8 ≡ entryFor b .size
+  unfolding entryIn entries
+  size-cellx e = rw e refl
 
   pub size-frame : b ≡ 0x11 → 5 ≡ entryFor b .size
   unfolding entryIn entries
@@ -68,10 +77,10 @@ module _ (b : ℕ) where
   size-user e = rw e refl
 
   -- END's, and that of an unknown command
-  pub size-other : (b ≡ 0x10 → ⊥) → (b ≡ 0x11 → ⊥) → (b ≡ 0x20 → ⊥) → (b ≡ 0x30 → ⊥) → 1 ≡ entryFor b .size
+  pub size-other : (b ≡ 0x10 → ⊥) → (b ≡ 0x12 → ⊥) → (b ≡ 0x11 → ⊥) → (b ≡ 0x20 → ⊥) → (b ≡ 0x30 → ⊥) → 1 ≡ entryFor b .size
   unfolding entryIn entries
-  size-other n₀ n₁ n₂ n₃ =
-      rw (ne-eqb b 0x10 n₀, ne-eqb b 0x11 n₁, ne-eqb b 0x20 n₂, ne-eqb b 0x30 n₃)
+  size-other n₀ nₓ n₁ n₂ n₃ =
+      rw (ne-eqb b 0x10 n₀, ne-eqb b 0x12 nₓ, ne-eqb b 0x11 n₁, ne-eqb b 0x20 n₂, ne-eqb b 0x30 n₃)
       (choose (λ (e : Entry). 1 ≡ e .size) (eqb b 0x00) _ _ (λ t. refl) (λ t. refl))
 
 -- b is the byte at a position, and k the size that it says
@@ -127,6 +136,10 @@ module _ (w : List ℕ) (at b k : ℕ) (eb : b ≡ byte (drop at w) 0) (ek : k �
     unfolding entryIn entries
     read-cell e x q = ap cell q ∙ rw e at whole
 
+    pub read-cellx : b ≡ 0x12 → (x : Cell) → x ≡ cellxOf (drop at w) → cellx x ≡ commandOf (drop at w)
+    unfolding entryIn entries
+    read-cellx e x q = ap cellx q ∙ rw e at whole
+
     pub read-frame : b ≡ 0x11 → (x : Frame) → x ≡ frameOf (drop at w) → frame x ≡ commandOf (drop at w)
     unfolding entryIn entries
     read-frame e x q = ap frame q ∙ rw e at whole
@@ -143,9 +156,10 @@ module _ (w : List ℕ) (at b k : ℕ) (eb : b ≡ byte (drop at w) 0) (ek : k �
     unfolding entryIn entries
     read-end e = rw e at whole
 
-    pub unknown : (b ≡ 0x10 → ⊥) → (b ≡ 0x11 → ⊥) → (b ≡ 0x20 → ⊥) → (b ≡ 0x30 → ⊥) → (b ≡ 0x00 → ⊥) → broken ≡ commandOf (drop at w)
+    pub unknown : (b ≡ 0x10 → ⊥) → (b ≡ 0x12 → ⊥) → (b ≡ 0x11 → ⊥) → (b ≡ 0x20 → ⊥) → (b ≡ 0x30 → ⊥) → (b ≡ 0x00 → ⊥) → broken ≡ commandOf (drop at w)
     unfolding entryIn entries
-    unknown n₀ n₁ n₂ n₃ n₄ = rw (ne-eqb b 0x10 n₀, ne-eqb b 0x11 n₁, ne-eqb b 0x20 n₂, ne-eqb b 0x30 n₃, ne-eqb b 0x00 n₄) at whole
+    unknown n₀ nₓ n₁ n₂ n₃ n₄ =
+        rw (ne-eqb b 0x10 n₀, ne-eqb b 0x12 nₓ, ne-eqb b 0x11 n₁, ne-eqb b 0x20 n₂, ne-eqb b 0x30 n₃, ne-eqb b 0x00 n₄) at whole
 
 -- ---- a command by its byte, where it is whole
 pub stands-made : (w : List ℕ) (at code : ℕ) {k b : ℕ} → k ≡ entryFor code .size → b ≡ byte (drop at w) 0 → leb k (length w - at) && eqb b code ≡ standsAt code (drop at w)

@@ -10,8 +10,9 @@ use borrow.Author.Tests.{ltb-true, ltb-false}
 use Rattle.plan.specs.Commands.{byte, hiOf, userOf, commandOf}
 use Rattle.plan.specs.Check.{State, begin, stateAfter, checkOf}
 use Rattle.plan.specs.Finding.{demand, cellCause, frameCause, hiCause, userCause, walkOf}
+use Rattle.plan.specs.Fields.{phichFits}
 use Rattle.plan.specs.CommandLists.{nextOf, hisFrom, usersFrom, hisOf, usersOf}
-use Rattle.plan.specs.Loops.{celled, bodyState, restFrom, bodyRest}
+use Rattle.plan.specs.Loops.{celled, bodyState, restFrom, cellRest, bodyRest}
 use Rattle.plan.specs.Valid.{CellIn, FrameIn, Valid}
 use Rattle.plan.specs.declared.Cell.{Cell}
 use Rattle.plan.specs.declared.Frame.{Frame}
@@ -19,7 +20,7 @@ use Rattle.plan.specs.declared.Hi.{Hi}
 use Rattle.plan.specs.declared.User.{User}
 use Rattle.plan.specs.declared.Plan.{Plan}
 use Rattle.plan.specs.declared.Command.{Command}
-use Rattle.plan.specs.declared.Command.the-variants.{Cell as cell, Frame as frame, Hi as hi, User as user, End as end, Broken as broken}
+use Rattle.plan.specs.declared.Command.the-variants.{Cell as cell, Cellx as cellx, Frame as frame, Hi as hi, User as user, End as end, Broken as broken}
 use Rattle.plan.specs.declared.Cause.the-variants.{OutOfOrder}
 use Rattle.plan.specs.declared.Reason.{Reason}
 use Rattle.plan.specs.declared.Reason.the-variants.{Nothing, Is}
@@ -32,10 +33,11 @@ use Rattle.plan.proofs.Reading.{gone}
 use Rattle.plan.proofs.CommandLists.{commands-length}
 use Rattle.plan.proofs.Kept.{Kept, kept-first, kept-hi, kept-user}
 use Rattle.plan.proofs.CauseLaws.{passed, cell-in, frame-in}
+use Rattle.plan.proofs.ControlRegion.{three-symbols}
 use Rattle.plan.proofs.Verdict.{accepted-both}
 use Rattle.plan.proofs.OneCommand.{fits, late, stage-first, stage-second, stage-last, Standing, standing-first, on-no-lists, end-room, end-step, not-last, last}
 use Rattle.plan.proofs.OneCommand.{hi-refused, standing-hi, on-more-his, hi-next, hi-step, user-refused, standing-user, on-more-users, user-next, user-step}
-use Rattle.plan.proofs.Opening.{cell-refused, cell-step, frame-room, frame-refused, frame-step}
+use Rattle.plan.proofs.Opening.{cell-first, cellx-first, cell-refused, cell-step, frame-room, frame-refused, frame-step}
 
 -- ---- answers
 not-both : {a : Walked} {g : Stop} {p : Plan} → a ≡ Refused g → a ≡ Accepted p → ⊥
@@ -55,7 +57,7 @@ one-byte (b ∷ []) h e = ap (λ (x : ℕ). x ∷ []) e
 one-byte (b ∷ x ∷ l) h e = absurd (omega arith)
 
 -- ---- from FRAME on
-module _ (w : List ℕ) (p : Plan) (c : Cell) (f : Frame) (ci : CellIn c) (fi : FrameIn f) (start : ℕ) where
+module _ (w : List ℕ) (p : Plan) (c : Cell) (f : Frame) (ci : CellIn c) (fi : FrameIn f) (fits-region : phichFits c f ≡ true) (start : ℕ) where
   abbrev His : ℕ → List Hi
   His n = hisFrom (drop start w) n
 
@@ -101,6 +103,7 @@ module _ (w : List ℕ) (p : Plan) (c : Cell) (f : Frame) (ci : CellIn c) (fi : 
       (record {
         cell = ci;
         frame = fi;
+        region = three-symbols c f fits-region;
         his = g .kept .his;
         pairs = g .kept .pairs;
         users = g .kept .users;
@@ -132,6 +135,7 @@ module _ (w : List ℕ) (p : Plan) (c : Cell) (f : Frame) (ci : CellIn c) (fi : 
 
   step : (k n mid m at : ℕ) → Rest k → length w ≤ at + suc k → Good n mid m at → (x : Command) → commandOf (drop at w) ≡ x → Runs n mid m at → Valid w p
   step k n mid m at ih l g (cell y) e r = never n mid m at (cell y) e (stage-first (eqb m 0)) r
+  step k n mid m at ih l g (cellx y) e r = never n mid m at (cellx y) e (stage-first (eqb m 0)) r
   step k n mid m at ih l g (frame y) e r = never n mid m at (frame y) e (stage-second (eqb m 0)) r
   step k n mid m at ih l g (hi h) e r = at-hi k n mid m at ih l g h e (demand (eqb m 0) OutOfOrder (hiCause c (His n) h)) refl r
   step k n mid m at ih l g (user u) e r = at-user k n mid m at ih l g u e (userCause c (Users mid m) u) refl r
@@ -150,29 +154,32 @@ module _ (w : List ℕ) (p : Plan) (c : Cell) (f : Frame) (ci : CellIn c) (fi : 
       (record { standing = standing-first w start h; kept = on-no-lists w start (Kept c) (kept-first c) })
       r
 
--- ---- CELL and FRAME
+-- ---- CELL or CELLX, and FRAME
 module _ (w : List ℕ) (p : Plan) where
-  by-frame : (c : Cell) (at : ℕ) (f : Frame) → CellIn c → commandOf (drop at w) ≡ frame f → (t : Reason) → t ≡ frameCause f → restFrom w (celled c at) 2 at ≡ Accepted p → Valid w p
+  by-frame : (c : Cell) (at : ℕ) (f : Frame) → CellIn c → commandOf (drop at w) ≡ frame f → (t : Reason) → t ≡ frameCause c f → restFrom w (celled c at) 2 at ≡ Accepted p → Valid w p
   by-frame c at f ci e Nothing o r =
-      from-frame w p c f ci (frame-in f o) (at + 5) (frame-room w c at f e) (frame-step w c at f e o refl ∙ r)
+      let i = frame-in c f o in
+      from-frame w p c f ci (i .0) (i .1) (at + 5) (frame-room w c at f e) (frame-step w c at f e o refl ∙ r)
   by-frame c at f ci e (Is k) o r = absurd (not-both (sym (frame-refused w c at f e o refl refl)) r)
 
   second : (c : Cell) (at : ℕ) → CellIn c → (x : Command) → commandOf (drop at w) ≡ x → restFrom w (celled c at) 2 at ≡ Accepted p → Valid w p
   unfolding celled
   second c at ci (cell y) e r = not-due (celled c at) refl w 2 at (cell y) e refl r
-  second c at ci (frame f) e r = by-frame c at f ci e (frameCause f) refl r
+  second c at ci (cellx y) e r = not-due (celled c at) refl w 2 at (cellx y) e refl r
+  second c at ci (frame f) e r = by-frame c at f ci e (frameCause c f) refl r
   second c at ci (hi y) e r = not-due (celled c at) refl w 2 at (hi y) e refl r
   second c at ci (user y) e r = not-due (celled c at) refl w 2 at (user y) e refl r
   second c at ci end e r = not-due (celled c at) refl w 2 at end e refl r
   second c at ci broken e r = not-due (celled c at) refl w 2 at broken e refl r
 
-  by-cell : (c : Cell) → commandOf w ≡ cell c → (t : Reason) → t ≡ cellCause c → walkOf w ≡ Accepted p → Valid w p
-  by-cell c e Nothing o r = second c 7 (cell-in c o) (commandOf (drop 7 w)) refl (cell-step w c e o refl ∙ r)
-  by-cell c e (Is k) o r = absurd (not-both (sym (cell-refused w c e o refl refl)) r)
+  by-cell : (c : Cell) (at : ℕ) (t : Reason) → t ≡ cellCause c → cellRest w c at ≡ Accepted p → Valid w p
+  by-cell c at Nothing o r = second c at (cell-in c o) (commandOf (drop at w)) refl (cell-step w c at o refl ∙ r)
+  by-cell c at (Is k) o r = absurd (not-both (sym (cell-refused w c at o refl refl)) r)
 
   first : (x : Command) → commandOf w ≡ x → walkOf w ≡ Accepted p → Valid w p
   unfolding walkOf begin
-  first (cell c) e r = by-cell c e (cellCause c) refl r
+  first (cell c) e r = by-cell c 7 (cellCause c) refl (cell-first w c e ∙ r)
+  first (cellx c) e r = by-cell c 8 (cellCause c) refl (cellx-first w c e ∙ r)
   first (frame y) e r = not-due begin refl w 1 0 (frame y) e refl r
   first (hi y) e r = not-due begin refl w 1 0 (hi y) e refl r
   first (user y) e r = not-due begin refl w 1 0 (user y) e refl r

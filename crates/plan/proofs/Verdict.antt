@@ -10,7 +10,7 @@ use lib.Seq.{drop-drop}
 use borrow.Author.Tests.{eqb-true}
 use Rattle.plan.specs.Lists.{oneOf}
 use Rattle.plan.specs.Commands.{byte, sizeOf, commands}
-use Rattle.plan.specs.Fields.{cellOk, frameOk, hiOk, userOk}
+use Rattle.plan.specs.Fields.{cellOk, frameOk, phichFits, hiOk, userOk}
 use Rattle.plan.specs.Check.{State, begin, need, hiFault, userFault, due, fault, stateAfter, planOf, unless, run, checkOf}
 use Rattle.plan.specs.CommandLists.{past}
 use Rattle.plan.specs.declared.Cell.{Cell}
@@ -19,9 +19,9 @@ use Rattle.plan.specs.declared.Hi.{Hi}
 use Rattle.plan.specs.declared.User.{User}
 use Rattle.plan.specs.declared.Plan.{Plan}
 use Rattle.plan.specs.declared.Command.{Command}
-use Rattle.plan.specs.declared.Command.the-variants.{Cell as cell, Frame as frame, Hi as hi, User as user, End as end, Broken as broken}
+use Rattle.plan.specs.declared.Command.the-variants.{Cell as cell, Cellx as cellx, Frame as frame, Hi as hi, User as user, End as end, Broken as broken}
 use Rattle.plan.specs.declared.Refusal.{Refusal}
-use Rattle.plan.specs.declared.Refusal.the-variants.{Unreadable, Order, CellField, FrameField}
+use Rattle.plan.specs.declared.Refusal.the-variants.{Unreadable, Order, CellField, FrameField, ShortRegion}
 use Rattle.plan.specs.declared.Fault.{Fault}
 use Rattle.plan.specs.declared.Fault.the-variants.{Nothing as faultless, Is as faulty}
 use Rattle.plan.specs.declared.Checked.{Checked}
@@ -66,9 +66,9 @@ cell-fault : (c : Cell) → faultFor (cellCause c) ≡ need (cellOk c) CellField
 unfolding cellCause cellOk
 cell-fault c = simp (fault-demand, need-and)
 
-frame-fault : (f : Frame) → faultFor (frameCause f) ≡ need (frameOk f) FrameField faultless
+frame-fault : (c : Cell) (f : Frame) → faultFor (frameCause c f) ≡ need (frameOk f) FrameField (need (phichFits c f) ShortRegion faultless)
 unfolding frameCause frameOk
-frame-fault f = simp (fault-demand, need-and)
+frame-fault c f = simp (fault-demand, need-and)
 
 hi-fault : (c : Cell) (hs : List Hi) (h : Hi) → faultFor (hiCause c hs h) ≡ hiFault c hs h
 unfolding hiCause hiFault hiOk
@@ -99,7 +99,8 @@ ordered s t r h = rw (fault-demand s, fault-demand t) (need-more s t Order (faul
 cause-fault : (st : State) (l : List ℕ) (x : Command) → faultFor (causeOf st l x) ≡ fault st x
 unfolding causeAt inOrder fieldCause fault
 cause-fault st l (cell c) = ordered _ _ _ (early 0 (st .stage) refl) ∙ rw (cell-fault c) refl
-cause-fault st l (frame f) = ordered _ _ _ (early 1 (st .stage) refl) ∙ rw (frame-fault f) refl
+cause-fault st l (cellx c) = ordered _ _ _ (early 0 (st .stage) refl) ∙ rw (cell-fault c) refl
+cause-fault st l (frame f) = ordered _ _ _ (early 1 (st .stage) refl) ∙ rw (frame-fault (st .cell) f) refl
 cause-fault st l (hi h) = ordered _ _ _ (early 2 (st .stage) refl) ∙ rw (hi-fault (st .cell) (st .his) h) refl
 cause-fault st l (user u) = ordered _ _ _ (due-early (st .stage)) ∙ rw (user-fault (st .cell) (st .users) u) refl
 cause-fault st l end = ordered _ _ _ (due-early (st .stage))

@@ -1,4 +1,4 @@
--- What the promises cite: an answer as a number; a refusal has document 01's. Refusals: "A refusal returns its number, marked as a refusal so that no
+-- What the promises cite: an answer as a number; a refusal has its own. Document 01, Refusals: "A refusal returns its number, marked as a refusal so that no
 -- count or length is taken for one".
 use Prim.Native.Nat.{ℕ}
 use mathlib.Core.Bool.{Bool, true, false}

@@ -10,7 +10,7 @@ use Rattle.plan.specs.declared.Frame.{Frame}
 use Rattle.plan.specs.declared.Hi.{Hi}
 use Rattle.plan.specs.declared.User.{User}
 use Rattle.plan.specs.declared.Command.{Command}
-use Rattle.plan.specs.declared.Command.the-variants.{Cell as cell, Frame as frame, Hi as hi, User as user, End as end, Broken as broken}
+use Rattle.plan.specs.declared.Command.the-variants.{Cell as cell, Cellx as cellx, Frame as frame, Hi as hi, User as user, End as end, Broken as broken}
 
 -- byte i of the command that the bytes l begin with, counted from its command byte, and the u16 of bytes i and i + 1
 abbrev pub byte : List ℕ → ℕ → ℕ
@@ -19,9 +19,16 @@ byte l i = getD l i 0
 abbrev pub word : List ℕ → ℕ → ℕ
 word l i = byte l i * 256 + byte l (i + 1)
 
--- "10 CELL: identity C u16 ..; blocks N u8 ..; prefix u8 ..; ports P u8 ..; g u8 .., which is N_g in sixths"
+-- "10 CELL: identity C u16 ..; blocks N u8 ..; prefix u8 ..; ports P u8 ..; g u8 .., which is N_g in sixths"; with a PHICH duration d
+unfoldable pub cellWith : ℕ → List ℕ → Cell
+cellWith d l = record { identity = word l 1; blocks = byte l 3; prefix = byte l 4; ports = byte l 5; sixths = byte l 6; duration = d }
+
+-- CELL's duration is normal; "Command 12 CELLX has the operands of CELL and a duration u8 (0 normal, 1 extended)" (document 02, #108)
 unfoldable pub cellOf : List ℕ → Cell
-cellOf l = record { identity = word l 1; blocks = byte l 3; prefix = byte l 4; ports = byte l 5; sixths = byte l 6 }
+cellOf l = cellWith 0 l
+
+unfoldable pub cellxOf : List ℕ → Cell
+cellxOf l = cellWith (byte l 7) l
 
 -- "11 FRAME: frame F u16 ..; subframe f u8 ..; CFI u8 .."
 unfoldable pub frameOf : List ℕ → Frame
@@ -44,6 +51,7 @@ pub record Entry : Type 0 where
 unfoldable pub entries : List Entry
 entries =
     record { code = 0x10; size = 7; read = λ l. cell (cellOf l) }
+    ∷ record { code = 0x12; size = 8; read = λ l. cellx (cellxOf l) }
     ∷ record { code = 0x11; size = 5; read = λ l. frame (frameOf l) }
     ∷ record { code = 0x20; size = 3; read = λ l. hi (hiOf l) }
     ∷ record { code = 0x30; size = 6; read = λ l. user (userOf l) }

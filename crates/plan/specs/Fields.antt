@@ -1,6 +1,6 @@
 -- What the promises cite: the ranges of the commands' fields. Document 01, Plan and payload; Owners (PHICH).
 use Prim.Native.Nat.{ℕ, _+_, _*_, _/_}
-use mathlib.Core.Bool.{Bool, cond, _&&_, _||_}
+use mathlib.Core.Bool.{Bool, true, cond, _&&_, _||_}
 use mathlib.Core.List.{List, [], _∷_}
 use lib.Dec.{leb, ltb, eqb}
 use Rattle.plan.specs.Lists.{oneOf}
@@ -25,13 +25,25 @@ sixthCounts = 1 ∷ 3 ∷ 6 ∷ 12 ∷ []
 abbrev pub orders : List ℕ
 orders = 2 ∷ 4 ∷ 6 ∷ 8 ∷ []
 
--- "identity C u16 (0–503); blocks N u8 ..; prefix u8 (0 normal, 1 extended); ports P u8 ..; g u8 .."
+-- "identity C u16 (0–503); blocks N u8 ..; prefix u8 (0 normal, 1 extended); ports P u8 ..; g u8 .."; "A CELLX duration above 1 is refused 3"
+-- (document 02, #108)
 unfoldable pub cellOk : Cell → Bool
-cellOk c = leb (c .identity) 503 && oneOf (c .blocks) widths && leb (c .prefix) 1 && oneOf (c .ports) portCounts && oneOf (c .sixths) sixthCounts
+cellOk c =
+    leb (c .identity) 503 && oneOf (c .blocks) widths && leb (c .prefix) 1 && oneOf (c .ports) portCounts && oneOf (c .sixths) sixthCounts
+    && leb (c .duration) 1
 
 -- "frame F u16 (0–1023); subframe f u8 (0–9); CFI u8 (1–3)"
 unfoldable pub frameOk : Frame → Bool
 frameOk f = leb (f .number) 1023 && leb (f .subframe) 9 && leb 1 (f .cfi) && leb (f .cfi) 3
+
+-- how many symbols the control region has: "N = 6 joins the widths, and there the control region is CFI + 1 symbols; at other widths it
+-- is CFI" (document 02, #102)
+unfoldable pub controlSymbols : Cell → Frame → ℕ
+controlSymbols c f = cond (eqb (c .blocks) 6) (f .cfi + 1) (f .cfi)
+
+-- "18, at FRAME after 4, when duration is extended and the control region is shorter than three symbols" (#108): the opposite
+unfoldable pub phichFits : Cell → Frame → Bool
+phichFits c f = cond (eqb (c .duration) 1) (leb 3 (controlSymbols c f)) true
 
 -- document 01's units: "PHICH: ceil(gN/48) groups (extended twice that); normal unit = group, extended unit = groups 2m, 2m+1"
 unfoldable pub mappingUnits : Cell → ℕ

@@ -1,6 +1,6 @@
 -- What `explain` promises: why a plan is refused. Document 01, Refusals: "From the input, first fault from left to right, in a command by
 -- number: ..". Of the commands the first that has a fault is named, by its number from 1 and its position in the plan, and of that command
--- the first of its fields that has the fault, in the order in which document 01 lists the fields; where that is a pair, an RNTI or a block used
+-- the first of its fields that has the fault, in the order in which the papers list the fields; where that is a pair, an RNTI or a block used
 -- before, the first command that uses it.
 use Prim.Native.Nat.{ℕ, zero, suc, _+_, _-_, _≤_, _<_}
 use mathlib.Core.Path.{_≡_}
@@ -10,7 +10,7 @@ use lib.Dec.{leb, ltb, eqb}
 use lib.ListN.{drop}
 use Rattle.plan.specs.Lists.{oneOf, noneOf}
 use Rattle.plan.specs.Commands.{byte, hiOf, userOf, Entry, entries, sizeOf, commands}
-use Rattle.plan.specs.Fields.{widths, portCounts, sixthCounts, orders, phichGroups, sequencesOf, samePair}
+use Rattle.plan.specs.Fields.{widths, portCounts, sixthCounts, orders, phichGroups, sequencesOf, samePair, phichFits}
 use Rattle.plan.specs.Check.{State, begin, due, stateAfter, planOf}
 use Rattle.plan.specs.CommandLists.{past, nextOf}
 use Rattle.plan.specs.declared.Cell.{Cell}
@@ -18,14 +18,14 @@ use Rattle.plan.specs.declared.Frame.{Frame}
 use Rattle.plan.specs.declared.Hi.{Hi}
 use Rattle.plan.specs.declared.User.{User}
 use Rattle.plan.specs.declared.Command.{Command}
-use Rattle.plan.specs.declared.Command.the-variants.{Cell as cell, Frame as frame, Hi as hi, User as user, End as end, Broken as broken}
+use Rattle.plan.specs.declared.Command.the-variants.{Cell as cell, Cellx as cellx, Frame as frame, Hi as hi, User as user, End as end, Broken as broken}
 use Rattle.plan.specs.declared.Refusal.{Refusal}
-use Rattle.plan.specs.declared.Refusal.the-variants.{Unreadable, Order, CellField, FrameField, HiField, UserField, Used}
+use Rattle.plan.specs.declared.Refusal.the-variants.{Unreadable, Order, CellField, FrameField, HiField, UserField, Used, ShortRegion}
 use Rattle.plan.specs.declared.Checked.{Checked}
 use Rattle.plan.specs.declared.Checked.the-variants.{Plan as accepted, Refused as refused}
 use Rattle.plan.specs.declared.Cause.{Cause}
 use Rattle.plan.specs.declared.Cause.the-variants.{Unknown, CutOff, NoEnd, OutOfOrder, AfterEnd}
-use Rattle.plan.specs.declared.Cause.the-variants.{Identity, Blocks, Prefix, Ports, Sixths, FrameNumber, Subframe, Cfi}
+use Rattle.plan.specs.declared.Cause.the-variants.{Identity, Blocks, Prefix, Ports, Sixths, Duration, FrameNumber, Subframe, Cfi, Region}
 use Rattle.plan.specs.declared.Cause.the-variants.{Group, Sequence, PairUsed, Rnti, Modulation, Count, LastBlock, RntiUsed, BlockUsed}
 use Rattle.plan.specs.declared.Reason.{Reason}
 use Rattle.plan.specs.declared.Reason.the-variants.{Nothing, Is}
@@ -53,9 +53,11 @@ causeRefusal Blocks = CellField
 causeRefusal Prefix = CellField
 causeRefusal Ports = CellField
 causeRefusal Sixths = CellField
+causeRefusal Duration = CellField
 causeRefusal FrameNumber = FrameField
 causeRefusal Subframe = FrameField
 causeRefusal Cfi = FrameField
+causeRefusal Region = ShortRegion
 causeRefusal Group = HiField
 causeRefusal Sequence = HiField
 causeRefusal PairUsed = HiField
@@ -71,21 +73,23 @@ abbrev pub demand : Bool → Cause → Reason → Reason
 demand true c r = r
 demand false c r = Is c
 
--- CELL's fields in their order
+-- CELL's or CELLX's fields in their order
 unfoldable pub cellCause : Cell → Reason
 cellCause c =
     demand (leb (c .identity) 503) Identity
     (demand (oneOf (c .blocks) widths) Blocks
     (demand (leb (c .prefix) 1) Prefix
     (demand (oneOf (c .ports) portCounts) Ports
-    (demand (oneOf (c .sixths) sixthCounts) Sixths Nothing))))
+    (demand (oneOf (c .sixths) sixthCounts) Sixths
+    (demand (leb (c .duration) 1) Duration Nothing)))))
 
--- FRAME's fields in their order
-unfoldable pub frameCause : Frame → Reason
-frameCause f =
+-- FRAME's fields in their order, then 18 by the cell
+unfoldable pub frameCause : Cell → Frame → Reason
+frameCause c f =
     demand (leb (f .number) 1023) FrameNumber
     (demand (leb (f .subframe) 9) Subframe
-    (demand (leb 1 (f .cfi) && leb (f .cfi) 3) Cfi Nothing))
+    (demand (leb 1 (f .cfi) && leb (f .cfi) 3) Cfi
+    (demand (phichFits c f) Region Nothing)))
 
 -- "5 HI group or sequence beyond the count, or pair used before", by the HIs before
 unfoldable pub hiCause : Cell → List Hi → Hi → Reason
@@ -124,9 +128,10 @@ commandBytes = codes entries
 unfoldable pub brokenCause : List ℕ → Reason
 brokenCause l = demand (oneOf (byte l 0) commandBytes) Unknown (Is CutOff)
 
--- "Order: CELL, FRAME, any HIs, any USERs, END". A command that cannot be read is out of order only after END
+-- "Order: CELL, FRAME, any HIs, any USERs, END", CELLX in CELL's place. A command that cannot be read is out of order only after END
 unfoldable pub inOrder : ℕ → Command → Bool
 inOrder stage (cell c) = eqb stage 0
+inOrder stage (cellx c) = eqb stage 0
 inOrder stage (frame f) = eqb stage 1
 inOrder stage (hi h) = eqb stage 2
 inOrder stage (user u) = due stage
@@ -136,7 +141,8 @@ inOrder stage broken = true
 -- the first cause within a command that stands in its order; l are the plan's bytes from the command on
 unfoldable pub fieldCause : Cell → List Hi → List User → List ℕ → Command → Reason
 fieldCause c his users l (cell x) = cellCause x
-fieldCause c his users l (frame f) = frameCause f
+fieldCause c his users l (cellx x) = cellCause x
+fieldCause c his users l (frame f) = frameCause c f
 fieldCause c his users l (hi h) = hiCause c his h
 fieldCause c his users l (user u) = userCause c users u
 fieldCause c his users l end = Nothing
@@ -184,9 +190,11 @@ sharedBy Blocks = nothing
 sharedBy Prefix = nothing
 sharedBy Ports = nothing
 sharedBy Sixths = nothing
+sharedBy Duration = nothing
 sharedBy FrameNumber = nothing
 sharedBy Subframe = nothing
 sharedBy Cfi = nothing
+sharedBy Region = nothing
 sharedBy Group = nothing
 sharedBy Sequence = nothing
 sharedBy PairUsed = Pair

@@ -10,7 +10,7 @@ use Rattle.plan.specs.Lists.{oneOf, noneOf}
 use Rattle.plan.specs.Commands.{byte, entryFor, commandOf, commands}
 use Rattle.plan.specs.Fields.{samePair}
 use Rattle.plan.specs.Check.{State, begin}
-use Rattle.plan.specs.Finding.{sameRnti, sharesBlock, commandBytes, walkFrom}
+use Rattle.plan.specs.Finding.{cellCause, sameRnti, sharesBlock, commandBytes, stopAt, walkFrom}
 use Rattle.plan.specs.CommandLists.{past, hisFrom, usersFrom}
 use Rattle.plan.specs.Valid.{HiIn, UserIn}
 use Rattle.plan.specs.declared.Cell.{Cell}
@@ -19,7 +19,7 @@ use Rattle.plan.specs.declared.Hi.{Hi}
 use Rattle.plan.specs.declared.User.{User}
 use Rattle.plan.specs.declared.Plan.{Plan}
 use Rattle.plan.specs.declared.Command.{Command}
-use Rattle.plan.specs.declared.Command.the-variants.{Cell as cell, Frame as frame, Hi as hi, User as user, End as end, Broken as broken}
+use Rattle.plan.specs.declared.Command.the-variants.{Cell as cell, Cellx as cellx, Frame as frame, Hi as hi, User as user, End as end, Broken as broken}
 use Rattle.plan.specs.declared.Cause.{Cause}
 use Rattle.plan.specs.declared.Cause.the-variants.{Unknown, CutOff, NoEnd, OutOfOrder}
 use Rattle.plan.specs.declared.Counted.{Counted}
@@ -27,11 +27,11 @@ use Rattle.plan.specs.declared.Counted.the-variants.{Count, Refused as f
 use Rattle.plan.specs.declared.Walked.{Walked}
 use Rattle.plan.specs.declared.Walked.the-variants.{Refused}
 
--- after CELL, where FRAME stands at position at
+-- after CELL or CELLX, where FRAME stands at position at
 unfoldable pub celled : Cell → ℕ → State
 celled c at = record { stage = 1; cell = c; frame = begin .frame; start = at; his = []; users = [] }
 
--- after CELL, FRAME, n HIs from position start of the plan w on and m USERs from position mid on
+-- after CELL or CELLX, FRAME, n HIs from position start of the plan w on and m USERs from position mid on
 unfoldable pub bodyState : List ℕ → Cell → Frame → ℕ → ℕ → ℕ → ℕ → State
 bodyState w c f start n mid m =
     record {
@@ -43,9 +43,13 @@ bodyState w c f start n mid m =
       users = usersFrom (drop mid w) m;
     }
 
--- the explanation from command number n on, which stands at position at; CELL and FRAME are commands 1 and 2
+-- the explanation from command number n on, which stands at position at; CELL or CELLX and FRAME are commands 1 and 2
 abbrev pub restFrom : List ℕ → State → ℕ → ℕ → Walked
 restFrom w st n at = walkFrom w st n at (commands (drop at w))
+
+-- the same from the first command on, the cell c, with the next one at position at
+abbrev pub cellRest : List ℕ → Cell → ℕ → Walked
+cellRest w c at = stopAt (cellCause c) 1 0 (restFrom w (celled c at) 2 at)
 
 abbrev pub bodyRest : List ℕ → Cell → Frame → ℕ → ℕ → ℕ → ℕ → ℕ → Walked
 bodyRest w c f start n mid m at = restFrom w (bodyState w c f start n mid m) (n + m + 3) at
@@ -59,6 +63,7 @@ brokenFor l = cond (oneOf (byte l 0) commandBytes) CutOff Unknown
 
 abbrev pub lateFor : List ℕ → Command → Cause
 lateFor l (cell c) = OutOfOrder
+lateFor l (cellx c) = OutOfOrder
 lateFor l (frame f) = OutOfOrder
 lateFor l (hi h) = OutOfOrder
 lateFor l (user u) = OutOfOrder

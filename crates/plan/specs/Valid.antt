@@ -4,7 +4,7 @@ use mathlib.Core.Path.{_≡_}
 use mathlib.Core.List.{List, [], _∷_}
 use lib.ListN.{length, drop}
 use Rattle.plan.specs.Lists.{Among, Every, Apart}
-use Rattle.plan.specs.Fields.{widths, portCounts, sixthCounts, orders, phichGroups, sequencesOf}
+use Rattle.plan.specs.Fields.{widths, portCounts, sixthCounts, orders, controlSymbols, phichGroups, sequencesOf}
 use Rattle.plan.specs.CommandLists.{past, hisOf, usersOf}
 use Rattle.plan.specs.declared.Cell.{Cell}
 use Rattle.plan.specs.declared.Frame.{Frame}
@@ -18,6 +18,7 @@ pub record CellIn (c : Cell) : Type 0 where
   pub prefix : c .prefix ≤ 1
   pub ports : Among (c .ports) portCounts
   pub sixths : Among (c .sixths) sixthCounts
+  pub duration : c .duration ≤ 1
 
 pub record FrameIn (f : Frame) : Type 0 where
   pub number : f .number ≤ 1023
@@ -52,6 +53,8 @@ pub record Disjoint (u v : User) : Type 0 where
 pub record Valid (w : List ℕ) (p : Plan) : Type 0 where
   pub cell : CellIn (p .cell)
   pub frame : FrameIn (p .frame)
+  -- the control region has the three symbols of the extended PHICH duration
+  pub region : p .cell .duration ≡ 1 → 3 ≤ controlSymbols (p .cell) (p .frame)
   pub his : Every (HiIn (p .cell)) (hisOf w p)
   pub pairs : Apart OtherPair (hisOf w p)
   pub users : Every (UserIn (p .cell)) (usersOf w p)

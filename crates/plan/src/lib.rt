@@ -1,4 +1,4 @@
-// The plan check (document 01, Plan and payload; Refusals 1 to 7): reads a plan's commands from left to right and answers
+// The plan check (document 01, Plan and payload; Refusals 1 to 7; document 02, #108, 18): reads a plan's commands from left to right and answers
 // with the plan, or with the first fault: which command, at which byte of the plan, the first of its fields that has the fault,
 // and so the refusal; and the command before that it clashes with.
 ghost use mathlib.Core.Path.{_≡_};
@@ -6,22 +6,24 @@ ghost use Prim.Native.Nat.{_+_, _*_, _≤_};
 ghost use mathlib.Core.List.{List};
 ghost use lib.ListN.{length, drop};
 ghost use Rattle.plan.specs.Lists.{oneOf};
-ghost use Rattle.plan.specs.Commands.{byte, cellOf, frameOf, hiOf, userOf, entryFor, commandOf};
-ghost use Rattle.plan.specs.Fields.{mappingUnits, phichGroups, sequencesOf, samePair};
+ghost use Rattle.plan.specs.Commands.{byte, cellWith, cellOf, cellxOf, frameOf, hiOf, userOf, entryFor, commandOf};
+ghost use Rattle.plan.specs.Fields.{mappingUnits, phichGroups, sequencesOf, samePair, controlSymbols, phichFits};
 ghost use Rattle.plan.specs.Check.{refusalNumber, checkOf, refusalOf};
 ghost use Rattle.plan.specs.CommandLists.{nextOf};
 ghost use Rattle.plan.specs.Valid.{CellIn};
 ghost use Rattle.plan.specs.Finding.{causeRefusal, demand as demandOf, cellCause, frameCause, hiCause, userCause, foundAt, walkOf};
 ghost use Rattle.plan.specs.Finding.{sameRnti, sharesBlock, sharedBy, inCommon, earlierOf, findingAt, findingOf};
-ghost use Rattle.plan.specs.Loops.{brokenFor, lateCause, celled, restFrom, bodyRest, planRest, standsAt, pairOf, blocksOf, PairsUsed, UsersUsed, HisPast, HisRead, EndDue};
+ghost use Rattle.plan.specs.Loops.{brokenFor, lateCause, celled, cellRest, restFrom, bodyRest, planRest, standsAt, pairOf, blocksOf, PairsUsed, UsersUsed, HisPast, HisRead, EndDue};
 
-// 10 CELL: the identity C, the width in blocks N, the prefix (1 extended), the antenna ports P, and N_g in sixths.
+// 10 CELL: the identity C, the width in blocks N, the prefix (1 extended), the antenna ports P, and N_g in sixths. 12 CELLX has also PHICH's
+// duration (1 extended); that of CELL is normal.
 pub struct Cell {
     pub identity: u16,
     pub blocks: u8,
     pub prefix: u8,
     pub ports: u8,
     pub sixths: u8,
+    pub duration: u8,
 }
 
 // 11 FRAME.
@@ -48,6 +50,7 @@ pub struct User {
 // A command with its operands. Broken: an unknown command, or the plan ends before its operands.
 pub enum Command {
     Cell(Cell),
+    Cellx(Cell),
     Frame(Frame),
     Hi(Hi),
     User(User),
@@ -55,7 +58,8 @@ pub enum Command {
     Broken,
 }
 
-// The plan check's refusals 1 to 7, in their order, and those of the calls above it, 8 to 13.
+// The plan check's refusals 1 to 7, in their order, those of the calls above it, 8 to 13, and the plan check's 18: a control region too
+// short for the extended PHICH duration.
 pub enum Refusal {
     Unreadable,
     Order,
@@ -70,6 +74,7 @@ pub enum Refusal {
     PayloadLength,
     SpareBit,
     NoPayload,
+    ShortRegion,
 }
 
 // A command's refusal, or none: what the definitions say; the code finds the cause, Reason.
@@ -96,7 +101,7 @@ pub enum Checked {
     Refused(Refusal),
 }
 
-// The first reason for which a command is refused, in the order of document 01's fields.
+// The first reason for which a command is refused, in the order of its fields.
 pub enum Cause {
     // Refusal 1: a byte that is no command; the plan ends before a command's operands; the plan ends before END.
     Unknown,
@@ -111,10 +116,13 @@ pub enum Cause {
     Prefix,
     Ports,
     Sixths,
+    Duration,
     // Refusal 4.
     FrameNumber,
     Subframe,
     Cfi,
+    // Refusal 18.
+    Region,
     // Refusal 5.
     Group,
     Sequence,
@@ -200,9 +208,9 @@ const SIXTH_COUNTS: [u8; 4] = [1, 3, 6, 12];
 
 const ORDERS: [u8; 4] = [2, 4, 6, 8];
 
-const COMMAND_BYTES: [u8; 5] = [0x10, 0x11, 0x20, 0x30, 0x00];
+const COMMAND_BYTES: [u8; 6] = [0x10, 0x12, 0x11, 0x20, 0x30, 0x00];
 
-// The refusal's number in document 01.
+// The refusal's number in documents 01 and 02.
 pub fn number(r: Refusal) -> u8
     ensures { λ n. ⌜ n ≡ refusalNumber r ⌝ }
 {
@@ -220,6 +228,7 @@ pub fn number(r: Refusal) -> u8
         Refusal::PayloadLength => 11,
         Refusal::SpareBit => 12,
         Refusal::NoPayload => 13,
+        Refusal::ShortRegion => 18,
     }
 }
 
@@ -230,9 +239,14 @@ fn refusal_of(c: Cause) -> Refusal
     match c {
         Cause::Unknown | Cause::CutOff | Cause::NoEnd => Refusal::Unreadable,
         Cause::OutOfOrder | Cause::AfterEnd => Refusal::Order,
-        Cause::Identity | Cause::Blocks | Cause::Prefix | Cause::Ports | Cause::Sixths =>
-            Refusal::CellField,
+        Cause::Identity
+        | Cause::Blocks
+        | Cause::Prefix
+        | Cause::Ports
+        | Cause::Sixths
+        | Cause::Duration => Refusal::CellField,
         Cause::FrameNumber | Cause::Subframe | Cause::Cfi => Refusal::FrameField,
+        Cause::Region => Refusal::ShortRegion,
         Cause::Group | Cause::Sequence | Cause::PairUsed => Refusal::HiField,
         Cause::Rnti | Cause::Modulation | Cause::Count | Cause::LastBlock => Refusal::UserField,
         Cause::RntiUsed | Cause::BlockUsed => Refusal::Used,
@@ -269,9 +283,9 @@ pub fn byte_at(plan: &[u8], at: usize, i: usize) -> u8
     plan[at + i]
 }
 
-// The CELL at a position.
-pub fn cell_at(plan: &[u8], at: usize) -> Cell
-    ensures { λ r. ⌜ r ≡ cellOf (drop at (now (plan .entry))) ⌝ }
+// What CELL and CELLX have in common at a position, with a PHICH duration.
+fn cell_with(plan: &[u8], at: usize, duration: u8) -> Cell
+    ensures { λ r. ⌜ r ≡ cellWith duration (drop at (now (plan .entry))) ⌝ }
 {
     Cell {
         identity: word(byte_at(plan, at, 1), byte_at(plan, at, 2)),
@@ -279,7 +293,22 @@ pub fn cell_at(plan: &[u8], at: usize) -> Cell
         prefix: byte_at(plan, at, 4),
         ports: byte_at(plan, at, 5),
         sixths: byte_at(plan, at, 6),
+        duration: duration,
     }
+}
+
+// The CELL at a position.
+pub fn cell_at(plan: &[u8], at: usize) -> Cell
+    ensures { λ r. ⌜ r ≡ cellOf (drop at (now (plan .entry))) ⌝ }
+{
+    cell_with(plan, at, 0)
+}
+
+// The CELLX at a position.
+fn cellx_at(plan: &[u8], at: usize) -> Cell
+    ensures { λ r. ⌜ r ≡ cellxOf (drop at (now (plan .entry))) ⌝ }
+{
+    cell_with(plan, at, byte_at(plan, at, 7))
 }
 
 fn frame_at(plan: &[u8], at: usize) -> Frame
@@ -321,6 +350,9 @@ fn size_of(b: u8) -> usize
     if b == 0x10 {
         return 7;
     }
+    if b == 0x12 {
+        return 8;
+    }
     if b == 0x11 {
         return 5;
     }
@@ -361,6 +393,9 @@ pub fn command_at(plan: &[u8], at: usize) -> Command
     if b == 0x10 {
         return Command::Cell(cell_at(plan, at));
     }
+    if b == 0x12 {
+        return Command::Cellx(cellx_at(plan, at));
+    }
     if b == 0x11 {
         return Command::Frame(frame_at(plan, at));
     }
@@ -400,21 +435,39 @@ fn demand(test: bool, cause: Cause, rest: Reason) -> Reason
 fn cell_cause(c: Cell) -> Reason
     ensures { λ r. ⌜ r ≡ cellCause c ⌝ }
 {
-    let sixths = demand(
-        one_of(c.sixths, &SIXTH_COUNTS),
-        Cause::Sixths,
-        Reason::Nothing,
-    );
+    let duration = demand(c.duration <= 1, Cause::Duration, Reason::Nothing);
+    let sixths = demand(one_of(c.sixths, &SIXTH_COUNTS), Cause::Sixths, duration);
     let ports = demand(one_of(c.ports, &PORT_COUNTS), Cause::Ports, sixths);
     let prefix = demand(c.prefix <= 1, Cause::Prefix, ports);
     let blocks = demand(one_of(c.blocks, &WIDTHS), Cause::Blocks, prefix);
     demand(c.identity <= 503, Cause::Identity, blocks)
 }
 
-fn frame_cause(f: Frame) -> Reason
-    ensures { λ r. ⌜ r ≡ frameCause f ⌝ }
+// The number of symbols of the control region, one more than the CFI where the cell has six blocks.
+pub fn control_symbols(cell: Cell, frame: Frame) -> usize
+    ensures { λ r. ⌜ r ≡ controlSymbols cell frame ⌝ }
 {
-    let cfi = demand((1 <= f.cfi) & (f.cfi <= 3), Cause::Cfi, Reason::Nothing);
+    let cfi = frame.cfi as usize;
+    if cell.blocks == 6 { cfi + 1 } else { cfi }
+}
+
+// Whether the control region has the symbols of the PHICH: three with the extended duration.
+fn phich_fits(c: Cell, f: Frame) -> bool
+    ensures { λ r. ⌜ r ≡ phichFits c f ⌝ }
+{
+    if c.duration == 1 {
+        3 <= control_symbols(c, f)
+    } else {
+        true
+    }
+}
+
+// The first cause of a FRAME after the cell.
+fn frame_cause(c: Cell, f: Frame) -> Reason
+    ensures { λ r. ⌜ r ≡ frameCause c f ⌝ }
+{
+    let region = demand(phich_fits(c, f), Cause::Region, Reason::Nothing);
+    let cfi = demand((1 <= f.cfi) & (f.cfi <= 3), Cause::Cfi, region);
     let subframe = demand(f.subframe <= 9, Cause::Subframe, cfi);
     demand(f.number <= 1023, Cause::FrameNumber, subframe)
 }
@@ -630,17 +683,27 @@ fn body(plan: &[u8], cell: Cell, frame: Frame, start: usize) -> Walked
     }
 }
 
-// The commands after CELL, from position at on.
+// The commands after CELL or CELLX, from position at on.
 fn after_cell(plan: &[u8], c: Cell, at: usize) -> Walked
     requires { ⌜ CellIn c ⌝ }
     ensures { λ r. ⌜ r ≡ restFrom (now (plan .entry)) (celled c at) 2 at ⌝ }
 {
     match command_at(plan, at) {
-        Command::Frame(f) => match frame_cause(f) {
+        Command::Frame(f) => match frame_cause(c, f) {
             Reason::Nothing => body(plan, c, f, at + 5),
             Reason::Is(cause) => Walked::Refused(found(2, at, cause)),
         },
         _ => Walked::Refused(found(2, at, late_cause(plan, at))),
+    }
+}
+
+// The plan whose first command is the cell c, with the next one at position at.
+fn cell_then(plan: &[u8], c: Cell, at: usize) -> Walked
+    ensures { λ r. ⌜ r ≡ cellRest (now (plan .entry)) c at ⌝ }
+{
+    match cell_cause(c) {
+        Reason::Nothing => after_cell(plan, c, at),
+        Reason::Is(cause) => Walked::Refused(found(1, 0, cause)),
     }
 }
 
@@ -649,10 +712,8 @@ fn walk(plan: &[u8]) -> Walked
     ensures { λ r. ⌜ r ≡ walkOf (now (plan .entry)) ⌝ }
 {
     match command_at(plan, 0) {
-        Command::Cell(c) => match cell_cause(c) {
-            Reason::Nothing => after_cell(plan, c, 7),
-            Reason::Is(cause) => Walked::Refused(found(1, 0, cause)),
-        },
+        Command::Cell(c) => cell_then(plan, c, 7),
+        Command::Cellx(c) => cell_then(plan, c, 8),
         _ => Walked::Refused(found(1, 0, late_cause(plan, 0))),
     }
 }

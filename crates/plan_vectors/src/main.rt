@@ -20,6 +20,7 @@ fn cell(c: Cell) {
     field(c.prefix as u64);
     field(c.ports as u64);
     field(c.sixths as u64);
+    field(c.duration as u64);
 }
 
 fn frame(f: Frame) {

@@ -56,8 +56,9 @@ fn sixths(g: u8) {
     }
 }
 
+// What CELL and CELLX have in common.
 fn cell(c: Cell) {
-    put(b"CELL   identity ", c.identity as usize, b"");
+    put(b"identity ", c.identity as usize, b"");
     put(b", ", c.blocks as usize, b" blocks");
     prefix(c.prefix);
     if c.ports == 1 {
@@ -66,6 +67,20 @@ fn cell(c: Cell) {
         put(b"", c.ports as usize, b" ports, N_g ");
     }
     sixths(c.sixths);
+}
+
+fn duration(d: u8) {
+    match d {
+        0 => print::text(b", normal PHICH duration"),
+        1 => print::text(b", extended PHICH duration"),
+        _ => put(b", PHICH duration ", d as usize, b""),
+    }
+}
+
+fn cellx(c: Cell) {
+    print::text(b"CELLX  ");
+    cell(c);
+    duration(c.duration);
 }
 
 fn frame(f: Frame) {
@@ -112,6 +127,7 @@ fn user(u: User) {
 fn broken(b: u8) {
     match b {
         0x10 => print::text(b"CELL   cut off"),
+        0x12 => print::text(b"CELLX  cut off"),
         0x11 => print::text(b"FRAME  cut off"),
         0x20 => print::text(b"HI     cut off"),
         0x30 => print::text(b"USER   cut off"),
@@ -127,7 +143,11 @@ fn row(plan: &[u8], number: usize, at: usize) {
     print::text(b"byte ");
     column(at);
     match plan::command_at(plan, at) {
-        Command::Cell(c) => cell(c),
+        Command::Cell(c) => {
+            print::text(b"CELL   ");
+            cell(c);
+        }
+        Command::Cellx(c) => cellx(c),
         Command::Frame(f) => frame(f),
         Command::Hi(h) => hi(h),
         Command::User(u) => user(u),
@@ -165,15 +185,28 @@ fn cell_field(cause: Cause, c: Cell) {
         Cause::Blocks => field(b"blocks", c.blocks as usize, b"6, 15, 25, 50, 75 or 100"),
         Cause::Prefix => field(b"prefix", c.prefix as usize, b"0 (normal) or 1 (extended)"),
         Cause::Ports => field(b"ports", c.ports as usize, b"1, 2 or 4"),
-        _ => field(b"g", c.sixths as usize, b"1, 3, 6 or 12 sixths"),
+        Cause::Sixths => field(b"g", c.sixths as usize, b"1, 3, 6 or 12 sixths"),
+        _ => field(
+            b"duration",
+            c.duration as usize,
+            b"0 (normal) or 1 (extended)",
+        ),
     }
 }
 
-fn frame_field(cause: Cause, f: Frame) {
+fn frame_field(cause: Cause, c: Cell, f: Frame) {
     match cause {
         Cause::FrameNumber => field(b"frame", f.number as usize, b"0 to 1023"),
         Cause::Subframe => field(b"subframe", f.subframe as usize, b"0 to 9"),
-        _ => field(b"CFI", f.cfi as usize, b"1 to 3"),
+        Cause::Cfi => field(b"CFI", f.cfi as usize, b"1 to 3"),
+        _ => {
+            field(b"CFI", f.cfi as usize, b"symbols of the control region: ");
+            put(
+                b"",
+                plan::control_symbols(c, f),
+                b"; the extended PHICH duration needs 3",
+            );
+        }
     }
 }
 
@@ -216,12 +249,21 @@ fn user_field(cause: Cause, c: Cell, u: User) {
     }
 }
 
-// The field of the command at a position; the plan's CELL stands first.
+// The plan's CELL or CELLX stands first.
+fn first_cell(plan: &[u8]) -> Cell {
+    match plan::command_at(plan, 0) {
+        Command::Cellx(c) => c,
+        _ => plan::cell_at(plan, 0),
+    }
+}
+
+// The field of the command at a position.
 fn fields(plan: &[u8], cause: Cause, at: usize) {
-    let first = plan::cell_at(plan, 0);
+    let first = first_cell(plan);
     match plan::command_at(plan, at) {
         Command::Cell(c) => cell_field(cause, c),
-        Command::Frame(f) => frame_field(cause, f),
+        Command::Cellx(c) => cell_field(cause, c),
+        Command::Frame(f) => frame_field(cause, first, f),
         Command::Hi(h) => hi_field(cause, first, h),
         Command::User(u) => user_field(cause, first, u),
         _ => {}
@@ -233,11 +275,13 @@ fn because(plan: &[u8], cause: Cause, at: usize) {
         Cause::Unknown => {
             print::text(b": ");
             hexadecimal(plan::byte_at(plan, at, 0));
-            print::text(b" is no command; 10, 11, 20, 30 or 00");
+            print::text(b" is no command; 10, 12, 11, 20, 30 or 00");
         }
         Cause::CutOff => print::text(b": the plan ends before the command's operands"),
         Cause::NoEnd => print::text(b": the plan ends before END"),
-        Cause::OutOfOrder => print::text(b": out of order; CELL, FRAME, any HIs, any USERs, END"),
+        Cause::OutOfOrder => print::text(
+            b": out of order; CELL or CELLX, FRAME, any HIs, any USERs, END",
+        ),
         Cause::AfterEnd => print::text(b": a byte after END; END is the last"),
         _ => fields(plan, cause, at),
     }

@@ -6,12 +6,12 @@ fn say(fd: i32, sentence: &[u8]) {
     io::write_all(fd, sentence);
 }
 
-// What a refusal's number means (document 01, Refusals), written to a file descriptor.
+// What a refusal's number means (document 01, Refusals; document 02, #108), written to a file descriptor.
 pub fn meaning(fd: i32, number: u8) {
     match number {
         1 => say(fd, b"a command is unknown, or the plan ends too early"),
         2 => say(fd, b"a command is out of order, or a byte follows END"),
-        3 => say(fd, b"a field of CELL is not allowed"),
+        3 => say(fd, b"a field of CELL or CELLX is not allowed"),
         4 => say(fd, b"a field of FRAME is not allowed"),
         5 => say(
             fd,
@@ -25,6 +25,10 @@ pub fn meaning(fd: i32, number: u8) {
         11 => say(fd, b"the payload's length is not the plan's"),
         12 => say(fd, b"a spare bit of the payload is set"),
         13 => say(fd, b"no payload makes this grid"),
+        18 => say(
+            fd,
+            b"the control region is shorter than the three symbols of the extended PHICH duration",
+        ),
         _ => say(fd, b"no refusal has this number"),
     }
 }

@@ -21,12 +21,17 @@ const THEOREMS: [(&str, &str); 9] = [
 ];
 
 /// Laws that answer a sentence of document 01, or of document 02, of their own.
-const FURTHER: [(&str, &str); 12] = [
+const FURTHER: [(&str, &str); 17] = [
     ("crates/known/proofs/Known.antt", "known-elements"),
     ("crates/known/proofs/Example.antt", "the-example"),
     ("crates/known/proofs/SixBlocks.antt", "six-blocks"),
+    ("crates/known/proofs/Extended.antt", "extended-duration"),
     ("crates/plan/proofs/Valid.antt", "valid"),
     ("crates/plan/proofs/Known.antt", "limits"),
+    ("crates/plan/proofs/Known.antt", "durations"),
+    ("crates/plan/proofs/Known.antt", "cellx-normal"),
+    ("crates/places/proofs/Listing.antt", "pcfich-exactly"),
+    ("crates/places/proofs/Listing.antt", "phich-exactly"),
     ("crates/phich/proofs/Units.antt", "exactly"),
     ("crates/payload/proofs/EveryBit.antt", "exactly-once"),
     ("crates/payload/proofs/EveryBit.antt", "bit-owner"),

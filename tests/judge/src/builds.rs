@@ -157,7 +157,8 @@ const PORTS: [usize; 3] = [1, 2, 4];
 const SIXTHS: [usize; 4] = [1, 3, 6, 12];
 
 /// Every N, prefix and P, thirty-six in all: the i-th. The other fields go round at other paces; `turn` moves them
-/// on. Also the sum of the numbers of N and of prefix and P, a pace for what else a plan has.
+/// on: each of the thirty-six has the extended PHICH duration in one of two turns. Also the sum of the numbers of N and
+/// of prefix and P, a pace for what else a plan has.
 fn combination(i: usize, turn: usize, identity: usize, subframe: usize) -> (Fixed, usize) {
     let (width, rest) = (i % 6, i / 6);
     let pace = width + rest;
@@ -167,11 +168,12 @@ fn combination(i: usize, turn: usize, identity: usize, subframe: usize) -> (Fixe
         prefix: rest % 2,
         ports: PORTS[rest / 2],
         g: SIXTHS[(pace + 2 * turn) % 4],
+        duration: if (pace + turn) % 2 == 0 { Some(1) } else { (i % 5 == 0).then_some(0) },
         frame: (i * 37 + turn * 511) % 1024,
         subframe,
         cfi: 1 + (pace + turn) % 3,
     };
-    (fixed, pace)
+    (fixed.fitted(), pace)
 }
 
 /// Every N, prefix and P with one user over all blocks, and from no HI to a whole group of them.
@@ -205,8 +207,8 @@ fn several_users(random: &mut Random) -> Vec<Call> {
     (0..36).map(one).collect()
 }
 
-/// Six blocks: every CFI, prefix and P in subframe 0, in subframe 5 and in another; from one user to one for each
-/// block.
+/// Six blocks: every CFI, prefix and P in subframe 0, in subframe 5 and in another; CFI 2 and 3, prefix and P with the
+/// extended PHICH duration; from one user to one for each block.
 fn six_blocks(random: &mut Random) -> Vec<Call> {
     let sorts = [Users::Whole, Users::Many, Users::OneBlockEach, Users::Edges, Users::One];
     let one = |i: usize| {
@@ -230,10 +232,12 @@ fn broadcast(random: &mut Random) -> Vec<Call> {
             prefix: rest % 2,
             ports: PORTS[rest / 2],
             g: 1,
+            duration: (i % 6 == 3).then_some(1),
             frame: 4 * ((i * 53) % 256) + quarter,
             subframe: 0,
             cfi: 1 + i % 3,
-        };
+        }
+        .fitted();
         let list = allocations(random, fixed.blocks, Users::Edges);
         let users = users(random, &list, |user| ORDERS[(user + i) % 4]);
         accepted(random, plan(&fixed, vec![], users))
@@ -251,6 +255,7 @@ fn synchronisation() -> Vec<Call> {
             prefix: i / 2 % 2,
             ports: 1,
             g: 1,
+            duration: None,
             frame: i,
             subframe: if i % 3 == 2 { 0 } else { 5 },
             cfi: 1 + i % 3,
@@ -269,7 +274,9 @@ fn one_block_each(random: &mut Random) -> Vec<Call> {
     let list =
         [(15, 0, 1, 4, 0), (15, 1, 2, 140, 5), (15, 0, 4, 281, 7), (15, 1, 4, 23, 0), (100, 0, 4, 395, 0)];
     let one = |(blocks, prefix, ports, identity, subframe): (usize, usize, usize, usize, usize)| {
-        let fixed = Fixed { identity, blocks, prefix, ports, g: 3, frame: 1023, subframe, cfi: 2 };
+        let duration = (ports == 4).then_some(1);
+        let fixed = Fixed { identity, blocks, prefix, ports, g: 3, duration, frame: 1023, subframe, cfi: 2 };
+        let fixed = fixed.fitted();
         let his = his(random, &fixed.cell(), His::Some);
         let each = allocations(random, blocks, Users::OneBlockEach);
         let users = users(random, &each, |user| TURN[user % 16]);
@@ -288,6 +295,7 @@ fn null_symbols(random: &mut Random) -> Vec<Call> {
             prefix: 1,
             ports: 4,
             g: 1,
+            duration: (identity % 3 == 2).then_some(1),
             frame: 2,
             subframe: 0,
             cfi: 1 + identity % 3,
@@ -305,7 +313,9 @@ fn odd_counts(random: &mut Random) -> Vec<Call> {
     let one = |(i, bits): (usize, &u8)| {
         let blocks = [15, 25, 75, 15][i];
         let (identity, cfi) = (100 + i, 1 + i % 3);
-        let fixed = Fixed { identity, blocks, prefix: 0, ports: 1, g: 1, frame: 9, subframe: 0, cfi };
+        let duration = None;
+        let fixed =
+            Fixed { identity, blocks, prefix: 0, ports: 1, g: 1, duration, frame: 9, subframe: 0, cfi };
         let cut = fixed.cell().centre().start / 12;
         let users = users(random, &[(0, cut + 1), (cut + 1, 2)], |user| if user == 0 { *bits } else { 2 });
         accepted(random, plan(&fixed, vec![], users))
@@ -323,10 +333,12 @@ fn equal_bits(random: &mut Random) -> Vec<Call> {
             prefix: i % 2,
             ports: PORTS[(i / 2).min(2)],
             g: SIXTHS[3 - i % 4],
+            duration: (i % 4 == 3).then_some(1),
             frame: 1000 + i,
             subframe: [0, 1, 5][i % 3],
             cfi: 1 + i % 3,
-        };
+        }
+        .fitted();
         let all = his(random, &fixed.cell(), His::All);
         let plan = plan(&fixed, all, vec![user(65535, ORDERS[i / 2], 0, fixed.blocks)]);
         for bit in [0, 1] {
@@ -341,8 +353,10 @@ fn equal_bits(random: &mut Random) -> Vec<Call> {
 /// on four.
 fn longest(random: &mut Random) -> Vec<Call> {
     let one = |(prefix, ports): (usize, usize)| {
+        let duration = (ports == 4).then_some(0);
+        let (identity, frame) = (503, 1023);
         let fixed =
-            Fixed { identity: 503, blocks: 100, prefix, ports, g: 12, frame: 1023, subframe: 9, cfi: 1 };
+            Fixed { identity, blocks: 100, prefix, ports, g: 12, duration, frame, subframe: 9, cfi: 1 };
         let all = his(random, &fixed.cell(), His::All);
         accepted(random, plan(&fixed, all, vec![user(1, 8, 0, 100)]))
     };
@@ -353,11 +367,14 @@ fn longest(random: &mut Random) -> Vec<Call> {
 const LONGEST_GRID: &str = "10 0000 64 00 04 01  11 0000 01 01  00";
 const SHORTEST_GRID: &str = "10 0000 06 01 01 01  11 0000 01 03  00";
 
-/// CELL, FRAME, END alone, and document 01's example for gridcount with its variant.
+/// CELL or CELLX, FRAME, END alone, and document 01's example for gridcount with its variant.
 fn alone() -> Vec<Call> {
     let mut calls = Vec::new();
-    let texts =
-        ["10 0000 0F 00 01 01  11 0000 01 01  00", "10 01F7 64 01 04 0C  11 03FF 08 03  00", SHORTEST_GRID];
+    let texts = [
+        "10 0000 0F 00 01 01  11 0000 01 01  00",
+        "12 01F7 64 01 04 0C 01  11 03FF 08 03  00",
+        SHORTEST_GRID,
+    ];
     for text in texts {
         calls.push(call(unhex(text).expect("hexadecimal digits"), vec![]));
     }
@@ -380,11 +397,15 @@ fn refused_plans() -> Vec<Call> {
         "00",
         "10 0000 0F 00 01 01  11 0000 01 01  30 0001 02 00 01  20 0000  00",
         "10 0000 0F 00 01 01  11 0000 01 01  00 99",
-        // 3: C = 504, N = 7.
+        // 3: C = 504, N = 7, duration 2.
         "10 01F8 0F 00 01 01  11 0000 01 01  00",
         "10 0000 07 00 01 01  11 0000 01 01  00",
+        "12 0000 0F 00 01 01 02  11 0000 01 03  00",
         // 4: f = 10.
         "10 0000 0F 00 01 01  11 0000 0A 01  00",
+        // 18: extended duration, control regions of two symbols.
+        "12 0000 0F 00 01 01 01  11 0000 01 02  00",
+        "12 0000 06 00 01 01 01  11 0000 01 01  00",
         // 5: a group beyond the count, a pair used before.
         "10 0000 0F 00 01 01  11 0000 01 01  20 0100  00",
         "10 0000 0F 00 01 01  11 0000 01 01  20 0003  20 0003  00",

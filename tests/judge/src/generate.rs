@@ -2,7 +2,7 @@
 
 use crate::owners::layout;
 use crate::payload::Sections;
-use crate::plan::{check, operand_bytes, Cell, CELL, END, FRAME, HI, USER, WIDTHS};
+use crate::plan::{check, operand_bytes, Cell, CELL, CELLX, END, FRAME, HI, USER, WIDTHS};
 use std::ops::Range;
 
 /// Numbers from a seed (the SplitMix64 generator).
@@ -57,13 +57,22 @@ impl Random {
     }
 }
 
-/// The combinations of N, prefix, P, g, f and CFI.
-pub const COMBINATIONS: usize = 6 * 2 * 3 * 4 * 10 * 3;
+/// The combinations of N, prefix, P, g, f and CFI with the normal PHICH duration.
+const NORMAL_COMBINATIONS: usize = 6 * 2 * 3 * 4 * 10 * 3;
 
-/// Six blocks with every CFI, prefix and P in subframe 0, in subframe 5 and in another.
-pub const OF_SIX_BLOCKS: usize = 3 * 2 * 3 * 3;
+/// N and CFI where the control region has the three symbols of the extended PHICH duration.
+pub const LONG_REGIONS: [(usize, usize); 7] = [(6, 2), (6, 3), (15, 3), (25, 3), (50, 3), (75, 3), (100, 3)];
 
-/// A plan's CELL and FRAME values.
+/// The combinations of N, prefix, P, g, f and CFI with either PHICH duration.
+pub const COMBINATIONS: usize = NORMAL_COMBINATIONS + LONG_REGIONS.len() * 2 * 3 * 4 * 10;
+
+/// Six blocks and the normal PHICH duration with every CFI, prefix and P in subframe 0, in subframe 5 and in another.
+const OF_NORMAL_SIX: usize = 3 * 2 * 3 * 3;
+
+/// These, and six blocks and the extended duration with CFI 2 and 3, every prefix and P.
+pub const OF_SIX_BLOCKS: usize = OF_NORMAL_SIX + 2 * 2 * 3;
+
+/// A plan's values of CELL or CELLX and of FRAME.
 #[derive(Clone, Copy, Debug)]
 pub struct Fixed {
     pub identity: usize,
@@ -71,30 +80,47 @@ pub struct Fixed {
     pub prefix: usize,
     pub ports: usize,
     pub g: usize,
+    /// CELLX's duration; `None` for CELL.
+    pub duration: Option<usize>,
     pub frame: usize,
     pub subframe: usize,
     pub cfi: usize,
 }
 
 impl Fixed {
-    /// Combination number i, with an identity and a frame.
+    /// Combination number i, with an identity and a frame. About a third of them have CELLX.
     pub fn combination(i: usize, identity: usize, frame: usize) -> Fixed {
-        let mut rest = i % COMBINATIONS;
+        let i = i % COMBINATIONS;
+        let long = i >= NORMAL_COMBINATIONS;
+        let mut rest = if long { i - NORMAL_COMBINATIONS } else { i };
         let mut digit = |base: usize| {
             let digit = rest % base;
             rest /= base;
             digit
         };
+        let (blocks, long_cfi) = if long { LONG_REGIONS[digit(7)] } else { (WIDTHS[digit(6)], 0) };
         Fixed {
             identity,
-            blocks: WIDTHS[digit(6)],
+            blocks,
             prefix: digit(2),
             ports: [1, 2, 4][digit(3)],
             g: [1, 3, 6, 12][digit(4)],
+            // Eleven has no divisor in common with the number of values of a field.
+            duration: if long { Some(1) } else { (i % 11 == 0).then_some(0) },
             frame,
             subframe: digit(10),
-            cfi: 1 + digit(3),
+            cfi: if long { long_cfi } else { 1 + digit(3) },
         }
+    }
+
+    /// The same with a CFI whose control region has the symbols of the PHICH duration.
+    pub fn fitted(self) -> Fixed {
+        let least = match (self.duration, self.blocks) {
+            (Some(1), 6) => 2,
+            (Some(1), _) => 3,
+            _ => 1,
+        };
+        Fixed { cfi: self.cfi.max(least), ..self }
     }
 
     /// A random one; half of them in the subframes that have synchronisation signals.
@@ -118,26 +144,42 @@ impl Fixed {
 
     /// Number i of those with six blocks; the other fields are random.
     pub fn of_six_blocks(random: &mut Random, i: usize) -> Fixed {
+        let subframes = [0, 5, random.pick(&[1, 2, 3, 4, 6, 7, 8, 9])];
+        let any = Fixed { blocks: 6, ..Fixed::random(random) };
+        if let Some(i) = i.checked_sub(OF_NORMAL_SIX) {
+            return Fixed {
+                prefix: i / 2 % 2,
+                ports: [1, 2, 4][i / 4 % 3],
+                duration: Some(1),
+                subframe: subframes[i % 3],
+                cfi: 2 + i % 2,
+                ..any
+            };
+        }
         Fixed {
-            blocks: 6,
             prefix: i / 3 % 2,
             ports: [1, 2, 4][i / 6 % 3],
-            subframe: [0, 5, random.pick(&[1, 2, 3, 4, 6, 7, 8, 9])][i / 18 % 3],
+            duration: (i % 5 == 0).then_some(0),
+            subframe: subframes[i / 18 % 3],
             cfi: 1 + i % 3,
-            ..Fixed::random(random)
+            ..any
         }
     }
 
     pub fn cell(&self) -> Cell {
-        let Fixed { identity, blocks, prefix, ports, g, .. } = *self;
-        Cell { identity, blocks, extended: prefix == 1, ports, g }
+        let Fixed { identity, blocks, prefix, ports, g, duration, .. } = *self;
+        Cell { identity, blocks, extended: prefix == 1, ports, g, extended_phich: duration == Some(1) }
     }
 
-    /// CELL and FRAME.
+    /// CELL or CELLX, and FRAME.
     pub fn commands(&self) -> [Vec<u8>; 2] {
         let [high, low] = (self.identity as u16).to_be_bytes();
-        let cell =
+        let mut cell =
             vec![CELL, high, low, self.blocks as u8, self.prefix as u8, self.ports as u8, self.g as u8];
+        if let Some(duration) = self.duration {
+            cell[0] = CELLX;
+            cell.push(duration as u8);
+        }
         let [high, low] = (self.frame as u16).to_be_bytes();
         [cell, vec![FRAME, high, low, self.subframe as u8, self.cfi as u8]]
     }
@@ -201,7 +243,8 @@ pub const USERS: [Users; 7] =
 
 /// (first, count) of each user.
 pub fn allocations(random: &mut Random, blocks: usize, how: Users) -> Vec<(usize, usize)> {
-    let centre = Cell { identity: 0, blocks, extended: false, ports: 1, g: 1 }.centre();
+    let centre =
+        Cell { identity: 0, blocks, extended: false, ports: 1, g: 1, extended_phich: false }.centre();
     let (low, high) = (centre.start / 12, (centre.end - 1) / 12);
     // With six blocks the centre 72 is the whole width.
     let beside: Vec<usize> = (0..blocks).filter(|block| block + 1 == low || *block == high + 1).collect();
@@ -382,6 +425,7 @@ pub fn spare_set(random: &mut Random, plan: &[u8]) -> Option<Vec<u8>> {
 fn fields(command: u8) -> Vec<(usize, usize)> {
     match command {
         CELL => vec![(1, 2), (3, 1), (4, 1), (5, 1), (6, 1)],
+        CELLX => vec![(1, 2), (3, 1), (4, 1), (5, 1), (6, 1), (7, 1)],
         FRAME => vec![(1, 2), (3, 1), (4, 1)],
         HI => vec![(1, 1), (2, 1)],
         USER => vec![(1, 2), (3, 1), (4, 1), (5, 1)],
@@ -389,32 +433,61 @@ fn fields(command: u8) -> Vec<(usize, usize)> {
     }
 }
 
+fn is_cell(command: &[u8]) -> bool {
+    [CELL, CELLX].contains(&command[0])
+}
+
+/// A cell's command in another form: CELL as CELLX of some duration, CELLX as CELL.
+fn other_form(random: &mut Random, cell: &[u8]) -> Vec<u8> {
+    let operands = &cell[1..cell.len().min(7)];
+    match cell[0] {
+        CELL => [&[CELLX], operands, &[random.pick(&[0, 1, 1, 1, 2, 255])]].concat(),
+        _ => [&[CELL], operands].concat(),
+    }
+}
+
+/// The cell in another form: in its place, behind it, or anywhere; or the byte of CELL or CELLX before the operands of
+/// the other, or of any command.
+fn with_other_form(random: &mut Random, mut list: Vec<Vec<u8>>, place: usize) -> Vec<Vec<u8>> {
+    let other = other_form(random, &list[place]);
+    match random.below(8) {
+        0..=3 => list[place] = other,
+        4 => list.insert(place + 1, other),
+        5 => list.insert(random.below(list.len() + 1), other),
+        6 => list[place][0] = other[0],
+        _ => {
+            let any = random.below(list.len());
+            list[any][0] = CELLX;
+        }
+    }
+    list
+}
+
 /// A field at its limits, beyond them, or anywhere.
 fn limit(random: &mut Random, list: &[Vec<u8>], command: &[u8], field: usize) -> u16 {
-    let cell = list.iter().find(|command| command[0] == CELL && command.len() == 7);
-    let cell = cell.map(|c| Cell {
-        identity: 0,
-        blocks: c[3] as usize,
-        extended: c[4] == 1,
-        ports: 1,
-        g: (c[6] as usize).max(1),
-    });
-    let cell = cell.unwrap_or(Cell { identity: 0, blocks: 15, extended: false, ports: 1, g: 1 });
+    let cell = list.iter().find(|command| is_cell(command) && command.len() >= 7);
+    let long = cell.is_some_and(|c| c[0] == CELLX && c.get(7) == Some(&1));
+    let (blocks, prefix, g) = cell.map_or((15, 0, 1), |c| (c[3] as usize, c[4], (c[6] as usize).max(1)));
+    let cell = Cell { identity: 0, blocks, extended: prefix == 1, ports: 1, g, extended_phich: false };
     let (groups, sequences) = (cell.phich_groups() as u16, cell.phich_sequences() as u16);
     let blocks = cell.blocks as u16;
     if random.one_in(8) {
         return random.number() as u16;
     }
     let values: Vec<u16> = match (command[0], field) {
-        (CELL, 0) => vec![0, 255, 256, 502, 503, 504, 505, 511, 512, 1007, 65535],
+        (CELL | CELLX, 0) => vec![0, 255, 256, 502, 503, 504, 505, 511, 512, 1007, 65535],
         // Next to the cell's own width all else stays right.
-        (CELL, 1) if random.one_in(2) => vec![blocks.wrapping_sub(1), blocks + 1],
-        (CELL, 1) => vec![0, 5, 6, 7, 14, 15, 16, 24, 25, 26, 49, 50, 51, 74, 75, 76, 99, 100, 101, 110, 255],
-        (CELL, 2) => vec![0, 1, 2, 128, 255],
-        (CELL, 3) => vec![0, 1, 2, 3, 4, 5, 8, 255],
-        (CELL, 4) => vec![0, 1, 2, 3, 4, 5, 6, 7, 11, 12, 13, 255],
+        (CELL | CELLX, 1) if random.one_in(2) => vec![blocks.wrapping_sub(1), blocks + 1],
+        (CELL | CELLX, 1) => {
+            vec![0, 5, 6, 7, 14, 15, 16, 24, 25, 26, 49, 50, 51, 74, 75, 76, 99, 100, 101, 110, 255]
+        }
+        (CELL | CELLX, 2) => vec![0, 1, 2, 128, 255],
+        (CELL | CELLX, 3) => vec![0, 1, 2, 3, 4, 5, 8, 255],
+        (CELL | CELLX, 4) => vec![0, 1, 2, 3, 4, 5, 6, 7, 11, 12, 13, 255],
+        (CELLX, 5) => vec![0, 1, 2, 3, 128, 255],
         (FRAME, 0) => vec![0, 255, 256, 1022, 1023, 1024, 1025, 4096, 65535],
         (FRAME, 1) => vec![0, 1, 5, 8, 9, 10, 11, 255],
+        (FRAME, 2) if long && random.one_in(2) => vec![1, 2],
         (FRAME, 2) => vec![0, 1, 2, 3, 4, 5, 255],
         (HI, 0) => vec![0, groups.wrapping_sub(1), groups, groups + 1, groups / 2, 255],
         (HI, 1) => vec![0, sequences - 1, sequences, sequences + 1, 3, 4, 7, 8, 255],
@@ -450,10 +523,10 @@ fn limit(random: &mut Random, list: &[Vec<u8>], command: &[u8], field: usize) ->
 pub fn damage(random: &mut Random, list: &[Vec<u8>]) -> Vec<u8> {
     let mut list = list.to_vec();
     let any = random.below(list.len());
-    match random.below(15) {
+    match random.below(17) {
         // A field at or beyond its limits, of a command of any sort.
         0..=4 => {
-            let sorts: Vec<u8> = [CELL, FRAME, HI, USER]
+            let sorts: Vec<u8> = [CELL, CELLX, FRAME, HI, USER]
                 .into_iter()
                 .filter(|sort| list.iter().any(|command| command[0] == *sort))
                 .collect();
@@ -537,10 +610,15 @@ pub fn damage(random: &mut Random, list: &[Vec<u8>]) -> Vec<u8> {
             }
             list.insert(places[places.len() - 1] + 1, again);
         }
+        // The cell as CELLX or as CELL.
+        14 | 15 if list.iter().any(|command| is_cell(command)) => {
+            let place = list.iter().position(|command| is_cell(command)).expect("a cell");
+            list = with_other_form(random, list, place);
+        }
         // A byte that is no command, or one that is, between two commands.
         _ => {
             let byte = if random.one_in(2) {
-                random.pick(&[0x01, 0x0F, 0x12, 0x21, 0x31, 0x40, 0xFF])
+                random.pick(&[0x01, 0x0F, 0x12, 0x13, 0x21, 0x31, 0x40, 0xFF])
             } else {
                 random.byte()
             };

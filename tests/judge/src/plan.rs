@@ -1,6 +1,7 @@
-//! The plan: its commands, its fields, and the refusals 1 to 7 (document 01, "Plan and payload", "Refusals").
+//! The plan: its commands, its fields, and the refusals 1 to 7 (document 01, "Plan and payload", "Refusals") and 18
+//! (document 02, #108).
 
-/// A refusal's number in document 01.
+/// A refusal's number in documents 01 and 02.
 pub type Refusal = u8;
 
 pub const UNKNOWN_OR_SHORT: Refusal = 1;
@@ -16,11 +17,15 @@ pub const GRID_LENGTH: Refusal = 10;
 pub const PAYLOAD_LENGTH: Refusal = 11;
 pub const SPARE_BIT: Refusal = 12;
 pub const NO_PAYLOAD: Refusal = 13;
+/// Document 02, #108; the numbers between are those of other requests.
+pub const SHORT_REGION: Refusal = 18;
 
 /// N; "N = 6 joins the widths" by document 02, #102.
 pub const WIDTHS: [usize; 6] = [6, 15, 25, 50, 75, 100];
 
 pub const CELL: u8 = 0x10;
+/// "Command 12 CELLX has the operands of CELL and a duration u8 [..], and stands in its place" (document 02, #108).
+pub const CELLX: u8 = 0x12;
 pub const FRAME: u8 = 0x11;
 pub const HI: u8 = 0x20;
 pub const USER: u8 = 0x30;
@@ -30,6 +35,7 @@ pub const END: u8 = 0x00;
 pub fn operand_bytes(command: u8) -> Option<usize> {
     match command {
         CELL => Some(6),
+        CELLX => Some(7),
         FRAME => Some(4),
         HI => Some(2),
         USER => Some(5),
@@ -49,6 +55,8 @@ pub struct Cell {
     pub ports: usize,
     /// N_g in sixths.
     pub g: usize,
+    /// Whether the PHICH duration is extended; that of CELL is normal.
+    pub extended_phich: bool,
 }
 
 #[derive(Clone, Copy, Debug, PartialEq, Eq)]
@@ -147,39 +155,51 @@ impl Cell {
     }
 }
 
-impl Plan {
-    /// The symbols of the control region: document 02, #102, "N = 6 joins the widths, and there the control region is
-    /// CFI + 1 symbols; at other widths it is CFI".
-    pub fn control_symbols(&self) -> usize {
-        if self.cell.blocks == 6 {
-            self.frame.cfi + 1
-        } else {
-            self.frame.cfi
-        }
+/// The symbols of the control region: document 02, #102, "N = 6 joins the widths, and there the control region is
+/// CFI + 1 symbols; at other widths it is CFI".
+fn control_symbols(cell: &Cell, frame: &Frame) -> usize {
+    if cell.blocks == 6 {
+        frame.cfi + 1
+    } else {
+        frame.cfi
     }
 }
 
+impl Plan {
+    pub fn control_symbols(&self) -> usize {
+        control_symbols(&self.cell, &self.frame)
+    }
+}
+
+/// CELL's operands, or CELLX's: "a duration u8 (0 normal, 1 extended)" more, which "above 1 is refused 3".
 fn cell(operand: &[u8]) -> Result<Cell, Refusal> {
     let identity = 256 * operand[0] as usize + operand[1] as usize;
     let [blocks, prefix, ports, g] = [operand[2], operand[3], operand[4], operand[5]].map(usize::from);
+    let duration = operand.get(6).copied().unwrap_or(0);
     let right = identity <= 503
         && WIDTHS.contains(&blocks)
         && [0, 1].contains(&prefix)
         && [1, 2, 4].contains(&ports)
-        && [1, 3, 6, 12].contains(&g);
+        && [1, 3, 6, 12].contains(&g)
+        && [0, 1].contains(&duration);
     if !right {
         return Err(CELL_FIELD);
     }
-    Ok(Cell { identity, blocks, extended: prefix == 1, ports, g })
+    Ok(Cell { identity, blocks, extended: prefix == 1, ports, g, extended_phich: duration == 1 })
 }
 
-fn frame(operand: &[u8]) -> Result<Frame, Refusal> {
+fn frame(operand: &[u8], cell: &Cell) -> Result<Frame, Refusal> {
     let frame = 256 * operand[0] as usize + operand[1] as usize;
     let [subframe, cfi] = [operand[2], operand[3]].map(usize::from);
     if frame > 1023 || subframe > 9 || !(1..=3).contains(&cfi) {
         return Err(FRAME_FIELD);
     }
-    Ok(Frame { frame, subframe, cfi })
+    let frame = Frame { frame, subframe, cfi };
+    // "18, at FRAME after 4, when duration is extended and the control region is shorter than three symbols".
+    if cell.extended_phich && control_symbols(cell, &frame) < 3 {
+        return Err(SHORT_REGION);
+    }
+    Ok(frame)
 }
 
 fn hi(operand: &[u8], cell: &Cell, before: &[HiCommand]) -> Result<HiCommand, Refusal> {
@@ -221,10 +241,10 @@ pub fn check(bytes: &[u8]) -> Result<Plan, Refusal> {
         let Some(size) = operand_bytes(command) else { return Err(UNKNOWN_OR_SHORT) };
         let Some(operand) = bytes.get(at + 1..at + 1 + size) else { return Err(UNKNOWN_OR_SHORT) };
         at += 1 + size;
-        // 2: "Order: CELL, FRAME, any HIs, any USERs, END".
+        // 2: "Order: CELL, FRAME, any HIs, any USERs, END"; CELLX "stands in its place".
         match (command, the_cell, the_frame) {
-            (CELL, None, None) => the_cell = Some(cell(operand)?),
-            (FRAME, Some(_), None) => the_frame = Some(frame(operand)?),
+            (CELL | CELLX, None, None) => the_cell = Some(cell(operand)?),
+            (FRAME, Some(cell), None) => the_frame = Some(frame(operand, &cell)?),
             (HI, Some(cell), Some(_)) if users.is_empty() => his.push(hi(operand, &cell, &his)?),
             (USER, Some(cell), Some(_)) => users.push(user(operand, &cell, &users)?),
             (END, Some(cell), Some(frame)) => {

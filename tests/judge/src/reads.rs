@@ -231,7 +231,8 @@ impl Example {
         (0..3).map(|i| (at + i, element[i])).collect()
     }
 
-    /// Legal elements in the wrong place: a user's first two, two users' first, a user's and PBCH's, two of PCFICH's.
+    /// Legal elements in the wrong place: a user's first two, two users' first, a user's and PBCH's, two of PCFICH's, two of
+    /// different quads of a PHICH unit.
     fn exchanges(&self) -> Vec<Vec<Change>> {
         let users = &self.layout.users;
         vec![
@@ -240,6 +241,8 @@ impl Example {
             self.exchanged(users[2][0], users[3][0]),
             self.exchanged(users[0][2], self.layout.pbch[0]),
             self.exchanged(self.layout.pcfich[0], self.layout.pcfich[3]),
+            self.exchanged(self.layout.phich[0][0], self.layout.phich[0][4]),
+            self.exchanged(self.layout.phich[0][1], self.layout.phich[0][9]),
         ]
     }
 
@@ -282,6 +285,9 @@ impl Example {
             lists.push(self.element_put(port, unit[0], [2, value, value]));
             lists.push(self.element_put(port, unit[5], [4, value, 0]));
         }
+        for value in [0, 2, 254] {
+            lists.push(self.element_put(port, unit[10], [4, value, value]));
+        }
         lists
     }
 
@@ -293,16 +299,17 @@ impl Example {
 }
 
 /// Grids of examples with one, two and four ports, changed where it must be seen; the last two have six blocks, and
-/// their last idle place in the control symbol that the CFI does not count.
+/// their last idle place in the control symbol that the CFI does not count. The second, the third and the fourth have the
+/// extended PHICH duration.
 fn damaged() -> Vec<Test> {
     let texts = [
         "10 0007 0F 00 01 01  11 0001 00 02  20 0000 20 0005 \
          30 0011 02 00 03  30 0022 04 03 04  30 0033 06 07 04  30 0044 08 0B 03  00",
-        "10 0150 0F 01 02 06  11 0003 00 01  20 0000 20 0103 \
+        "12 0150 0F 01 02 06 01  11 0003 00 03  20 0000 20 0103 \
          30 0011 08 00 04  30 0022 06 04 03  30 0033 02 07 02  30 0044 04 0A 04  00",
-        "10 01F7 19 00 04 03  11 0002 00 03  20 0000 20 0007 \
+        "12 01F7 19 00 04 03 01  11 0002 00 03  20 0000 20 0007 \
          30 0011 04 02 05  30 0022 08 07 04  30 0033 06 0B 05  30 0044 02 11 05  00",
-        "10 0059 06 00 01 0C  11 0006 00 03  20 0000 20 0107 \
+        "12 0059 06 00 01 0C 01  11 0006 00 03  20 0000 20 0107 \
          30 0011 02 00 02  30 0022 04 02 01  30 0033 06 03 01  30 0044 08 04 02  00",
         "10 01A6 06 01 04 0C  11 0005 00 02  20 0000 20 0303 \
          30 0011 06 00 02  30 0022 02 02 01  30 0033 08 03 01  30 0044 04 04 02  00",
@@ -326,14 +333,15 @@ fn refused_lengths() -> Vec<Test> {
 }
 
 /// Every byte of small grids, of one port and of two, with PBCH, HIs and users of each modulation; the second has two
-/// users of one order one after the other, the third has six blocks.
+/// users of one order one after the other and CELLX of the normal PHICH duration, the third has six blocks and the
+/// extended PHICH duration.
 fn sweeps() -> Vec<Test> {
     let texts = [
         "10 0014 0F 01 01 01  11 0001 00 02  20 0000 20 0102 \
          30 0101 02 00 02  30 0202 08 02 03  30 0303 04 05 02  30 0404 06 09 03  00",
-        "10 00C9 0F 01 02 01  11 0002 00 01  20 0001 20 0003 \
+        "12 00C9 0F 01 02 01 00  11 0002 00 01  20 0001 20 0003 \
          30 0101 06 00 02  30 0202 08 02 02  30 0303 08 04 02  30 0404 02 09 03  30 0505 04 0C 02  00",
-        "10 00AF 06 01 01 0C  11 0003 00 02  20 0000 20 0303 \
+        "12 00AF 06 01 01 0C 01  11 0003 00 02  20 0000 20 0303 \
          30 0101 04 00 01  30 0202 06 01 02  30 0303 02 03 01  30 0404 08 05 01  00",
     ];
     let sweep = |(text, seed): (&&str, u64)| {

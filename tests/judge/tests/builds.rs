@@ -59,7 +59,7 @@ const KINDS: [(bool, usize); 6] = [(false, 1), (false, 2), (false, 4), (true, 1)
 #[test]
 fn how_many() {
     let (accepted, refused) = (accepted(), refused());
-    assert_eq!((accepted.len(), refused.len()), (197, 37));
+    assert_eq!((accepted.len(), refused.len()), (209, 40));
     // The program's buffer.
     assert!(input(&calls()).len() < 400_000);
     assert!(accepted.iter().all(|a| a.call.lent == Lent::AsWanted));
@@ -121,6 +121,30 @@ fn six_blocks() {
         let residue = |a: &Accepted| six(a).map(|_| a.plan.cell.identity % residues);
         assert_eq!(set(&list, residue), (0..residues).collect(), "residues of {residues}");
     }
+}
+
+/// The extended PHICH duration: every N, prefix and P; at six blocks with CFI 2 and 3; with no HI, some and all of them;
+/// in subframes 0, 5 and another; in a plan of as many users as blocks. And CELLX of the normal duration.
+#[test]
+fn extended_phich() {
+    let list = accepted();
+    let long = |a: &Accepted| a.plan.cell.extended_phich;
+    let width = |a: &Accepted| (a.plan.cell.blocks, a.kind());
+    assert_eq!(set(&list, |a| long(a).then(|| width(a))), pairs(&WIDTHS, &KINDS));
+    let six = |a: &Accepted| (long(a) && a.plan.cell.blocks == 6).then(|| (a.plan.frame.cfi, a.kind()));
+    assert_eq!(set(&list, six), pairs(&[2, 3], &KINDS));
+    let his = |a: &Accepted| if a.plan.his.len() == a.all_his() { 2 } else { a.plan.his.len().min(1) };
+    assert_eq!(set(&list, |a| long(a).then(|| (his(a), a.kind()))), pairs(&[0, 1, 2], &KINDS));
+    let sort = |a: &Accepted| [0, 5].iter().position(|f| *f == a.plan.frame.subframe).unwrap_or(2);
+    assert_eq!(set(&list, |a| long(a).then(|| (sort(a), a.plan.cell.ports))), pairs(&[0, 1, 2], &[1, 2, 4]));
+    assert_eq!(set(&list, |a| long(a).then_some(a.plan.cell.g)), BTreeSet::from([1, 3, 6, 12]));
+    assert!(list.iter().any(|a| long(a) && a.plan.users.len() == 100));
+    assert!(list.iter().any(|a| long(a) && a.plan.cell.blocks == 100 && a.plan.his.len() > 100));
+    // About a third of all plans has CELLX.
+    let cellx = |a: &&Accepted| a.call.plan[0] == 0x12;
+    assert!((60..85).contains(&list.iter().filter(cellx).count()));
+    let normal = |a: &Accepted| cellx(&a) && !long(a);
+    assert_eq!(set(&list, |a| normal(a).then_some(a.plan.cell.ports)), BTreeSet::from([1, 2, 4]));
 }
 
 #[test]
@@ -225,17 +249,20 @@ fn payloads() {
     assert!(zeros >= 6 && ones >= 6 && mixed >= 60, "{zeros} {ones} {mixed}");
 }
 
+/// The plan's refusals.
+const OF_PLAN: [Refusal; 8] = [1, 2, 3, 4, 5, 6, 7, 18];
+
 #[test]
 fn refusals_in_their_order() {
     let list = refused();
     let numbers: BTreeSet<Refusal> = list.iter().map(|(_, refusal)| *refusal).collect();
-    assert_eq!(numbers, BTreeSet::from([1, 2, 3, 4, 5, 6, 7, 10, 11, 12]));
+    assert_eq!(numbers, BTreeSet::from([1, 2, 3, 4, 5, 6, 7, 10, 11, 12, 18]));
     // Which of 10, 11 and 12 apply to a call, and which is given.
     let mut seen = BTreeSet::new();
     for (call, refusal) in &list {
         assert!(call.answer().1.iter().all(|byte| *byte == 165));
         let Ok(plan) = check(&call.plan) else {
-            assert!(*refusal <= 7);
+            assert!(OF_PLAN.contains(refusal));
             continue;
         };
         let sections = Sections::new(&plan, &layout(&plan));
@@ -255,8 +282,8 @@ fn refusals_in_their_order() {
     ];
     assert_eq!(seen, BTreeSet::from(expected));
     // A refused plan over a grid of each length, and with a payload.
-    let lengths: BTreeSet<usize> =
-        list.iter().filter(|(_, refusal)| *refusal <= 7).map(|(call, _)| call.grid_length()).collect();
+    let of_plan = list.iter().filter(|(_, refusal)| OF_PLAN.contains(refusal));
+    let lengths: BTreeSet<usize> = of_plan.map(|(call, _)| call.grid_length()).collect();
     assert_eq!(lengths, BTreeSet::from([35, 36, 37]));
 }
 
@@ -308,8 +335,8 @@ fn the_output() {
     }
     assert_eq!(text.lines().count(), calls().len());
     // CELL FRAME END alone; the first refused plan.
-    assert!(text.lines().any(|line| line.starts_with("193 0 ")));
-    assert!(text.lines().any(|line| line == "198 refused 1 3106694912 2866538346"));
+    assert!(text.lines().any(|line| line.starts_with("205 0 ")));
+    assert!(text.lines().any(|line| line == "210 refused 1 3106694912 2866538346"));
 }
 
 #[test]

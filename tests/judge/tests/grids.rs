@@ -529,8 +529,17 @@ fn the_byte_of_unit_340() {
 #[test]
 fn one_hundred_blocks() {
     let mut random = Random::new(40);
-    let fixed =
-        Fixed { identity: 503, blocks: 100, prefix: 0, ports: 4, g: 12, frame: 3, subframe: 0, cfi: 1 };
+    let fixed = Fixed {
+        identity: 503,
+        blocks: 100,
+        prefix: 0,
+        ports: 4,
+        g: 12,
+        duration: None,
+        frame: 3,
+        subframe: 0,
+        cfi: 1,
+    };
     let bytes = commands(&mut random, &fixed, HIS[4], Users::OneBlockEach).concat();
     let payload = right_payload(&mut random, &bytes).unwrap();
     let start = std::time::Instant::now();

@@ -14,7 +14,7 @@ fn the_default_run_has_every_answer() {
         tally.add(&gridcount(&gridcount_case(1, case)));
     }
     println!("{}", tally.text());
-    let refused = [1, 2, 3, 4, 5, 6, 7, 11, 12].map(|number| format!("refused {number}"));
+    let refused = [1, 2, 3, 4, 5, 6, 7, 11, 12, 18].map(|number| format!("refused {number}"));
     let expected: Vec<String> = [vec!["accepted".to_string()], refused.to_vec()].concat();
     assert_eq!(tally.classes(), expected);
 }
@@ -39,22 +39,27 @@ fn special_inputs_come() {
     let declared = |input: &Vec<u8>| input.len() >= 2 && input[..2] == [0xFF, 0xFF];
     assert!(inputs.iter().any(|input| declared(input) && input.len() == 65537));
     assert!(inputs.iter().any(|input| declared(input) && input.len() < 65537));
-    assert_eq!(COMBINATIONS, 4320);
+    assert_eq!(COMBINATIONS, 4320 + 1680);
 }
 
-/// Every run has six blocks with every CFI, prefix and P in subframes 0, 5 and another.
+/// Every run has six blocks with every CFI, prefix and P in subframes 0, 5 and another, and those of three control symbols or
+/// more with the extended PHICH duration.
 #[test]
 fn six_blocks_come() {
-    let mut seen = BTreeSet::new();
+    let (mut seen, mut long) = (BTreeSet::new(), BTreeSet::new());
     for case in SIX_BLOCKS_CASES {
         let input = gridcount_case(1, case);
         assert!(gridcount(&input).starts_with("CRS"));
         let plan = check(&input[2..][..usize::from(input[1])]).expect("an accepted plan");
         assert_eq!(plan.cell.blocks, 6);
         let sort = [0, 5].iter().position(|f| *f == plan.frame.subframe).unwrap_or(2);
-        seen.insert((plan.cell.extended, plan.cell.ports, plan.frame.cfi, sort));
+        if plan.cell.extended_phich {
+            long.insert((plan.cell.extended, plan.cell.ports, plan.frame.cfi));
+        } else {
+            seen.insert((plan.cell.extended, plan.cell.ports, plan.frame.cfi, sort));
+        }
     }
-    assert_eq!(seen.len(), 2 * 3 * 3 * 3);
+    assert_eq!((seen.len(), long.len()), (2 * 3 * 3 * 3, 2 * 3 * 2));
 }
 
 #[test]

@@ -1,7 +1,7 @@
 //! Document 01's known elements, and the tables against the formulas that say the same.
 
 use judge::control::{
-    cfi_bits, pcfich_groups, pcfich_places, phich_places, phich_unit_groups, places_of_group,
+    cfi_bits, groups, pcfich_groups, pcfich_places, phich_places, phich_quads, places_of_group,
 };
 use judge::generate::{example_input, example_variant_input, input};
 use judge::modulation::{map_symbol, table, unmap_symbol};
@@ -12,7 +12,22 @@ use judge::{build, gridcount, Complex, Place};
 use std::collections::BTreeSet;
 
 fn cell(identity: usize, blocks: usize) -> Cell {
-    Cell { identity, blocks, extended: false, ports: 1, g: 1 }
+    Cell { identity, blocks, extended: false, ports: 1, g: 1, extended_phich: false }
+}
+
+/// The groups of a unit's quads with the normal PHICH duration, where all are of symbol 0.
+fn phich_unit_groups(cell: &Cell, unit: usize) -> [usize; 3] {
+    phich_quads(cell, unit).map(|(s, group)| {
+        assert_eq!(s, 0);
+        group
+    })
+}
+
+/// The same with the extended duration, where quad i is in symbol i.
+fn long_unit_groups(cell: &Cell, unit: usize) -> [usize; 3] {
+    let quads = phich_quads(&Cell { extended_phich: true, ..*cell }, unit);
+    assert_eq!(quads.map(|(s, _)| s), [0, 1, 2]);
+    quads.map(|(_, group)| group)
 }
 
 #[test]
@@ -158,7 +173,7 @@ fn control_groups_at_fifteen_blocks() {
     assert_eq!(pcfich_groups(&cell(503, 15)), [23, 0, 8, 15]);
     // C = 0: k mod 3 = 0 is left out.
     let ks = [1, 2, 4, 5];
-    assert_eq!(places_of_group(&cell(0, 15), 0), ks.map(|k| Place { s: 0, k }));
+    assert_eq!(places_of_group(&cell(0, 15), 0, 0), ks.map(|k| Place { s: 0, k }));
     assert_eq!(pcfich_places(&cell(0, 15))[..4], ks.map(|k| Place { s: 0, k }));
     assert_eq!(phich_places(&cell(0, 15), 0)[..4], ks.map(|k| Place { s: 0, k: k + 6 }));
 }
@@ -182,6 +197,90 @@ fn control_groups_at_six_blocks() {
     }
     for g in [1, 3, 6] {
         assert_eq!(Cell { g, ..cell(0, 6) }.phich_units(), 1);
+    }
+}
+
+#[test]
+fn groups_of_the_control_symbols() {
+    for blocks in [6, 15, 25, 50, 75, 100] {
+        for (ports, of_block) in [(1, [2, 3, 3]), (2, [2, 3, 3]), (4, [2, 2, 3])] {
+            let cell = Cell { ports, ..cell(0, blocks) };
+            assert_eq!([0, 1, 2].map(|s| groups(&cell, s)), of_block.map(|groups| groups * blocks));
+        }
+    }
+    let ks = |ports: usize, identity: usize, s: usize, group: usize| -> Vec<usize> {
+        let places = places_of_group(&Cell { ports, ..cell(identity, 15) }, s, group);
+        assert!(places.iter().all(|place| place.s == s));
+        places.iter().map(|place| place.k).collect()
+    };
+    assert_eq!(ks(2, 0, 1, 44), [176, 177, 178, 179]);
+    assert_eq!(ks(4, 0, 2, 4), [16, 17, 18, 19]);
+    // With four ports the reference signals of ports 2 and 3 are skipped.
+    assert_eq!(ks(4, 0, 1, 10), [61, 62, 64, 65]);
+    assert_eq!(ks(4, 1, 1, 10), [60, 62, 63, 65]);
+    assert_eq!(ks(4, 503, 1, 29), [174, 175, 177, 178]);
+}
+
+/// The extended PHICH duration, by hand. With one or two ports h_1 = h_2 = 3N, with four h_1 = 2N; h_0 = 2N − 4.
+#[test]
+fn extended_phich_at_fifteen_blocks() {
+    // h = 26, 45, 45; C = 0: numbers 0, 15, 30, of which only symbol 0 has some that PCFICH took.
+    assert_eq!(long_unit_groups(&cell(0, 15), 0), [1, 15, 30]);
+    // Four ports: h_1 = 30, floor(30/3) = 10.
+    assert_eq!(long_unit_groups(&Cell { ports: 4, ..cell(0, 15) }, 0), [1, 10, 30]);
+    // C = 503: number 503 mod 26 = 9 is group 11, since 0 and 8 are PCFICH's. floor(503×45/26) = 870, so 885 mod 45 = 30
+    // and 900 mod 45 = 0.
+    assert_eq!(long_unit_groups(&cell(503, 15), 0), [11, 30, 0]);
+    // Four ports: floor(503×30/26) = 580, so 590 mod 30 = 20.
+    assert_eq!(long_unit_groups(&Cell { ports: 4, ..cell(503, 15) }, 0), [11, 20, 0]);
+    let places = phich_places(&Cell { ports: 4, extended_phich: true, ..cell(503, 15) }, 0);
+    // 503 mod 3 = 2.
+    let by_hand = [(0, [66, 67, 69, 70]), (1, [120, 121, 123, 124]), (2, [0, 1, 2, 3])];
+    assert_eq!(places, by_hand.map(|(s, ks)| ks.map(|k| Place { s, k })).concat());
+}
+
+#[test]
+fn extended_phich_at_six_blocks() {
+    let two_units = |identity: usize, ports: usize| {
+        let cell = Cell { g: 12, ports, ..cell(identity, 6) };
+        [0, 1].map(|unit| long_unit_groups(&cell, unit))
+    };
+    // h = 8, 18, 18; C = 0: numbers m, m + 6, m + 12. Four ports: h_1 = 12, number m + 4.
+    assert_eq!(two_units(0, 2), [[1, 6, 12], [2, 7, 13]]);
+    assert_eq!(two_units(0, 4), [[1, 4, 12], [2, 5, 13]]);
+    // C = 503: 503 mod 8 = 7; floor(503×18/8) = 1131, so 1137 mod 18 = 3 and 1143 mod 18 = 9. The unit after number 7 has
+    // number 0.
+    assert_eq!(two_units(503, 1), [[10, 3, 9], [0, 4, 10]]);
+    // Four ports: floor(503×12/8) = 754, so 758 mod 12 = 2.
+    assert_eq!(two_units(503, 4), [[10, 2, 9], [0, 3, 10]]);
+}
+
+#[test]
+fn extended_phich_at_a_hundred_blocks() {
+    // h_0 = 196; PCFICH has 1, 51, 101, 151 with C = 101. Unit 24: number 125 is group 128; floor(101×300/196) = 154, so
+    // 154 + 24 + 100 = 278 and 154 + 24 + 200 − 300 = 78.
+    let cell = Cell { g: 12, ports: 2, ..cell(101, 100) };
+    assert_eq!(cell.phich_units(), 25);
+    assert_eq!(pcfich_groups(&cell), [101, 151, 1, 51]);
+    assert_eq!(long_unit_groups(&cell, 24), [128, 278, 78]);
+    // Four ports: floor(101×200/196) = 103, floor(200/3) = 66: 103 + 24 + 66 = 193.
+    assert_eq!(long_unit_groups(&Cell { ports: 4, ..cell }, 24), [128, 193, 78]);
+}
+
+/// "No unit may overlap another in either duration": every N, P and C with the most units; and none has a group of
+/// PCFICH. The rule goes by nothing else.
+#[test]
+fn no_unit_overlaps_another() {
+    for blocks in [6, 15, 25, 50, 75, 100] {
+        for i in 0..504 * 4 {
+            let (identity, ports, extended_phich) = (i / 4, [2, 4][i % 2], i / 2 % 2 == 1);
+            let cell = Cell { g: 12, ports, extended_phich, ..cell(identity, blocks) };
+            let units = 0..cell.phich_units();
+            let quads = units.flat_map(|unit| phich_quads(&cell, unit));
+            let all = quads.chain(pcfich_groups(&cell).map(|group| (0, group)));
+            let taken: BTreeSet<(usize, usize)> = all.collect();
+            assert_eq!(taken.len(), 3 * cell.phich_units() + 4, "{cell:?}");
+        }
     }
 }
 
@@ -210,6 +309,16 @@ fn gridcount_tables() {
     assert_eq!(
         gridcount(&example_variant_input()),
         "CRS 120\nPSS 62\nSSS 62\nPBCH 240\nPCFICH 16\nPHICH 12\nPDSCH 1830\nheld 56\nidle 122\n"
+    );
+    // CELLX with duration 0 is CELL.
+    let plan = [0x12, 0, 0, 15, 0, 1, 1, 0, 0x11, 0, 0, 1, 1, 0x20, 0, 0, 0x30, 0, 1, 2, 0, 15, 0];
+    assert_eq!(gridcount(&input(&plan, &[0; 564])), gridcount(&example_input()));
+    // Extended duration, by hand: the control symbols have 180 places each, 30 references, 16 of PCFICH and 12 of PHICH;
+    // eleven symbols are the user's, less 6 references in a block.
+    let plan = [0x12, 0, 0, 15, 0, 1, 1, 1, 0x11, 0, 0, 1, 3, 0x20, 0, 0, 0x30, 0, 1, 2, 0, 15, 0];
+    assert_eq!(
+        gridcount(&input(&plan, &[0; 1 + 473])),
+        "CRS 120\nPSS 0\nSSS 0\nPBCH 0\nPCFICH 16\nPHICH 12\nPDSCH 1890\nheld 0\nidle 482\n"
     );
     // Six blocks, by hand: symbols 0 and 1 are control, 32 and 72 places of them idle; 12 symbols are the user's, less
     // 6 references in a block.

@@ -75,8 +75,8 @@ fn every_block_has_24_elements() {
     assert_eq!([15, 25, 50, 75, 100].map(|blocks| least[blocks]), [32; 5]);
 }
 
-/// Every cell of six blocks with every subframe and CFI: rules go by C modulo 6, 12 and 8 alone. No two of them claim
-/// one place, or `layout` panics.
+/// Every cell of six blocks with every subframe, CFI and PHICH duration: rules go by C modulo 6, 12 and 8 alone. No two
+/// of them claim one place, or `layout` panics.
 #[test]
 fn every_cell_of_six_blocks() {
     let mut cells = 0;
@@ -87,7 +87,8 @@ fn every_cell_of_six_blocks() {
             let count = layout(&plan).counts();
             assert_eq!(count.iter().sum::<usize>(), 72 * cell.symbols());
             // All blocks have a user: what is idle lies in the control region. Symbol 0 has 12 groups of six places,
-            // of which two are references or skipped; with one port those of port 1 are idle.
+            // of which two are references or skipped; with one port those of port 1 are idle. PHICH has three groups
+            // for each unit, wherever they are.
             let groups = 12 - 4 - 3 * cell.phich_units();
             let skipped = if cell.ports == 1 { 12 } else { 0 };
             let references = |s: usize| match (s, cell.ports) {
@@ -101,7 +102,44 @@ fn every_cell_of_six_blocks() {
             cells += 1;
         }
     }
-    assert_eq!(cells, 24 * 2 * 3 * 4 * 10 * 3);
+    // Three CFIs with the normal duration, two with the extended one.
+    assert_eq!(cells, 24 * 2 * 3 * 4 * 10 * (3 + 2));
+}
+
+/// Where PHICH and what is idle lie, symbol by symbol, with either duration.
+#[test]
+fn phich_by_symbols() {
+    let (mut normal, mut long) = (0, 0);
+    for combination in 0..COMBINATIONS {
+        let plan = empty_plan(combination, (combination * 11) % 504);
+        let (cell, units) = (plan.cell, plan.cell.phich_units());
+        let layout = layout(&plan);
+        let of = |s: usize, kind: usize| {
+            let places = (0..cell.subcarriers()).map(|k| layout.owner(Place { s, k }));
+            places.filter(|owner| owner.kind() == kind).count()
+        };
+        let places = [0, 1, 2, 3].map(|s| of(s, 5));
+        if !cell.extended_phich {
+            normal += 1;
+            assert_eq!(places, [12 * units, 0, 0, 0]);
+            continue;
+        }
+        long += 1;
+        assert!(plan.control_symbols() >= 3);
+        assert_eq!(places, [4 * units, 4 * units, 4 * units, 0]);
+        // Without users all of a control symbol that has no reference signal and no quad is idle: in symbol 0 two
+        // places of six are skipped, with one port half of these.
+        let skipped = if cell.ports == 1 { 2 * cell.blocks } else { 0 };
+        let references = if cell.ports == 4 { 4 * cell.blocks } else { 0 };
+        assert_eq!(of(0, 8), 8 * cell.blocks - 16 - 4 * units + skipped);
+        assert_eq!(of(1, 8), 12 * cell.blocks - references - 4 * units);
+        assert_eq!(of(2, 8), 12 * cell.blocks - 4 * units);
+        for (unit, places) in layout.phich.iter().enumerate() {
+            let symbols: Vec<usize> = places.iter().map(|place| place.s).collect();
+            assert_eq!(symbols, [0, 0, 0, 0, 1, 1, 1, 1, 2, 2, 2, 2], "unit {unit}");
+        }
+    }
+    assert_eq!((normal, long), (6 * 2 * 3 * 4 * 10 * 3, 7 * 2 * 3 * 4 * 10));
 }
 
 /// Elements of a user over all six blocks, worked out by hand.

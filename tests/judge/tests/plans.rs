@@ -44,6 +44,7 @@ fn one() {
     // Unknown in any state before END.
     assert_eq!(refusal("01"), 1);
     assert_eq!(refusal(&format!("{CELL} FF")), 1);
+    assert_eq!(after_frame("13"), 1);
     assert_eq!(after_frame("12"), 1);
     assert_eq!(after_frame("30 0001 02 00 01 21 00"), 1);
     // Cut off, whatever else is wrong with it.
@@ -101,6 +102,63 @@ fn four_frame_fields() {
     for value in 0..=255u32 {
         assert_eq!(frame(&format!("11 0000 {value:02X} 01")), if value <= 9 { 0 } else { 4 });
         assert_eq!(frame(&format!("11 0000 00 {value:02X}")), if [1, 2, 3].contains(&value) { 0 } else { 4 });
+    }
+}
+
+/// "Command 12 CELLX has the operands of CELL and a duration u8 (0 normal, 1 extended), and stands in its place."
+#[test]
+fn cellx() {
+    let plan = plan("12 0102 19 01 02 06 01  11 0000 01 03  00").unwrap();
+    let cell = plan.cell;
+    assert_eq!((cell.identity, cell.blocks, cell.extended, cell.ports, cell.g), (0x102, 25, true, 2, 6));
+    assert!(cell.extended_phich);
+    for value in 0..=255u32 {
+        let duration = |frame: &str| refusal(&format!("12 0000 0F 00 01 01 {value:02X} {frame} 00"));
+        assert_eq!(duration("11 0000 01 03"), if value <= 1 { 0 } else { 3 });
+        // A duration above 1 is refused at CELLX, before FRAME.
+        assert_eq!(duration(FRAME), [0, 18, 3][value.min(2) as usize]);
+    }
+    // CELL's other fields.
+    for text in
+        ["01F8 0F 00 01 01", "0000 07 00 01 01", "0000 0F 02 01 01", "0000 0F 00 03 01", "0000 0F 00 01 02"]
+    {
+        assert_eq!(refusal(&format!("12 {text} 01 11 0000 01 03 00")), 3, "{text}");
+    }
+    let whole = unhex("12 0000 0F 00 01 01 01 11 0000 01 03 00").unwrap();
+    assert_eq!(check(&whole).err(), None);
+    for length in 0..whole.len() {
+        assert_eq!(check(&whole[..length]).err(), Some(1));
+    }
+    // Duration 0 means what CELL means.
+    let mut random = Random::new(14);
+    for _ in 0..60 {
+        let list = any_commands(&mut random);
+        if list[0][0] == 0x10 {
+            let other = [&[0x12], &list[0][1..], &[0], &list[1..].concat()].concat();
+            assert_eq!(check(&other), check(&list.concat()));
+        }
+    }
+}
+
+/// "18, at FRAME after 4, when duration is extended and the control region is shorter than three symbols".
+#[test]
+fn eighteen_short_regions() {
+    for (blocks, least) in [("06", 2), ("0F", 3), ("19", 3), ("32", 3), ("4B", 3), ("64", 3)] {
+        for cfi in 0..=255 {
+            let frame = |duration: &str, f: &str| {
+                refusal(&format!("12 0000 {blocks} 00 01 01 {duration} 11 0000 {f} {cfi:02X} 00"))
+            };
+            let known = (1..=3).contains(&cfi);
+            let long = match known {
+                false => 4,
+                true if cfi < least => 18,
+                true => 0,
+            };
+            assert_eq!(frame("01", "01"), long, "{blocks} CFI {cfi}");
+            assert_eq!(frame("00", "01"), if known { 0 } else { 4 });
+            // Another field of FRAME is judged first.
+            assert_eq!(frame("01", "0A"), 4);
+        }
     }
 }
 
@@ -228,7 +286,7 @@ fn damage_reaches_every_refusal() {
     let mut random = Random::new(12);
     let refusals: BTreeSet<Refusal> =
         (0..4000).map(|_| check(&damaged_plan(&mut random)).err().unwrap_or(0)).collect();
-    assert_eq!(refusals, BTreeSet::from([0, 1, 2, 3, 4, 5, 6, 7]));
+    assert_eq!(refusals, BTreeSet::from([0, 1, 2, 3, 4, 5, 6, 7, 18]));
 }
 
 #[test]
@@ -273,11 +331,12 @@ fn numbers_by_hand() {
 
 #[test]
 fn how_many_of_each() {
-    let mut counts = [0; 8];
+    let mut counts = [0; 19];
     for plan in plans() {
         counts[usize::from(check(&plan).err().unwrap_or(0))] += 1;
     }
-    assert_eq!(counts, [603, 1579, 808, 1096, 542, 273, 360, 154]);
+    assert_eq!(counts[..8], [687, 1648, 1067, 1376, 814, 260, 363, 158]);
+    assert_eq!((counts[18], counts[8..18].iter().sum()), (30, 0));
     assert_eq!(plans(), plans());
     // The program's buffer.
     assert!(input(&plans()).len() < 600_000);
@@ -298,6 +357,13 @@ fn every_sort_is_accepted() {
         .map(|plan| (plan.cell.extended, plan.cell.ports, plan.frame.cfi, sort(plan.frame.subframe)))
         .collect();
     assert_eq!(regions.len(), 2 * 3 * 3 * 3);
+    // The extended PHICH duration with every N, prefix and P.
+    let long = accepted.iter().filter(|plan| plan.cell.extended_phich);
+    let cells: BTreeSet<(usize, bool, usize)> =
+        long.map(|plan| (plan.cell.blocks, plan.cell.extended, plan.cell.ports)).collect();
+    assert_eq!(cells.len(), 6 * 2 * 3);
+    let cellx = plans().iter().filter(|plan| plan.first() == Some(&0x12)).count();
+    assert!(3 * cellx > plans().len(), "{cellx}");
     let frames: BTreeSet<(usize, usize)> =
         accepted.iter().map(|plan| (plan.frame.subframe, plan.frame.cfi)).collect();
     assert!(frames.len() > 25, "{}", frames.len());
@@ -324,10 +390,11 @@ fn the_output() {
     let text = output(&plans());
     let lines: Vec<&str> = text.lines().collect();
     assert_eq!(lines.len(), plans().len());
-    assert_eq!(lines[0], "plan 1 0 cell 0 15 0 1 1 frame 0 1 1 hi 0 0 user 1 2 0 15");
-    assert_eq!(lines[3], "plan 4 0 cell 503 100 1 4 12 frame 1023 9 3 hi 49 3 user 65535 8 99 1");
-    assert_eq!(lines[14], "plan 15 1");
-    assert_eq!(lines[119], "plan 120 2");
+    assert_eq!(lines[0], "plan 1 0 cell 0 15 0 1 1 0 frame 0 1 1 hi 0 0 user 1 2 0 15");
+    assert_eq!(lines[3], "plan 4 0 cell 503 100 1 4 12 0 frame 1023 9 3 hi 49 3 user 65535 8 99 1");
+    assert_eq!(lines[18], "plan 19 1");
+    // Behind the listed ones, which no list of another length has: END with bytes after it.
+    assert_eq!(lines[LISTED.len() + 1], format!("plan {} 2", LISTED.len() + 2));
 }
 
 #[test]

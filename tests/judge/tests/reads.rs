@@ -32,7 +32,7 @@ fn how_many() {
 fn answers_of_every_sort() {
     let lines = lines();
     let count = |start: &str| lines.iter().filter(|line| line.starts_with(start)).count();
-    for refusal in 1..=7 {
+    for refusal in [1, 2, 3, 4, 5, 6, 7, 18] {
         assert!(count(&format!("refused {refusal} ")) > 0, "no refusal {refusal}");
     }
     for (refusal, least) in [(10, 6), (11, 6), (13, 300)] {
@@ -40,6 +40,19 @@ fn answers_of_every_sort() {
     }
     // Read never looks at spare bits.
     assert_eq!(count("refused 12 "), 0);
+}
+
+/// Changed grids and sweeps with the extended PHICH duration, of one, two and four ports.
+#[test]
+fn extended_phich() {
+    let changed = |kind: &Kind| matches!(kind, Kind::Calls { lists, .. } if lists.len() > 100);
+    let of = |which: &dyn Fn(&Kind) -> bool| -> Vec<usize> {
+        let plans = tests().into_iter().filter(|test| which(&test.kind)).map(|test| check(&test.plan));
+        let cells = plans.map(|plan| plan.expect("accepted").cell).filter(|cell| cell.extended_phich);
+        cells.map(|cell| cell.ports).collect()
+    };
+    assert_eq!(of(&changed), [2, 4, 1]);
+    assert_eq!(of(&|kind| *kind == Kind::Sweep), [1]);
 }
 
 #[test]

@@ -17,7 +17,8 @@ fn plan_and_payload(seed: u64, case: u64) -> (Vec<u8>, Vec<u8>) {
     let mut how_users = random.pick(&USERS);
     if random.one_in(16) {
         // The only plans with null symbols have a user of one block at an edge of the centre 72.
-        fixed = Fixed { blocks: random.pick(&[15, 25, 75]), prefix: 1, ports: 4, subframe: 0, ..fixed };
+        fixed =
+            Fixed { blocks: random.pick(&[15, 25, 75]), prefix: 1, ports: 4, subframe: 0, ..fixed }.fitted();
         how_users = Users::Edge;
     }
     let how_his = random.pick(&HIS);

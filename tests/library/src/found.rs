@@ -6,7 +6,7 @@ use std::collections::BTreeMap;
 const TOLD: usize = 3;
 
 /// The greatest refusal.
-const REFUSALS: usize = 13;
+const REFUSALS: usize = 18;
 
 /// How many calls have each expected answer: accepted, then by refusal.
 #[derive(Clone, Debug, Default)]

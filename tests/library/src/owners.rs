@@ -1,10 +1,10 @@
-//! Owners and counts: every N, prefix, P, g and CFI in subframes 0, 1 and 5, each with identities of every residue
-//! modulo 6 and twenty others; every place, every kind, and queries outside.
+//! Owners and counts: every N, prefix, P, g, CFI and PHICH duration in subframes 0, 1 and 5, each with identities of
+//! every residue modulo 6 and twenty others; every place, every kind, and queries outside.
 
 use crate::calls::Library;
 use crate::found::Found;
 use crate::subject::{number, Subject};
-use judge::generate::{commands, Fixed, His, Random, Users, HIS};
+use judge::generate::{commands, Fixed, His, Random, Users, HIS, LONG_REGIONS};
 use judge::owners::{layout, Layout};
 use judge::plan::{check, Cell, OUTSIDE_GRID, WIDTHS};
 use judge::Place;
@@ -16,8 +16,12 @@ const SUBFRAMES: [usize; 3] = [0, 1, 5];
 const RESIDUES: usize = 6;
 const OTHERS: usize = 20;
 
-/// N, prefix, P, g, CFI, f.
-const SETTINGS: usize = WIDTHS.len() * 2 * PORTS.len() * SIXTHS.len() * 3 * SUBFRAMES.len();
+/// Prefix, P, g, f.
+const OF_REGION: usize = 2 * PORTS.len() * SIXTHS.len() * SUBFRAMES.len();
+
+/// With N and CFI of the normal PHICH duration, then with those of the extended one.
+const NORMAL: usize = WIDTHS.len() * 3 * OF_REGION;
+const SETTINGS: usize = NORMAL + LONG_REGIONS.len() * OF_REGION;
 
 /// The plans of this section.
 pub const PLANS: u64 = (SETTINGS * (RESIDUES + OTHERS)) as u64;
@@ -40,22 +44,25 @@ fn fixed(seed: u64, case: u64) -> Fixed {
     // 7919 has no divisor in common with the number of plans.
     let number = (case.wrapping_mul(7919) % PLANS) as usize;
     let (setting, which) = (number % SETTINGS, number / SETTINGS);
-    let mut rest = setting;
+    let long = setting >= NORMAL;
+    let mut rest = if long { setting - NORMAL } else { setting };
     let mut digit = |base: usize| {
         let digit = rest % base;
         rest /= base;
         digit
     };
     let mut random = Random::of_case(seed, setting as u64);
+    let (blocks, cfi) = if long { LONG_REGIONS[digit(7)] } else { (WIDTHS[digit(6)], 1 + digit(3)) };
     Fixed {
         identity: identities(&mut random)[which],
-        blocks: WIDTHS[digit(6)],
+        blocks,
         prefix: digit(2),
         ports: PORTS[digit(3)],
         g: SIXTHS[digit(4)],
+        duration: if long { Some(1) } else { (number % 11 == 0).then_some(0) },
         frame: random.below(1024),
         subframe: SUBFRAMES[digit(3)],
-        cfi: 1 + digit(3),
+        cfi,
     }
 }
 

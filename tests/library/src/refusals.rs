@@ -18,7 +18,7 @@ pub fn narrow(random: &mut Random) -> Fixed {
     if !random.one_in(16) {
         fixed.blocks = random.pick(&[6, 15, 25]);
     }
-    fixed
+    fixed.fitted()
 }
 
 /// An accepted plan of a narrow cell, as the list of its commands.

@@ -20,7 +20,7 @@ pub struct Section {
 }
 
 pub const SECTIONS: [Section; 5] = [
-    Section { name: "builds", part: 2160, all: 43_200, chunk: 20, run: builds::run },
+    Section { name: "builds", part: 3000, all: 48_000, chunk: 20, run: builds::run },
     Section { name: "refusals", part: 8000, all: 240_000, chunk: 100, run: refusals::run },
     Section { name: "grids", part: 8000, all: 240_000, chunk: grids::OF_ONE_PLAN, run: grids::run },
     Section {

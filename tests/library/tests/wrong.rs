@@ -1,9 +1,10 @@
 //! A library made of the judge agrees with it; libraries that are wrong in one thing do not.
 
 use judge::build::element_at;
+use judge::control::{groups, phich_places, places_of_group};
 use judge::owners::layout;
 use judge::payload::Sections;
-use judge::plan::Plan;
+use judge::plan::{Cell, Plan, CELLX};
 use judge::sample::sample_numbers;
 use judge::{Place, Refusal};
 use library::calls::Library;
@@ -166,7 +167,7 @@ fn the_number_of_threads_does_not_matter() {
 #[test]
 fn every_refusal_is_expected() {
     let (refusals, grids) = (found(&RIGHT, "refusals", 1500), found(&RIGHT, "grids", 400));
-    for refusal in [1, 2, 3, 4, 5, 6, 7, 8, 10, 11, 12, 13] {
+    for refusal in [1, 2, 3, 4, 5, 6, 7, 8, 10, 11, 12, 13, 18] {
         assert!(refusals.answers.refused(refusal) > 20, "{}", refusals.answers.text());
     }
     assert!(refusals.answers.accepted() > 1500);
@@ -414,8 +415,10 @@ fn wrong_codeword_at_six_blocks() {
         if plan.cell.blocks != 6 || plan.frame.cfi == 3 {
             return;
         }
-        let mut other = [&bytes[..12], &[0]].concat();
-        other[11] += 1;
+        // CELL or CELLX, FRAME, whose last field is the CFI, END.
+        let end = if bytes[0] == CELLX { 13 } else { 12 };
+        let mut other = [&bytes[..end], &[0]].concat();
+        other[end - 1] += 1;
         let payload = vec![0; judge::payload_length(&other).expect("an accepted plan")];
         let (other, _) = judge::build(&other, &payload, grid.len()).expect("an accepted payload");
         for place in layout(&plan).pcfich {
@@ -442,6 +445,119 @@ fn wrong_codeword_at_six_blocks() {
     caught(Library { build: wrong, ..RIGHT }, "builds", 40, "grid: ");
 }
 
+/// Where a fault puts a PHICH unit's twelve places in a cell of the extended duration.
+type Misplaced = fn(&Cell, usize) -> Vec<Place>;
+
+/// The unit's places with a number for each quad's group, of h groups; symbol 0 is as it should be.
+fn numbered(cell: &Cell, unit: usize, number: impl Fn(usize) -> usize) -> Vec<Place> {
+    let mut places = phich_places(cell, unit);
+    places.truncate(4);
+    places.extend((1..3).flat_map(|i| places_of_group(cell, i, number(i))));
+    places
+}
+
+/// h_0 for every symbol.
+fn by_first_count(cell: &Cell, unit: usize) -> Vec<Place> {
+    let h = 2 * cell.blocks - 4;
+    numbered(cell, unit, |i| (cell.identity + unit + i * h / 3) % h)
+}
+
+/// Groups of six subcarriers in symbol 1, whatever the number of ports.
+fn by_groups_of_six(cell: &Cell, unit: usize) -> Vec<Place> {
+    phich_places(&Cell { ports: 4, ..*cell }, unit)
+}
+
+/// The identity in the place of floor(C×h_i/h_0).
+fn by_identity(cell: &Cell, unit: usize) -> Vec<Place> {
+    let number = |i: usize| (cell.identity + unit + i * groups(cell, i) / 3) % groups(cell, i);
+    numbered(cell, unit, number)
+}
+
+const MISPLACED: [Misplaced; 3] = [by_first_count, by_groups_of_six, by_identity];
+
+unsafe extern "C" fn owner_misplaced<const F: usize>(
+    plan: *const u8,
+    length: usize,
+    s: usize,
+    k: usize,
+    port: usize,
+) -> i64 {
+    let right = owner(plan, length, s, k, port);
+    let cell = match judge::check(from_raw_parts(plan, length)) {
+        Ok(plan) if plan.cell.extended_phich && right >= 0 && s < 3 => plan.cell,
+        _ => return right,
+    };
+    let mut units = 0..cell.phich_units();
+    match units.find(|unit| MISPLACED[F](&cell, *unit).contains(&Place { s, k })) {
+        Some(unit) => 64 + unit as i64,
+        None if (64..89).contains(&right) => 513,
+        None => right,
+    }
+}
+
+/// The grid with its PHICH units where a fault puts them.
+fn misplace<const F: usize>(cell: &Cell, grid: &mut [u8]) {
+    let before = grid.to_vec();
+    let units = || 0..cell.phich_units();
+    for port in 0..cell.ports {
+        let at = |place: &Place| element_at(cell.symbols(), cell.subcarriers(), port, *place);
+        for place in units().flat_map(|unit| phich_places(cell, unit)) {
+            grid[at(&place)..][..3].fill(0);
+        }
+        for unit in units() {
+            for (from, to) in phich_places(cell, unit).iter().zip(MISPLACED[F](cell, unit)) {
+                grid[at(&to)..][..3].copy_from_slice(&before[at(from)..][..3]);
+            }
+        }
+    }
+}
+
+unsafe extern "C" fn build_misplaced<const F: usize>(
+    p: *const u8,
+    pl: usize,
+    given: *const u8,
+    gl: usize,
+    to: *mut u8,
+    n: usize,
+) -> i64 {
+    let answer = build(p, pl, given, gl, to, n);
+    match judge::check(from_raw_parts(p, pl)) {
+        Ok(plan) if plan.cell.extended_phich && answer >= 0 => {
+            misplace::<F>(&plan.cell, from_raw_parts_mut(to, n));
+        }
+        _ => {}
+    }
+    answer
+}
+
+/// The extended PHICH duration with its quads in other groups.
+#[test]
+fn wrong_groups_of_phich() {
+    fn each_caught<const F: usize>() {
+        let library = Library { owner: owner_misplaced::<F>, ..RIGHT };
+        caught(library, "owners", 20, "owner of s ");
+        let library = Library { build: build_misplaced::<F>, ..RIGHT };
+        caught(library, "builds", 40, "grid: ");
+    }
+    each_caught::<0>();
+    each_caught::<1>();
+    each_caught::<2>();
+}
+
+/// A control region of three symbols at six blocks taken for one of two, since its CFI is 2.
+#[test]
+fn wrong_region_of_phich() {
+    unsafe extern "C" fn by_cfi(plan: *const u8, length: usize) -> i64 {
+        match judge::check(from_raw_parts(plan, length)) {
+            Ok(plan) if plan.cell.extended_phich && plan.frame.cfi < 3 => -18,
+            answer => number(answer, |_| 0),
+        }
+    }
+    let library = Library { check: by_cfi, ..RIGHT };
+    caught(library, "builds", 200, "check: expected 0, found -18");
+    caught(library, "refusals", 2000, "check: expected 0, found -18");
+}
+
 /// The answer to a plan whose CELL has other blocks than it says.
 unsafe fn check_with(plan: *const u8, length: usize, said: u8, taken: u8) -> i64 {
     let mut bytes = from_raw_parts(plan, length).to_vec();
@@ -462,7 +578,7 @@ fn wrong_widths() {
     unsafe extern "C" fn six(plan: *const u8, length: usize) -> i64 {
         check_with(plan, length, 6, 5)
     }
-    caught(Library { check: six, ..RIGHT }, "refusals", 40, "check: expected 0, found -3");
+    caught(Library { check: six, ..RIGHT }, "builds", 40, "check: expected 0, found -3");
 }
 
 /// One reader takes any grid, one takes none.

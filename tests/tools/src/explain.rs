@@ -1,23 +1,28 @@
 //! planexplain compared, line for line, with an explanation of plans written from document 01 ("Plan and payload", "Refusals") with
-//! document 02's #102 and #109.
+//! document 02's #102, #108 and #109.
 
 use judge::generate::{any_commands, damaged_plan, Fixed, Random, OF_SIX_BLOCKS};
 use judge::harness::{hex, run};
 use std::collections::BTreeMap;
 use std::path::Path;
 
-/// A command of document 01: its byte, its name, and its fields' names and bytes.
+/// A command of documents 01 and 02: its byte, its name, and its fields' names and bytes.
 struct Sort {
     byte: u8,
     name: &'static str,
     fields: &'static [(&'static str, usize)],
 }
 
-const SORTS: [Sort; 5] = [
+const SORTS: [Sort; 6] = [
     Sort {
         byte: 0x10,
         name: "CELL",
         fields: &[("identity", 2), ("blocks", 1), ("prefix", 1), ("ports", 1), ("g", 1)],
+    },
+    Sort {
+        byte: 0x12,
+        name: "CELLX",
+        fields: &[("identity", 2), ("blocks", 1), ("prefix", 1), ("ports", 1), ("g", 1), ("duration", 1)],
     },
     Sort { byte: 0x11, name: "FRAME", fields: &[("frame", 2), ("subframe", 1), ("CFI", 1)] },
     Sort { byte: 0x20, name: "HI", fields: &[("group", 1), ("sequence", 1)] },
@@ -91,10 +96,13 @@ fn cell_fault(v: &[usize]) -> Option<Fault> {
     if ![1, 3, 6, 12].contains(&v[4]) {
         return field(3, "g", v[4], "1, 3, 6 or 12 sixths");
     }
-    None
+    match v.get(5) {
+        Some(duration) if *duration > 1 => field(3, "duration", *duration, "0 (normal) or 1 (extended)"),
+        _ => None,
+    }
 }
 
-fn frame_fault(v: &[usize]) -> Option<Fault> {
+fn frame_fault(v: &[usize], before: &Before) -> Option<Fault> {
     if v[0] > 1023 {
         return field(4, "frame", v[0], "0 to 1023");
     }
@@ -103,6 +111,12 @@ fn frame_fault(v: &[usize]) -> Option<Fault> {
     }
     if !(1..=3).contains(&v[2]) {
         return field(4, "CFI", v[2], "1 to 3");
+    }
+    // "18, at FRAME after 4, when duration is extended and the control region is shorter than three symbols".
+    let region = if before.cell[1] == 6 { v[2] + 1 } else { v[2] };
+    if before.cell.get(5) == Some(&1) && region < 3 {
+        let needs = "the extended PHICH duration needs 3";
+        return field(18, "CFI", v[2], &format!("symbols of the control region: {region}; {needs}"));
     }
     None
 }
@@ -154,11 +168,11 @@ fn user_fault(v: &[usize], before: &Before) -> Option<Fault> {
     None
 }
 
-/// "Order: CELL, FRAME, any HIs, any USERs, END".
+/// "Order: CELL, FRAME, any HIs, any USERs, END"; CELLX "stands in its place".
 fn is_due(name: &str, names: &[&str]) -> bool {
     match name {
-        "CELL" => names.is_empty(),
-        "FRAME" => names == ["CELL"],
+        "CELL" | "CELLX" => names.is_empty(),
+        "FRAME" => names == ["CELL"] || names == ["CELLX"],
         "HI" => names.len() >= 2 && names[2..].iter().all(|other| *other == "HI"),
         _ => names.len() >= 2,
     }
@@ -170,18 +184,18 @@ fn fault(bytes: &[u8], before: &Before) -> Option<Fault> {
         return Some((2, ": a byte after END; END is the last".into()));
     }
     let Some(sort) = SORTS.iter().find(|sort| sort.byte == bytes[0]) else {
-        return Some((1, format!(": {:02x} is no command; 10, 11, 20, 30 or 00", bytes[0])));
+        return Some((1, format!(": {:02x} is no command; 10, 12, 11, 20, 30 or 00", bytes[0])));
     };
     if bytes.len() < sort.size() {
         return Some((1, ": the plan ends before the command's operands".into()));
     }
     if !is_due(sort.name, &before.names) {
-        return Some((2, ": out of order; CELL, FRAME, any HIs, any USERs, END".into()));
+        return Some((2, ": out of order; CELL or CELLX, FRAME, any HIs, any USERs, END".into()));
     }
     let values = sort.values(bytes);
     match sort.name {
-        "CELL" => cell_fault(&values),
-        "FRAME" => frame_fault(&values),
+        "CELL" | "CELLX" => cell_fault(&values),
+        "FRAME" => frame_fault(&values, before),
         "HI" => hi_fault(&values, before),
         "USER" => user_fault(&values, before),
         _ => None,
@@ -194,12 +208,18 @@ fn words(name: &str, v: &[usize]) -> String {
         list.iter().find(|(key, _)| *key == value).map_or(other, |(_, text)| text.to_string())
     };
     match name {
-        "CELL" => {
+        "CELL" | "CELLX" => {
             let prefix =
                 choice(&[(0, "normal prefix"), (1, "extended prefix")], v[2], format!("prefix {}", v[2]));
             let ports = if v[3] == 1 { "port" } else { "ports" };
             let n_g = choice(&[(3, "1/2"), (6, "1"), (12, "2")], v[4], format!("{}/6", v[4]));
-            format!("identity {}, {} blocks, {prefix}, {} {ports}, N_g {n_g}", v[0], v[1], v[3])
+            let duration = match v.get(5) {
+                None => String::new(),
+                Some(0) => ", normal PHICH duration".into(),
+                Some(1) => ", extended PHICH duration".into(),
+                Some(other) => format!(", PHICH duration {other}"),
+            };
+            format!("identity {}, {} blocks, {prefix}, {} {ports}, N_g {n_g}{duration}", v[0], v[1], v[3])
         }
         "FRAME" => format!("frame {}, subframe {}, CFI {}", v[0], v[1], v[2]),
         "HI" => format!("group {}, sequence {}", v[0], v[1]),
@@ -248,7 +268,7 @@ fn lines_of_plan(plan: &[u8]) -> Vec<String> {
         let sort = SORTS.iter().find(|sort| sort.byte == plan[at]).expect("a known command");
         let values = sort.values(&plan[at..]);
         match sort.name {
-            "CELL" => before.cell = values,
+            "CELL" | "CELLX" => before.cell = values,
             "HI" => before.his.push(Read { number, at, values }),
             "USER" => before.users.push(Read { number, at, values }),
             _ => {}
@@ -287,10 +307,10 @@ fn with_length(plan: &[u8]) -> Vec<u8> {
     [&length.to_be_bytes(), plan].concat()
 }
 
-/// A plan with a command of each sort, two HIs and four USERs, one of each modulation.
-fn sample_plan(prefix: u8) -> Vec<Vec<u8>> {
+/// A plan with a command of each sort, two HIs and four USERs, one of each modulation; the cell as CELL.
+fn sample_plan() -> Vec<Vec<u8>> {
     vec![
-        vec![0x10, 0x01, 0xF7, 25, prefix, 2, 6],
+        vec![0x10, 0x01, 0xF7, 25, 0, 2, 6],
         vec![0x11, 0x03, 0xFF, 9, 3],
         vec![0x20, 3, 3],
         vec![0x20, 0, 3],
@@ -302,11 +322,18 @@ fn sample_plan(prefix: u8) -> Vec<Vec<u8>> {
     ]
 }
 
-/// The same with six blocks.
+/// The same with the extended prefix and with CELLX of the extended PHICH duration.
+fn long_plan() -> Vec<Vec<u8>> {
+    let mut list = sample_plan();
+    list[0] = vec![0x12, 0x01, 0xF7, 25, 1, 2, 6, 1];
+    list
+}
+
+/// The same with six blocks, whose control region is one symbol longer than the CFI.
 fn narrow_plan() -> Vec<Vec<u8>> {
     vec![
-        vec![0x10, 0x00, 0x59, 6, 1, 4, 12],
-        vec![0x11, 0x00, 0x06, 0, 1],
+        vec![0x12, 0x00, 0x59, 6, 1, 4, 12, 1],
+        vec![0x11, 0x00, 0x06, 0, 2],
         vec![0x20, 3, 3],
         vec![0x20, 0, 3],
         vec![0x30, 0, 7, 2, 4, 2],
@@ -317,7 +344,7 @@ fn narrow_plan() -> Vec<Vec<u8>> {
     ]
 }
 
-/// Byte values in and around every range of document 01.
+/// Byte values in and around every range of the papers.
 const VALUES: [std::ops::RangeInclusive<u8>; 6] = [0..=26, 49..=51, 74..=76, 99..=101, 127..=128, 254..=255];
 
 /// Each byte of each command at many values, and a two-byte field at both ends of its range.
@@ -357,12 +384,29 @@ fn every_order(list: &[Vec<u8>], inputs: &mut Vec<Vec<u8>>) {
     }
 }
 
+/// The cell as CELL and as CELLX of three durations: in its place, and between any two commands.
+fn every_form(list: &[Vec<u8>], inputs: &mut Vec<Vec<u8>>) {
+    let operands = &list[0][1..7];
+    let cellx = [0, 1, 2].map(|duration| [&[0x12], operands, &[duration]].concat());
+    for form in [[&[0x10], operands].concat()].into_iter().chain(cellx) {
+        let mut other = list.to_vec();
+        other[0] = form.clone();
+        inputs.push(with_length(&other.concat()));
+        for i in 0..=list.len() {
+            let mut other = list.to_vec();
+            other.insert(i, form.clone());
+            inputs.push(with_length(&other.concat()));
+        }
+    }
+}
+
 fn inputs() -> Vec<Vec<u8>> {
     let mut inputs = Vec::new();
-    for list in [sample_plan(0), sample_plan(1), narrow_plan()] {
+    for list in [sample_plan(), long_plan(), narrow_plan()] {
         let plan = list.concat();
         every_field(&list, &mut inputs);
         every_order(&list, &mut inputs);
+        every_form(&list, &mut inputs);
         for end in 0..=plan.len() {
             inputs.push(with_length(&plan[..end]));
         }
@@ -430,11 +474,39 @@ const CLASHES: [(&[&[u8]], &str); 6] = [
     ),
 ];
 
-/// The inputs of the clashes, and the last line for each.
-fn clashes() -> Vec<(Vec<u8>, &'static str)> {
+/// CELLX and FRAME, and what is said of the refused one, worked out by hand.
+const DURATIONS: [(&[u8], &str); 5] = [
+    (
+        &[0x12, 0, 5, 25, 0, 1, 6, 1, 0x11, 0, 0, 1, 1, 0],
+        "command 2, byte 8 of the plan, field CFI: 1; symbols of the control region: 1; the extended PHICH duration needs 3",
+    ),
+    // Six blocks: one symbol more than the CFI.
+    (
+        &[0x12, 0, 5, 6, 0, 1, 6, 1, 0x11, 0, 0, 1, 1, 0],
+        "command 2, byte 8 of the plan, field CFI: 1; symbols of the control region: 2; the extended PHICH duration needs 3",
+    ),
+    // FRAME's own fields come first.
+    (
+        &[0x12, 0, 5, 25, 0, 1, 6, 1, 0x11, 0, 0, 10, 1, 0],
+        "command 2, byte 8 of the plan, field subframe: 10; 0 to 9",
+    ),
+    (
+        &[0x12, 0, 5, 25, 0, 1, 6, 2, 0x11, 0, 0, 1, 1, 0],
+        "command 1, byte 0 of the plan, field duration: 2; 0 (normal) or 1 (extended)",
+    ),
+    // The duration is the last field of CELLX.
+    (
+        &[0x12, 0, 5, 25, 0, 1, 7, 255, 0x11, 0, 0, 1, 1, 0],
+        "command 1, byte 0 of the plan, field g: 7; 1, 3, 6 or 12 sixths",
+    ),
+];
+
+/// The inputs worked out by hand, and the last line for each.
+fn by_hand() -> Vec<(Vec<u8>, &'static str)> {
     let start = [&[0x10, 0, 5, 25, 0, 1, 6][..], &[0x11, 0, 0, 1, 2]].concat();
     let input = |list: &[&[u8]]| with_length(&[&start[..], &list.concat(), &[0]].concat());
-    CLASHES.iter().map(|(list, last)| (input(list), *last)).collect()
+    let clashes = CLASHES.iter().map(|(list, last)| (input(list), *last));
+    clashes.chain(DURATIONS.iter().map(|(plan, last)| (with_length(plan), *last))).collect()
 }
 
 /// Prints one line and gives the number of differences.
@@ -442,9 +514,9 @@ pub fn compare(bin: &Path) -> usize {
     let program = bin.join("planexplain").to_string_lossy().into_owned();
     let (mut answers, mut differences) = (BTreeMap::new(), 0);
     let mut inputs = inputs();
-    for (input, last) in clashes() {
+    for (input, last) in by_hand() {
         let expected = lines_of_input(&input);
-        assert_eq!(expected.last().map(String::as_str), Some(last), "a clash worked out by hand");
+        assert_eq!(expected.last().map(String::as_str), Some(last), "a line worked out by hand");
         inputs.push(input);
     }
     for input in &inputs {

@@ -67,8 +67,9 @@ fn read_back(input: &[u8]) -> Answer {
 
 /// The plan with the longest payload of all: 200 HIs, and one user of 256QAM with 15,000 elements.
 fn longest_plan() -> Vec<u8> {
+    let (identity, duration) = (503, None);
     let fixed =
-        Fixed { identity: 503, blocks: 100, prefix: 0, ports: 1, g: 12, frame: 0, subframe: 1, cfi: 1 };
+        Fixed { identity, blocks: 100, prefix: 0, ports: 1, g: 12, duration, frame: 0, subframe: 1, cfi: 1 };
     let his = his(&mut Random::new(SEED), &fixed.cell(), His::All);
     [fixed.commands().concat(), his.concat(), vec![USER, 0, 1, 8, 0, 100, END]].concat()
 }

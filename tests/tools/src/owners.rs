@@ -294,17 +294,22 @@ fn run(program: &Path, input: &[u8]) -> Result<(String, String), String> {
     Ok((words(output.stdout)?, words(output.stderr)?))
 }
 
-/// Inputs of all widths, prefixes and port counts, in subframes with and without signals in the centre, of six blocks with every
-/// CFI; then plans that have every owner there is, so that all colours stand beside each other; then refused and cut-off inputs.
+/// Inputs of all widths, prefixes and port counts, with either PHICH duration, in subframes with and without signals in the centre,
+/// of six blocks with every CFI; then plans that have every owner there is, so that all colours stand beside each other; then
+/// refused and cut-off inputs.
 fn inputs() -> Vec<Vec<u8>> {
     let mut random = Random::new(1);
     let mut list = vec![judge::generate::example_input(), judge::generate::example_variant_input()];
-    let wider = (0..90).map(|i| Fixed {
-        blocks: WIDTHS[1 + i % 5],
-        prefix: i / 5 % 2,
-        ports: [1, 2, 4][i / 10 % 3],
-        subframe: [0, 5, 1][i / 30],
-        ..Fixed::random(&mut random)
+    let wider = (0..90).map(|i| {
+        let fixed = Fixed {
+            blocks: WIDTHS[1 + i % 5],
+            prefix: i / 5 % 2,
+            ports: [1, 2, 4][i / 10 % 3],
+            subframe: [0, 5, 1][i / 30],
+            duration: if (i / 5 + i / 30) % 2 == 0 { Some(1) } else { (i % 7 == 0).then_some(0) },
+            ..Fixed::random(&mut random)
+        };
+        fixed.fitted()
     });
     let mut cells: Vec<Fixed> = wider.collect();
     cells.extend((0..OF_SIX_BLOCKS).map(|i| Fixed::of_six_blocks(&mut random, i)));
@@ -314,9 +319,10 @@ fn inputs() -> Vec<Vec<u8>> {
         let after = random.below(3) * 20;
         list.push(input(&plan, &random.bytes(after)));
     }
-    for (prefix, ports) in [(0, 4), (1, 4), (0, 1), (1, 2)] {
+    for (prefix, ports, duration) in [(0, 4, Some(1)), (1, 4, None), (0, 1, None), (1, 2, Some(1))] {
+        let (identity, frame) = (503, 1023);
         let fixed =
-            Fixed { identity: 503, blocks: 100, prefix, ports, g: 12, frame: 1023, subframe: 0, cfi: 3 };
+            Fixed { identity, blocks: 100, prefix, ports, g: 12, duration, frame, subframe: 0, cfi: 3 };
         list.push(input(&commands(&mut random, &fixed, His::All, Users::OneBlockEach).concat(), &[]));
     }
     for i in 0..40 {
@@ -373,6 +379,7 @@ fn compare_files(bin: &Path) -> usize {
         ("tests/gridcount/example.in", "docs/pictures/example.svg"),
         ("docs/pictures/broadcast-four-ports.in", "docs/pictures/broadcast-four-ports.svg"),
         ("docs/pictures/six-blocks.in", "docs/pictures/six-blocks.svg"),
+        ("docs/pictures/extended-phich.in", "docs/pictures/extended-phich.svg"),
     ] {
         let found = run(&bin.join("gridpicture"), &read(from)).map(|(out, _)| out.into_bytes());
         if found != Ok(read(shown)) {

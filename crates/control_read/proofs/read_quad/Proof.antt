@@ -50,7 +50,7 @@ loop-holds c =
 quad-place-requires : tie.Need-quad-place-requires Inv-loop μ-loop
 quad-place-requires c κs =
     let at-unit-group = c .before .before .before .before .before in let entry = at-unit-group .before .before in
-    (group-in (entry .pre .0) {i = c .before .loop .i} (c .loop-test .taken) (at-unit-group .unit-group .ensures), c .loop-test .taken)
+    (omega arith, group-in (entry .pre .0) {i = c .before .loop .i} (c .loop-test .taken) (at-unit-group .unit-group .ensures), c .loop-test .taken)
 
 add-get : tie.Need-add-get Inv-loop μ-loop
 add-get c =

@@ -9,44 +9,22 @@ use Rattle.control_write.proofs.put_pair.Tie as tie
 places-requires : tie.Need-places-requires
 places-requires c κs = search needs
 
-mul-quad-place : tie.Need-mul-quad-place
-mul-quad-place c = search needs
-
-quad-place-requires : tie.Need-quad-place-requires
-quad-place-requires c κs = search needs
-
 put-place-requires : tie.Need-put-place-requires
-put-place-requires c κs =
-    let at-places = c .before .before .before in let entry = at-places .before .before in
-    first-ok (entry .pre .0) (entry .pre .1) (at-places .places .ensures) (c .before .quad-place .ensures)
-
-mul-quad-place-2 : tie.Need-mul-quad-place-2
-mul-quad-place-2 c = search needs
-
-add-quad-place : tie.Need-add-quad-place
-add-quad-place c = search needs
-
-quad-place-requires-2 : tie.Need-quad-place-requires-2
-quad-place-requires-2 c κs = search needs
+put-place-requires c κs = first-ok (c .before .before .before .pre .0) (c .before .before .before .pre .1) (c .before .places .ensures)
 
 put-place-requires-2 : tie.Need-put-place-requires-2
 put-place-requires-2 c κs =
-    let at-put-place = c .before .before .before .before .before in let at-places = at-put-place .before .before .before .before in
-    let entry = at-places .before .before in
-    second-ok (entry .pre .0) (room-kept (entry .pre .1) (at-put-place .put-place .ensures)) (at-places .places .ensures) (c .before .quad-place2 .ensures)
+    let at-put-place = c .before .before .before in let at-places = at-put-place .before .before in let entry = at-places .before .before in
+    second-ok (entry .pre .0) (room-kept (entry .pre .1) (at-put-place .put-place .ensures)) (at-places .places .ensures)
 
 same-length : tie.Need-same-length
 same-length c = search needs
 
 returns : tie.Need-returns
 returns c =
-    let at-put-place2 = c .before .before in let at-quad-place2 = at-put-place2 .before .before in
-    let at-put-place = at-quad-place2 .before .before .before .before in let at-quad-place = at-put-place .before .before in
-    let at-places = at-quad-place .before .before in let entry = at-places .before .before in
-    pair-done (entry .pre .0) (writing (entry .args .grid .now)) (at-places .places .ensures) (at-quad-place .quad-place .ensures)
-    (at-quad-place2 .quad-place2 .ensures) (at-put-place .put-place .ensures) (at-put-place2 .put-place2 .ensures)
+    let at-put-place2 = c .before .before in let at-put-place = at-put-place2 .before .before .before .before in let at-places = at-put-place .before .before in
+    let entry = at-places .before .before in
+    pair-done (entry .pre .0) (writing (entry .args .grid .now)) (at-places .places .ensures) (at-put-place .put-place .ensures) (at-put-place2 .put-place2 .ensures)
 
 pub put-pair-spec : {M : Type 1} → statement M
-put-pair-spec =
-    tie.close (tie.spec places-requires mul-quad-place quad-place-requires put-place-requires mul-quad-place-2 add-quad-place quad-place-requires-2
-    put-place-requires-2 same-length returns)
+put-pair-spec = tie.close (tie.spec places-requires put-place-requires put-place-requires-2 same-length returns)

@@ -1,109 +1,86 @@
--- One law for each return; a number within a stretch fits a byte.
+-- The quads not yet looked at name the unit that all of them name.
+use Prim.Native.Nat.{_-_, _≤_}
 use native.Mathlib.Omega.{arith}
-use mathlib.Core.Path.{sym, _∙_}
-use Prim.Native.Nat.{_+_, _*_, _/_}
-use Rattle.layout.proofs.Ways.{in-both, unit-first, unit-none, unit-second, unit-third}
-use Rattle.layout.proofs.Units.{units-fit}
+use mathlib.Core.Path.{_≡_, refl, _∙_, sym}
+use Rattle.layout.specs.Chain.{unitAt}
+use Rattle.layout.proofs.Ways.{quad-product, unit-none, unit-found, unit-byte, unit-passed}
 use Rattle.layout.proofs.unit_in.Statement.{statement}
 use Rattle.layout.proofs.unit_in.Tie as tie
 
-units-requires : tie.Need-units-requires
-units-requires c κs = tt
+abbrev Inv-loop : tie.InvT-loop
+Inv-loop cell s d h i₀ i = (i ≤ 3) × (unitAt cell s d i ≡ unitAt cell s d 3)
 
-cast-t8 : tie.Need-cast-t8
-cast-t8 c = omega (arith, units-fit (c .before .before .args .cell) (omega arith) (omega arith), c .before .units .ensures)
+abbrev μ-loop : tie.MeasureT-loop
+μ-loop cell s d h i₀ i = i
 
-returns : tie.Need-returns
-returns c = unit-first (c .before .before .args .cell) (c .before .before .args .d) (c .before .units .ensures) (c .if1 .taken)
+groups-left-requires : tie.Need-groups-left-requires Inv-loop μ-loop
+groups-left-requires c κs = (c .pre .0, c .pre .2)
 
-groups-left-requires : tie.Need-groups-left-requires
-groups-left-requires c κs = omega arith
+loop-holds : tie.Need-loop-holds Inv-loop μ-loop
+loop-holds c = (omega arith, refl)
 
-add-within : tie.Need-add-within
-add-within c = omega (arith, units-fit (c .before .before .before .args .cell) (omega arith) (omega arith), c .before .before .units .ensures, c .groups-left .ensures)
+sub-i : tie.Need-sub-i Inv-loop μ-loop
+sub-i c = omega arith
 
-within-requires : tie.Need-within-requires
-within-requires c κs = tt
+quad-in-requires : tie.Need-quad-in-requires Inv-loop μ-loop
+quad-in-requires c κs = (c .before .before .before .pre .0, c .before .before .before .pre .2, omega (arith, c .before .loop .inv .0))
 
-sub-t11 : tie.Need-sub-t11
-sub-t11 c =
-    let at-left = c .before .before in
-    let at-units = at-left .before .before in
-    let entry = at-units .before in
-    let a = at-left .groups-left .result / 3 in
-    let z = in-both a (a + at-units .units .result) (entry .args .d) _ (c .before .within .ensures) (c .if2 .taken) in
-    z .0
+mul-t8 : tie.Need-mul-t8 Inv-loop μ-loop
+mul-t8 c =
+    let at-loop = c .before .before .before in let at-groups-left = at-loop .before in
+    omega
+    (arith, quad-product (at-loop .loop .i - 1) (at-groups-left .groups-left .result) (omega (arith, at-loop .loop .inv .0)) (at-groups-left .groups-left .ensures .2))
 
-cast-t12 : tie.Need-cast-t12
-cast-t12 c =
-    let at-left = c .before .before in
-    let at-units = at-left .before .before in
-    let entry = at-units .before in
-    let a = at-left .groups-left .result / 3 in
-    let z = in-both a (a + at-units .units .result) (entry .args .d) _ (c .before .within .ensures) (c .if2 .taken) in
-    omega (arith, units-fit (entry .args .cell) (omega arith) (omega arith), at-units .units .ensures, at-left .groups-left .ensures)
+sub-t10 : tie.Need-sub-t10 Inv-loop μ-loop
+sub-t10 c =
+    let at-quad-in = c .before in let at-loop = at-quad-in .before .before in let at-groups-left = at-loop .before in let entry = at-groups-left .before in
+    unit-byte (entry .args .cell) (entry .args .s) (entry .args .d) (at-groups-left .groups-left .ensures .0) (at-loop .loop .i - 1) (at-quad-in .quad-in .ensures)
+    (c .if1 .taken) (entry .pre .1) (omega arith) .0
 
-returns-2 : tie.Need-returns-2
-returns-2 c =
-    let at-left = c .before .before in
-    let at-if1 = at-left .before in
-    let at-units = at-if1 .before in
-    let entry = at-units .before in
-    unit-second (entry .args .cell) (entry .args .d) (at-units .units .ensures) (at-left .groups-left .ensures) (at-if1 .if1 .left) (sym (c .before .within .ensures) ∙ c .if2 .taken)
+cast-t11 : tie.Need-cast-t11 Inv-loop μ-loop
+cast-t11 c =
+    let at-quad-in = c .before in let at-loop = at-quad-in .before .before in let at-groups-left = at-loop .before in let entry = at-groups-left .before in
+    omega (
+      arith,
+      unit-byte (entry .args .cell) (entry .args .s) (entry .args .d) (at-groups-left .groups-left .ensures .0) (at-loop .loop .i - 1)
+          (at-quad-in .quad-in .ensures) (c .if1 .taken) (entry .pre .1) (omega arith),
+    )
 
-mul-b : tie.Need-mul-b
-mul-b c = omega (arith, c .before .before .groups-left .ensures)
+returns : tie.Need-returns Inv-loop μ-loop
+returns c =
+    let at-quad-in = c .before in let at-loop-test = at-quad-in .before in let at-loop = at-loop-test .before in let at-groups-left = at-loop .before in
+    let entry = at-groups-left .before in
+    unit-found (entry .args .cell) (entry .args .s) (entry .args .d) (at-groups-left .groups-left .ensures .0) (at-loop .loop .i) (at-loop-test .loop-test .taken)
+    (at-quad-in .quad-in .ensures) (c .if1 .taken) ∙ at-loop .loop .inv .1
 
-add-within-2 : tie.Need-add-within-2
-add-within-2 c =
-    let at-left = c .before .before in
-    let at-units = at-left .before .before in
-    omega (arith, units-fit (at-units .before .args .cell) (omega arith) (omega arith), at-units .units .ensures, at-left .groups-left .ensures)
+loop-less : tie.Need-loop-less Inv-loop μ-loop
+loop-less c = omega arith
 
-within-requires-2 : tie.Need-within-requires-2
-within-requires-2 c κs = tt
+loop-again : tie.Need-loop-again Inv-loop μ-loop
+loop-again c =
+    let at-quad-in = c .before in let at-loop-test = at-quad-in .before in let at-loop = at-loop-test .before in let entry = at-loop .before .before in (
+      omega (arith, at-loop .loop .inv .0),
+      sym
+          (unit-passed (entry .args .cell) (entry .args .s) (entry .args .d) (at-loop .loop .i) (at-loop-test .loop-test .taken) (at-quad-in .quad-in .ensures) (c .if1 .left)) ∙ at-loop .loop .inv .1,
+    )
 
-sub-t14 : tie.Need-sub-t14
-sub-t14 c =
-    let at-left = c .before .before .before .before in
-    let at-units = at-left .before .before in
-    let entry = at-units .before in
-    let b = 2 * at-left .groups-left .result / 3 in
-    let z = in-both b (b + at-units .units .result) (entry .args .d) _ (c .before .within2 .ensures) (c .if3 .taken) in
-    z .0
-
-cast-t15 : tie.Need-cast-t15
-cast-t15 c =
-    let at-left = c .before .before .before .before in
-    let at-units = at-left .before .before in
-    let entry = at-units .before in
-    let b = 2 * at-left .groups-left .result / 3 in
-    let z = in-both b (b + at-units .units .result) (entry .args .d) _ (c .before .within2 .ensures) (c .if3 .taken) in
-    omega (arith, units-fit (entry .args .cell) (omega arith) (omega arith), at-units .units .ensures, at-left .groups-left .ensures)
-
-returns-3 : tie.Need-returns-3
-returns-3 c =
-    let at-if2 = c .before .before in
-    let at-within = at-if2 .before in
-    let at-left = at-within .before in
-    let at-if1 = at-left .before in
-    let at-units = at-if1 .before in
-    let entry = at-units .before in
-    unit-third (entry .args .cell) (entry .args .d) (at-units .units .ensures) (at-left .groups-left .ensures) (at-if1 .if1 .left) (sym (at-within .within .ensures) ∙ at-if2 .if2 .left)
-    (sym (c .before .within2 .ensures) ∙ c .if3 .taken)
-
-returns-4 : tie.Need-returns-4
-returns-4 c =
-    let at-if2 = c .before .before in
-    let at-within = at-if2 .before in
-    let at-left = at-within .before in
-    let at-if1 = at-left .before in
-    let at-units = at-if1 .before in
-    let entry = at-units .before in
-    unit-none (entry .args .cell) (entry .args .d) (at-units .units .ensures) (at-left .groups-left .ensures) (at-if1 .if1 .left) (sym (at-within .within .ensures) ∙ at-if2 .if2 .left)
-    (sym (c .before .within2 .ensures) ∙ c .if3 .left)
+returns-2 : tie.Need-returns-2 Inv-loop μ-loop
+returns-2 c = unit-none (c .before .before .before .args .cell) (c .before .before .before .args .s) (c .before .before .before .args .d) (omega arith) ∙ c .before .loop .inv .1
 
 pub unit-in-spec : {M : Type 1} → statement M
 unit-in-spec =
-    tie.close (tie.spec units-requires cast-t8 returns groups-left-requires add-within within-requires sub-t11 cast-t12 returns-2 mul-b add-within-2
-    within-requires-2 sub-t14 cast-t15 returns-3 returns-4)
+    tie.close
+    (tie.spec
+    Inv-loop
+    μ-loop
+    groups-left-requires
+    loop-holds
+    sub-i
+    quad-in-requires
+    mul-t8
+    sub-t10
+    cast-t11
+    returns
+    loop-less
+    loop-again
+    returns-2)

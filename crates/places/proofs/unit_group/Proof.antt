@@ -1,9 +1,20 @@
--- The number and the groups of PCFICH below it are the group.
-use native.Mathlib.Omega.{arith}
-use Rattle.places.proofs.Ways.{unit-sum}
+-- The number and the groups of PCFICH below it are the group; in a later symbol the number is.
+use Rattle.places.proofs.Ways.{unit-sum, unit-sum-later}
 use borrow.Author.Needs.{needs}
 use Rattle.places.proofs.unit_group.Statement.{statement}
 use Rattle.places.proofs.unit_group.Tie as tie
+
+unit-number-requires : tie.Need-unit-number-requires
+unit-number-requires c κs = search needs
+
+quad-symbol-requires : tie.Need-quad-symbol-requires
+quad-symbol-requires c κs = search needs
+
+returns : tie.Need-returns
+returns c =
+    let at-quad-symbol = c .before in let at-unit-number = at-quad-symbol .before in let entry = at-unit-number .before in
+    unit-sum-later (entry .args .cell) (entry .args .m) (entry .args .i) (entry .pre .0) (at-unit-number .unit-number .ensures .0) (at-quad-symbol .quad-symbol .ensures)
+    (c .if1 .taken)
 
 format-group-requires : tie.Need-format-group-requires
 format-group-requires c κs = search needs
@@ -16,9 +27,6 @@ format-group-requires-3 c κs = search needs
 
 format-group-requires-4 : tie.Need-format-group-requires-4
 format-group-requires-4 c κs = search needs
-
-unit-number-requires : tie.Need-unit-number-requires
-unit-number-requires c κs = search needs
 
 step-requires : tie.Need-step-requires
 step-requires c κs = search needs
@@ -44,16 +52,32 @@ add-result-3 c = search needs
 add-result-4 : tie.Need-add-result-4
 add-result-4 c = search needs
 
-returns : tie.Need-returns
-returns c =
-    let at-step2 = c .before .before in let at-step = at-step2 .before in let at-unit-number = at-step .before in
-    let at-format-group4 = at-unit-number .before in let at-format-group3 = at-format-group4 .before in
-    let at-format-group2 = at-format-group3 .before in let at-format-group = at-format-group2 .before in let entry = at-format-group .before in
-    unit-sum (entry .args .cell) (entry .args .m) (entry .args .i) (omega arith) (at-format-group .format-group .ensures) (at-format-group2 .format-group2 .ensures)
-    (at-format-group3 .format-group3 .ensures) (at-format-group4 .format-group4 .ensures) (at-unit-number .unit-number .ensures .0) (at-step .step .ensures .0)
-    (at-step2 .step2 .ensures .0) (c .before .step3 .ensures .0) (c .step4 .ensures .0)
+returns-2 : tie.Need-returns-2
+returns-2 c =
+    let at-step3 = c .before in let at-step2 = at-step3 .before in let at-step = at-step2 .before in let at-format-group4 = at-step .before in
+    let at-format-group3 = at-format-group4 .before in let at-format-group2 = at-format-group3 .before in let at-format-group = at-format-group2 .before in
+    let at-if1 = at-format-group .before in let at-quad-symbol = at-if1 .before in let at-unit-number = at-quad-symbol .before in let entry = at-unit-number .before in
+    unit-sum (entry .args .cell) (entry .args .m) (entry .args .i) (entry .pre .0) (at-unit-number .unit-number .ensures .0) (at-quad-symbol .quad-symbol .ensures)
+    (at-if1 .if1 .left) (at-format-group .format-group .ensures) (at-format-group2 .format-group2 .ensures) (at-format-group3 .format-group3 .ensures)
+    (at-format-group4 .format-group4 .ensures) (at-step .step .ensures .0) (at-step2 .step2 .ensures .0) (at-step3 .step3 .ensures .0) (c .step4 .ensures .0)
 
 pub unit-group-spec : {M : Type 1} → statement M
 unit-group-spec =
-    tie.close (tie.spec format-group-requires format-group-requires-2 format-group-requires-3 format-group-requires-4 unit-number-requires step-requires
-    step-requires-2 add-result step-requires-3 add-result-2 step-requires-4 add-result-3 add-result-4 returns)
+    tie.close
+    (tie.spec
+    unit-number-requires
+    quad-symbol-requires
+    returns
+    format-group-requires
+    format-group-requires-2
+    format-group-requires-3
+    format-group-requires-4
+    step-requires
+    step-requires-2
+    add-result
+    step-requires-3
+    add-result-2
+    step-requires-4
+    add-result-3
+    add-result-4
+    returns-2)

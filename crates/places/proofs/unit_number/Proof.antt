@@ -1,39 +1,51 @@
 -- The products fit, and the sentence is the definition.
 use native.Mathlib.Omega.{arith}
 use Rattle.places.proofs.Ways.{left-product, number-in}
+use Rattle.layout.proofs.GroupShape.{quad-low}
 use borrow.Author.Needs.{needs}
 use Rattle.places.proofs.unit_number.Statement.{statement}
 use Rattle.places.proofs.unit_number.Tie as tie
 
-groups-left-requires : tie.Need-groups-left-requires
-groups-left-requires c κs = search needs
+quad-symbol-requires : tie.Need-quad-symbol-requires
+quad-symbol-requires c κs = search needs
 
-cast-result : tie.Need-cast-result
-cast-result c = search needs
+groups-left-requires : tie.Need-groups-left-requires
+groups-left-requires c κs = (c .before .pre .0, omega (arith, c .quad-symbol .ensures, quad-low (c .before .args .cell) (c .before .args .i), c .before .pre .2))
+
+start-number-requires : tie.Need-start-number-requires
+start-number-requires c κs =
+    let at-quad-symbol = c .before in let entry = at-quad-symbol .before in
+    (entry .pre .0, omega (arith, at-quad-symbol .quad-symbol .ensures, quad-low (entry .args .cell) (entry .args .i), entry .pre .2))
 
 add-result : tie.Need-add-result
 add-result c = search needs
 
 mul-result : tie.Need-mul-result
-mul-result c =
-    let at-left = c .before in
-    let a = at-left .before .args in
-    omega (arith, left-product (a .cell) (at-left .groups-left .ensures) (a .i) (omega arith) (omega arith))
+mul-result c = omega (arith, left-product (c .before .before .before .args .i) (c .before .before .before .pre .2) (c .before .groups-left .ensures .2))
 
 add-result-2 : tie.Need-add-result-2
 add-result-2 c =
-    let at-left = c .before in
-    let a = at-left .before .args in
-    omega (arith, left-product (a .cell) (at-left .groups-left .ensures) (a .i) (omega arith) (omega arith))
+    let at-groups-left = c .before in let entry = at-groups-left .before .before in
+    omega (arith, left-product (entry .args .i) (entry .pre .2) (at-groups-left .groups-left .ensures .2), c .start-number .ensures .1)
 
 rem-result : tie.Need-rem-result
 rem-result c = search needs
 
 returns : tie.Need-returns
 returns c =
-    let at-left = c .before in
-    let a = at-left .before .args in
-    number-in (a .cell) (at-left .groups-left .ensures) (a .m) (a .i) (omega arith) (omega arith)
+    let at-groups-left = c .before in let at-quad-symbol = at-groups-left .before in let entry = at-quad-symbol .before in
+    number-in (entry .args .cell) (entry .args .m) (entry .args .i) (at-quad-symbol .quad-symbol .ensures) (at-groups-left .groups-left .ensures .0)
+    (c .start-number .ensures .0) (entry .pre .0) (omega arith)
 
 pub unit-number-spec : {M : Type 1} → statement M
-unit-number-spec = tie.close (tie.spec groups-left-requires cast-result add-result mul-result add-result-2 rem-result returns)
+unit-number-spec =
+    tie.close
+    (tie.spec
+    quad-symbol-requires
+    groups-left-requires
+    start-number-requires
+    add-result
+    mul-result
+    add-result-2
+    rem-result
+    returns)

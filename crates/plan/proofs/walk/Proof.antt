@@ -1,7 +1,6 @@
--- `plan::walk` meets its contract: CELL is due. Assumes nothing.
+-- `plan::walk` meets its contract: CELL or CELLX is due. Assumes nothing.
 use mathlib.Core.Path.{sym, _∙_}
-use Rattle.plan.proofs.CauseLaws.{cell-in}
-use Rattle.plan.proofs.Opening.{late-first, cell-refused, cell-step}
+use Rattle.plan.proofs.Opening.{late-first, cell-first, cellx-first}
 use borrow.Author.Needs.{needs}
 use Rattle.plan.proofs.walk.Statement.{statement}
 use Rattle.plan.proofs.walk.Tie as tie
@@ -12,55 +11,43 @@ command-at-requires c κs = search needs
 enum-known-c : tie.Need-enum-known-c
 enum-known-c c = search needs
 
-cell-cause-requires : tie.Need-cell-cause-requires
-cell-cause-requires c κs = search needs
+cell-then-requires : tie.Need-cell-then-requires
+cell-then-requires c κs = search needs
 
-enum-told : tie.Need-enum-told
-enum-told c = search needs
+enum-known-c-2 : tie.Need-enum-known-c-2
+enum-known-c-2 c = search needs
 
-after-cell-requires : tie.Need-after-cell-requires
-after-cell-requires c κs = cell-in _ (sym (c .enum-told .given .1) ∙ c .before .before .cell-cause .ensures)
-
-enum-known-cause : tie.Need-enum-known-cause
-enum-known-cause c = search needs
-
-found-requires : tie.Need-found-requires
-found-requires c κs = search needs
+cell-then-requires-2 : tie.Need-cell-then-requires-2
+cell-then-requires-2 c κs = search needs
 
 late-cause-requires : tie.Need-late-cause-requires
 late-cause-requires c κs = search needs
 
-found-requires-2 : tie.Need-found-requires-2
-found-requires-2 c κs = search needs
+found-requires : tie.Need-found-requires
+found-requires c κs = search needs
 
 returns : tie.Need-returns
 returns c =
-    let at-enum-told = c .before in
-    let at-cell-cause = at-enum-told .before .before in
-    let at-c = at-cell-cause .before .before in
+    let at-c = c .before .before in
     let at-command-at = at-c .before .before in
     let w = at-command-at .before .before .args .plan .now in
-    let e = sym (at-command-at .command-at .ensures) ∙ at-c .c .given .1 in
-    c .after-cell .ensures ∙ cell-step w _ e (at-cell-cause .cell-cause .ensures) (at-enum-told .enum-told .given .1)
+    c .cell-then .ensures ∙ cell-first w _ (sym (at-command-at .command-at .ensures) ∙ at-c .c .given .1)
 
 returns-2 : tie.Need-returns-2
 returns-2 c =
-    let at-cause = c .before .before in
-    let at-cell-cause = at-cause .before .before in
-    let at-c = at-cell-cause .before .before in
+    let at-c = c .before .before in
     let at-command-at = at-c .before .before in
     let w = at-command-at .before .before .args .plan .now in
-    let e = sym (at-command-at .command-at .ensures) ∙ at-c .c .given .1 in
-    cell-refused w _ e (at-cell-cause .cell-cause .ensures) (at-cause .cause .given .1) (c .found .ensures)
+    c .cell-then2 .ensures ∙ cellx-first w _ (sym (at-command-at .command-at .ensures) ∙ at-c .c2 .given .1)
 
 returns-3 : tie.Need-returns-3
 returns-3 c =
     let at-match = c .before .before in
     let at-command-at = at-match .before in
     let w = at-command-at .before .before .args .plan .now in
-    late-first w (sym (at-command-at .command-at .ensures)) (at-match .match .keys2) (c .before .late-cause .ensures) (c .found2 .ensures)
+    late-first w (sym (at-command-at .command-at .ensures)) (at-match .match .keys3) (c .before .late-cause .ensures) (c .found .ensures)
 
 pub walk-spec : {M : Type 1} → statement M
 walk-spec =
-    tie.close (tie.spec command-at-requires enum-known-c cell-cause-requires enum-told after-cell-requires enum-known-cause found-requires late-cause-requires
-    found-requires-2 returns returns-2 returns-3)
+    tie.close (tie.spec command-at-requires enum-known-c cell-then-requires enum-known-c-2 cell-then-requires-2 late-cause-requires found-requires returns
+    returns-2 returns-3)

@@ -1,8 +1,8 @@
--- One symbol more than the CFI at six blocks.
+-- `plan::control_symbols` meets its contract: one symbol more than the CFI at six blocks. Assumes nothing.
 use native.Mathlib.Omega.{arith}
-use Rattle.layout.proofs.ControlRegion.{region-six, region-other}
-use Rattle.layout.proofs.control_symbols.Statement.{statement}
-use Rattle.layout.proofs.control_symbols.Tie as tie
+use Rattle.plan.proofs.ControlRegion.{region-six, region-other}
+use Rattle.plan.proofs.control_symbols.Statement.{statement}
+use Rattle.plan.proofs.control_symbols.Tie as tie
 
 cast-cfi : tie.Need-cast-cfi
 cast-cfi c = omega arith
