@@ -13,6 +13,7 @@ use Rattle.plan.specs.Fields.{mappingUnits}
 use Rattle.plan.specs.declared.Cell.{Cell}
 use Rattle.plan.proofs.Listed.{and-left, and-right}
 use Rattle.base.specs.Choice.{indicator}
+use Rattle.base.specs.Counts.{cnt}
 use Rattle.layout.specs.Rules.{symbolGroups, elementGroup, inGroup, formatGroup, isFormat, formatHas, quadSymbol, groupsLeft, quadGroup, quadHas, mappingUnitHas}
 use Rattle.layout.specs.Owners.{symbols, carriers}
 use Rattle.layout.proofs.Pilot.{slot-length}
@@ -20,7 +21,7 @@ use Rattle.layout.proofs.GroupShape.{by-size, first-groups, quad-low}
 use Rattle.layout.proofs.Groups.{format-small, format-once}
 use Rattle.layout.proofs.Units.{unit-small, units-apart, quads-some}
 use Rattle.counts.specs.Sums.{sumTo}
-use Rattle.counts.proofs.Sums.{sum-same, sum-none, sum-add, sum-times, blocks}
+use Rattle.counts.proofs.Sums.{sum-same, sum-none, sum-add, sum-times, cnt-sum, blocks}
 
 -- ---- how many pairs (s, t), s below S and t below G s, pass a test
 one-hit : (n a : ℕ) → sumTo n (λ j. indicator (eqb j a)) ≡ indicator (ltb a n)
@@ -154,3 +155,10 @@ group-row c s G =
       where
         on : (b r : ℕ) → r < z → kept z (z * b + r) ≡ kept z r
         on b r m = by-test (eqb z 4) (λ e. rw e refl) (λ e. rw (at b r m .1 (eqb-false z 4 e)) refl)
+
+-- THE LAW: a group of any symbol has four places
+pub group-four : (c : Cell) (s t : ℕ) → t < symbolGroups c s → cnt (λ (k : ℕ). inGroup c s k && eqb (elementGroup c s k) t) (carriers c) ≡ 4
+group-four c s t l =
+    cnt-sum (λ (k : ℕ). inGroup c s k && eqb (elementGroup c s k) t) (carriers c)
+    ∙ group-row c s (λ (b : ℕ). eqb b t)
+    ∙ rw (one-only (symbolGroups c s) t l) refl

@@ -1,11 +1,14 @@
 -- Sums: of equal, of constant and of bounded parts, two at a time, six at a time, and one sum within another. Assumes nothing.
 use Prim.Native.Nat.{ℕ, zero, suc, _+_, _*_, _%_, _≤_, _<_}
-use mathlib.Core.Path.{_≡_, refl, sym, _∙_}
+use mathlib.Core.Path.{_≡_, refl, sym, ap₂, _∙_}
+use mathlib.Core.Bool.{Bool, true, false, cond}
 use mathlib.Core.List.{List, [], _∷_, _++_}
 use native.Mathlib.Nat.{add-zero, add-suc, suc-mul, zero-mul, add-mul, not-suc-le-zero, mul-zero, mul-suc}
 use native.Mathlib.Omega.{arith}
 use lib.Dec.{eqb}
 use borrow.Author.Tests.{eqb-true, eqb-false}
+use Rattle.base.specs.Choice.{indicator}
+use Rattle.base.specs.Counts.{cnt}
 use Rattle.base.proofs.Tests.{by-test}
 use Rattle.counts.specs.Sums.{sumTo, sumOf}
 
@@ -64,6 +67,16 @@ sum-part (suc n) f j l =
     by-test (eqb j n)
     (λ e. rw (eqb-true j n e) (omega arith))
     (λ e. let z : (j ≡ n) → ⊥ = eqb-false j n e in omega (arith, sum-part n f j (omega arith)))
+
+-- how many numbers pass a test
+as-one : (b : Bool) → cond b 1 0 ≡ indicator b
+as-one true = refl
+as-one false = refl
+
+pub cnt-sum : (f : ℕ → Bool) (n : ℕ) → cnt f n ≡ sumTo n (λ j. indicator (f j))
+unfolding cnt sumTo
+cnt-sum f zero = refl
+cnt-sum f (suc n) = ap₂ _+_ (cnt-sum f n) (as-one (f n))
 
 -- z at a time
 pub blocks : (z n : ℕ) (f : ℕ → ℕ) → sumTo (z * n) f ≡ sumTo n (λ b. sumTo z (λ r. f (z * b + r)))

@@ -5,7 +5,7 @@ use mathlib.Core.Path.{_≡_, refl, sym, ap, ap₂, _∙_}
 use mathlib.Core.Logic.{_↔_}
 use mathlib.Core.Bool.{Bool, true, false, not, _&&_, _||_, and-true, and-false}
 use native.Mathlib.Omega.{arith}
-use lib.Dec.{T, eqb, ltb, eqb→eq}
+use lib.Dec.{T, eqb, ltb}
 use lib.Ieee.Bits.{is-true}
 use borrow.Author.Tests.{eq-eqb, ne-eqb, eqb-true, ltb-true}
 use Rattle.base.specs.Choice.{indicator}
@@ -18,6 +18,7 @@ use Rattle.plan.proofs.Listed.{and-left, and-right}
 use Rattle.layout.specs.Rules.{groupSize, symbolGroups, elementGroup, inGroup}
 use Rattle.layout.proofs.GroupShape.{by-size, group-below}
 use Rattle.layout.specs.Owners.{symbols, carriers}
+use Rattle.counts.proofs.Groups.{group-four}
 use Rattle.places.specs.Quads.{groupHas, quadPlace, quadIndex, quadsPlace, quadsIndex, InQuads}
 use Rattle.places.specs.Places.{placeNumber, symbolAt, carrierAt, placesOf}
 use Rattle.places.proofs.Numbers.{place-symbol, place-carrier, place-both, place-inside, carrier-inside}
@@ -61,24 +62,9 @@ module _ (c : Cell) (s k : ℕ) (in-k : k < carriers c) (kept : inGroup c s k �
 abbrev keeps : ℕ → ℕ → ℕ → Bool
 keeps z v r = eqb z 4 || not (eqb (r % 3) v)
 
-abbrev fourOf : ℕ → ℕ → Bool
-fourOf z v = eqb (cnt (keeps z v) z) 4
-
-six-kept : T (allBelow (fourOf 6) 3)
-unfolding cnt
-six-kept = tt
-
-four-kept : T (allBelow (fourOf 4) 3)
-unfolding cnt
-four-kept = tt
-
 module _ (c : Cell) (s : ℕ) where
   abbrev z : ℕ
   z = groupSize c s
-
-  kept-four : (v : ℕ) → v < 3 → cnt (keeps z v) z ≡ 4
-  kept-four v l =
-      by-size (λ (z : ℕ). cnt (keeps z v) z ≡ 4) c s (eqb→eq _ 4 (below-at (fourOf 6) 3 six-kept v l)) (eqb→eq _ 4 (below-at (fourOf 4) 3 four-kept v l))
 
   kept-on : (v t r : ℕ) → keeps z v (z * t + r) ≡ keeps z v r
   kept-on v t r = by-size (λ (z : ℕ). keeps z v (z * t + r) ≡ keeps z v r) c s (let x : (6 * t + r) % 3 ≡ r % 3 = omega arith in rw x refl) refl
@@ -115,15 +101,9 @@ module _ (c : Cell) (s : ℕ) where
         (cnt-same (λ (r : ℕ). groupHas c s t (z * t + r)) (keeps z v) d (λ r l. in-size r (omega arith)))
         ∙ (let x : 0 + cnt (keeps z v) d ≡ cnt (keeps z v) d = omega arith in x)
 
-    -- THE LAW: a group of any symbol has four places
     pub four : cnt (groupHas c s t) (carriers c) ≡ 4
-    four =
-        let l = last-group t in-t in
-        let e : z * t + z + (carriers c - (z * t + z)) ≡ carriers c = omega arith in
-        ap (cnt (groupHas c s t)) (sym e)
-        ∙ cnt-skip (groupHas c s t) (z * t + z) (carriers c - (z * t + z)) (λ k a b. outside k (λ d. omega (arith, d .1)))
-        ∙ up-to z (omega arith)
-        ∙ kept-four v (omega arith)
+    unfolding groupHas
+    four = group-four c s t in-t
 
 pub index-small : (c : Cell) (s k : ℕ) → k < carriers c → inGroup c s k ≡ true → quadIndex c s k < 4
 index-small c s k h e = omega (arith, index-below c s k h e, four c s (elementGroup c s k) (group-below c s k h))
