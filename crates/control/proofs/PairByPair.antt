@@ -38,6 +38,10 @@ use Rattle.control.proofs.Words.{first-symbol, second-symbol, scrambled
 small-symbol : (w : ℕ) → Small 127 (symbolFor 2 w)
 small-symbol w = let s = order-small 2 w (refl, omega arith, omega arith) in (omega (arith, s .0), omega (arith, s .1))
 
+-- what `quad_place` requires for PCFICH
+pub format-in : {c : Cell} {n g : ℕ} → CellIn c → n < 8 → g ≡ formatGroup c (n / 2) → g < symbolGroups c 0
+format-in {c = c} {n = n} ok in-n eg = omega (arith, eg, pcfich-groups c ok .small (n / 2) (omega arith))
+
 -- what `pcfich_pair` makes of four bits of the codeword and four of the sequence
 pub pcfich-made :
     {c : Cell} {cfi n : ℕ} {s : Registers} → CellIn c → n < 8 → {u v g a b : ℕ} {d e : Pair} → u ≡ binary (cfiBit cfi) (4 * n) 4 → v ≡ wordOf s 4
@@ -62,11 +66,7 @@ pcfich-made {c = c} {cfi = cfi} {n = n} {s = s} ok in-n {u = u} {v = v} {g = g} 
 )
   where
     inside : (groupPlace c 0 g (2 * (n % 2)) < placesOf c) × (groupPlace c 0 g (2 * (n % 2) + 1) < placesOf c) × (groupPlace c 0 g (2 * (n % 2)) ≡ groupPlace c 0 g (2 * (n % 2) + 1) → ⊥)
-    inside = pair-inside c 0 g (n % 2) (omega arith) (omega (arith, eg, pcfich-groups c ok .small (n / 2) (omega arith))) (omega arith)
-
--- what `quad_place` requires there
-pub format-in : {c : Cell} {n g : ℕ} → CellIn c → n < 8 → g ≡ formatGroup c (n / 2) → g < symbolGroups c 0
-format-in {c = c} {n = n} ok in-n eg = omega (arith, eg, pcfich-groups c ok .small (n / 2) (omega arith))
+    inside = pair-inside c 0 g (n % 2) (omega arith) (format-in ok in-n eg) (omega arith)
 
 abbrev byTwo : ℕ → ℕ
 byTwo j = j / 2 % 2

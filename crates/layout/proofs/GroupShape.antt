@@ -5,6 +5,7 @@ use mathlib.Core.Path.{_≡_, refl}
 use mathlib.Core.Logic.{_↔_, _⊎_, inl, inr}
 use mathlib.Core.Bool.{Bool, true, false, not, _&&_, _||_}
 use native.Mathlib.Omega.{arith}
+use native.Mathlib.Nat.{mul-le-mul}
 use lib.Dec.{ltb, eqb}
 use borrow.Author.Tests.{eq-eqb, ne-eqb, lt-ltb, eqb-true, eqb-false, ltb-true, not-true}
 use Rattle.base.proofs.Tests.{by-test, clash, or-cases, is-false, on-if}
@@ -87,6 +88,9 @@ pub by-size : (P : ℕ → Type 0) (c : Cell) (s : ℕ) → P 6 → P 4 → P (g
 unfolding groupSize
 by-size P c s six four = on-if P (eqb s 0 || (eqb s 1 && eqb (c .ports) 4) || (eqb s 3 && eqb (c .prefix) 1)) (λ e. six) (λ e. four)
 
+pub else-six : (c : Cell) (s : ℕ) → (groupSize c s ≡ 4 → ⊥) → groupSize c s ≡ 6
+else-six c s = by-size (λ (z : ℕ). (z ≡ 4 → ⊥) → z ≡ 6) c s (λ n. refl) (λ n. absurd (n refl))
+
 -- THE LAW OF THE SIZES
 pub six-exactly : (c : Cell) → CellIn c → (s : ℕ) → s < 4 → (groupSize c s ≡ 6) ↔ HasCrs c s
 six-exactly c ok s l = (six-with c ok s l, λ u. by-size (λ (z : ℕ). groupSize c s ≡ z → groupSize c s ≡ 6) c s (λ e. e) (λ e. clash (u .2) (four-without c ok s l e (u .0) (u .1))) refl)
@@ -160,3 +164,7 @@ module _ (c : Cell) where
 
   pub first-quad : quadSymbol c 0 ≡ 0
   first-quad = omega (arith, quad-low 0)
+
+-- what a quad's number is worked out from fits a machine's word: h is the number of groups left
+pub quad-product : (i h : ℕ) → i < 3 → h < 1024 → i * h ≤ 2 * 1023
+quad-product i h l u = mul-le-mul {n₁ = i} {m₁ = h} {n₂ = 2} {m₂ = 1023} (omega arith) (omega arith)

@@ -33,7 +33,7 @@ use Rattle.layout.specs.declared.Owner.{Owner}
 use Rattle.layout.specs.declared.Owner.the-variants.{Crs, Sync, Pbch, Pcfich, Phich, User as UserOf, Held, Idle}
 use Rattle.layout.proofs.Owner.{the-type}
 use Rattle.layout.proofs.Pilot.{slot-length}
-use Rattle.layout.proofs.GroupShape.{by-size}
+use Rattle.layout.proofs.GroupShape.{else-six}
 use Rattle.layout.proofs.Groups.{is-format, below, number-is, left-first, all-left, number-later, left-later, left-most, left-some}
 
 -- ---- a symbol in its slot of L symbols
@@ -150,7 +150,7 @@ module _ (c : Cell) (big : 6 ≤ c .blocks) (small : c .blocks < 256) (s : ℕ) 
     left-of-fours e = all-of (3 * n) 4 (sym ez ∙ e) (omega arith)
 
     pub left-of-sixes : (z ≡ 4 → ⊥) → Left (2 * n)
-    left-of-sixes e = all-of (2 * n) 6 (by-size (λ (x : ℕ). z ≡ x → x ≡ 6) c s (λ d. refl) (λ d. absurd (e d)) ez) (omega arith)
+    left-of-sixes e = all-of (2 * n) 6 (else-six c s (λ d. e (ez ∙ d))) (omega arith)
 
 -- the start's number
 pub start-first : (c : Cell) → 6 ≤ c .blocks → (s : ℕ) → s ≡ 0 → c .identity < 65536 → (c .identity ≡ startNumber c s) × (c .identity < 67108864)
@@ -174,9 +174,6 @@ module _ (c : Cell) (s d i : ℕ) {t : ℕ} (et : t ≡ quadSymbol c i) where
   pub quad-here : t ≡ s → {h M : ℕ} → h ≡ groupsLeft c s → M ≡ mappingUnits c → (r : Bool) → r ≡ leb (i * h / 3) d && ltb d (i * h / 3 + M) → r ≡ quadIn c s d i
   unfolding quadIn
   quad-here e eh eM r er = er ∙ rw (← et, eq-eqb t s e, ← eh, ← eM) refl
-
-pub quad-product : (i h : ℕ) → i < 3 → h < 1024 → i * h ≤ 2 * 1023
-quad-product i h l u = mul-le-mul {n₁ = i} {m₁ = h} {n₂ = 2} {m₂ = 1023} (omega arith) (omega arith)
 
 pub units-few : (c : Cell) → c .sixths < 256 → c .blocks < 256 → mappingUnits c < 2048
 unfolding mappingUnits
@@ -258,7 +255,7 @@ module _ (c : Cell) (s k : ℕ) {z : ℕ} (ez : z ≡ groupSize c s) where
 
   module _ (n : z ≡ 4 → ⊥) where
     six : groupSize c s ≡ 6
-    six = by-size (λ (x : ℕ). z ≡ x → x ≡ 6) c s (λ e. refl) (λ e. absurd (n e)) ez
+    six = else-six c s (λ d. n (ez ∙ d))
 
     pub control-skipped : k % 3 ≡ c .identity % 3 → Idle ≡ controlAt c s k
     unfolding controlAt inGroup

@@ -38,8 +38,8 @@ number c s t = cnt (isLeft c s) t
 abbrev pub past : ℕ → ℕ → ℕ → ℕ
 past a h n = (n + (h - a % h)) % h
 
--- of the groups left in symbol s, those of the units' quads i are as many as units, from i·h/3 past the start on; the unit that takes the number d past it, of the
--- quads below n
+-- of the groups left in symbol s, those of the units' quads i are as many as units, from i·h/3 past the start on; the unit that takes the
+-- number d past it, of the quads below n
 unfoldable pub quadIn : Cell → ℕ → ℕ → ℕ → Bool
 quadIn c s d i = let a = i * groupsLeft c s / 3 in eqb (quadSymbol c i) s && (leb a d && ltb d (a + mappingUnits c))
 

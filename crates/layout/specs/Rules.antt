@@ -101,8 +101,8 @@ held c f s k = heldBySync c f s k || heldByPbch c f s k
 unfoldable pub groupSize : Cell → ℕ → ℕ
 groupSize c s = if eqb s 0 || (eqb s 1 && eqb (c .ports) 4) || (eqb s 3 && eqb (c .prefix) 1) then 6 else 4
 
--- how many groups the symbol has, the group of subcarrier k there, and whether (s, k) is one of a group's four places: of six, "a group's four places skip
--- k with k mod 3 = C mod 3, also for one port"
+-- how many groups the symbol has, the group of subcarrier k there, and whether (s, k) is one of a group's four places: of six, "a group's
+-- four places skip k with k mod 3 = C mod 3, also for one port"
 unfoldable pub symbolGroups : Cell → ℕ → ℕ
 symbolGroups c s = 12 * c .blocks / groupSize c s
 

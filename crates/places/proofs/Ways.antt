@@ -8,7 +8,7 @@ use Rattle.base.specs.Choice.{indicator}
 use Rattle.plan.specs.declared.Cell.{Cell}
 use Rattle.layout.specs.Rules.{groupSize, symbolGroups, formatGroup, quadSymbol, groupsLeft, startNumber, quadNumber, quadGroup}
 use Rattle.layout.specs.Owners.{carriers}
-use Rattle.layout.proofs.GroupShape.{by-size, groups-most}
+use Rattle.layout.proofs.GroupShape.{else-six, groups-most}
 use Rattle.layout.proofs.Groups.{left-most}
 use Rattle.layout.proofs.Units.{number-lt}
 use Rattle.places.specs.Quads.{quadPlace}
@@ -17,9 +17,6 @@ use Rattle.places.specs.Steps.{stepOf}
 use Rattle.places.specs.Places.{placeNumber}
 use Rattle.places.proofs.Quads.{place-four, place-six}
 use Rattle.places.proofs.Inserted.{unit-inserted, unit-later}
-
-pub left-product : {h : ℕ} (i : ℕ) → i < 3 → h < 1024 → i * h ≤ 2 * 1023
-left-product {h = h} i l few = mul-le-mul {n₁ = i} {m₁ = h} {n₂ = 2} {m₂ = 1023} (omega arith) (omega arith)
 
 -- quad i's symbol s, the number h of the groups left there, and the start's number b
 pub number-in :
@@ -48,9 +45,7 @@ module _ (c : Cell) (s g j : ℕ) {z : ℕ} (in-g : g < symbolGroups c s) (in-j 
   place-of-four e = rw (eW, place-four c s g in-g j in-j (sym ez ∙ e)) refl
 
   pub place-of-six : (z ≡ 4 → ⊥) → {x : ℕ} → x ≡ indicator (ltb (c .identity % 3) (j % 2 + 1)) → s * W + (6 * g + (3 * (j / 2) + j % 2 + x)) ≡ placeNumber c s (quadPlace c s g j)
-  place-of-six n ex =
-      let six : groupSize c s ≡ 6 = by-size (λ (y : ℕ). z ≡ y → y ≡ 6) c s (λ e. refl) (λ e. absurd (n e)) ez in
-      rw (eW, ex, place-six c s g j in-g in-j six) refl
+  place-of-six n ex = rw (eW, ex, place-six c s g j in-g in-j (else-six c s (λ d. n (ez ∙ d)))) refl
 
 -- what fits the machine's words
 pub rows-few : (c : Cell) (s : ℕ) {W : ℕ} → W ≡ carriers c → s < 3 → c .blocks < 256 → s * W ≤ 2 * 3060

@@ -1,6 +1,7 @@
 -- The products fit; a quad of another symbol, or the range of the units.
 use native.Mathlib.Omega.{arith}
-use Rattle.layout.proofs.Ways.{quad-elsewhere, quad-here, quad-product, units-few}
+use Rattle.layout.proofs.GroupShape.{quad-product}
+use Rattle.layout.proofs.Ways.{quad-elsewhere, quad-here, units-few}
 use borrow.Author.Needs.{needs}
 use Rattle.layout.proofs.quad_in.Statement.{statement}
 use Rattle.layout.proofs.quad_in.Tie as tie

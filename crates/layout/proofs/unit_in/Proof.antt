@@ -3,7 +3,8 @@ use Prim.Native.Nat.{_-_, _≤_}
 use native.Mathlib.Omega.{arith}
 use mathlib.Core.Path.{_≡_, refl, _∙_, sym}
 use Rattle.layout.specs.Chain.{unitAt}
-use Rattle.layout.proofs.Ways.{quad-product, unit-none, unit-found, unit-byte, unit-passed}
+use Rattle.layout.proofs.GroupShape.{quad-product}
+use Rattle.layout.proofs.Ways.{unit-none, unit-found, unit-byte, unit-passed}
 use Rattle.layout.proofs.unit_in.Statement.{statement}
 use Rattle.layout.proofs.unit_in.Tie as tie
 

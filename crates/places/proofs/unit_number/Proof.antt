@@ -1,7 +1,7 @@
 -- The products fit, and the sentence is the definition.
 use native.Mathlib.Omega.{arith}
-use Rattle.places.proofs.Ways.{left-product, number-in}
-use Rattle.layout.proofs.GroupShape.{quad-low}
+use Rattle.places.proofs.Ways.{number-in}
+use Rattle.layout.proofs.GroupShape.{quad-low, quad-product}
 use borrow.Author.Needs.{needs}
 use Rattle.places.proofs.unit_number.Statement.{statement}
 use Rattle.places.proofs.unit_number.Tie as tie
@@ -21,12 +21,12 @@ add-result : tie.Need-add-result
 add-result c = search needs
 
 mul-result : tie.Need-mul-result
-mul-result c = omega (arith, left-product (c .before .before .before .args .i) (c .before .before .before .pre .2) (c .before .groups-left .ensures .2))
+mul-result c = omega (arith, quad-product (c .before .before .before .args .i) (c .before .groups-left .result) (c .before .before .before .pre .2) (c .before .groups-left .ensures .2))
 
 add-result-2 : tie.Need-add-result-2
 add-result-2 c =
     let at-groups-left = c .before in let entry = at-groups-left .before .before in
-    omega (arith, left-product (entry .args .i) (entry .pre .2) (at-groups-left .groups-left .ensures .2), c .start-number .ensures .1)
+    omega (arith, quad-product (entry .args .i) (at-groups-left .groups-left .result) (entry .pre .2) (at-groups-left .groups-left .ensures .2), c .start-number .ensures .1)
 
 rem-result : tie.Need-rem-result
 rem-result c = search needs
