@@ -1,10 +1,9 @@
 -- THE AREAS' OWNERS: PBCH's area has the places that PBCH owns, a user's those that the user owns, in the same order and number; and both
 -- lie in the grid. Assumes nothing beyond the plan check's answer.
-use Prim.Native.Nat.{ℕ, zero, suc, _+_, _-_, _*_, _/_, _%_, _≤_, _<_}
+use Prim.Native.Nat.{ℕ, suc, _+_, _-_, _*_, _/_, _%_, _≤_, _<_}
 use mathlib.Core.Path.{_≡_, refl, sym, ap, ap₂, _∙_}
 use mathlib.Core.Bool.{Bool, true, false, not, _&&_}
-use mathlib.Core.List.{List, [], _∷_}
-use native.Mathlib.Nat.{not-suc-le-zero}
+use mathlib.Core.List.{List}
 use native.Mathlib.Omega.{arith}
 use lib.Dec.{leb, ltb}
 use lib.ListN.{length, getD}
@@ -21,10 +20,11 @@ use Rattle.plan.proofs.Listed.{every-at}
 use Rattle.plan.proofs.Valid.{valid}
 use Rattle.layout.specs.Rules.{slotLength, slotOf, middle, inPbchArea as areaTest}
 use Rattle.plan.specs.Fields.{controlSymbols}
-use Rattle.layout.specs.Owners.{symbols, carriers, blocksHave, userHas, owns}
+use Rattle.layout.specs.Owners.{symbols, carriers, blocksHave, owns}
 use Rattle.layout.specs.declared.Owner.the-variants.{Pbch, User as UserOf}
 use Rattle.layout.proofs.Pilot.{slot-length}
 use Rattle.counts.specs.Counts.{countOf}
+use Rattle.counts.proofs.UserElements.{has-at}
 use Rattle.places.specs.Places.{symbolAt, carrierAt, placesOf, ownsAt, placeOrder, indexBy, indexOf}
 use Rattle.places.proofs.Elements.{count-is}
 use Rattle.places.specs.Halves.{openPlace, openOfFour, inPbch, takenHalf, openTo}
@@ -54,13 +54,6 @@ regrouped false true true true t = refl
 regrouped false true true false t = refl
 regrouped false true false o t = refl
 regrouped false false y o t = refl
-
--- the user of a number, by its own blocks
-user-blocks : (us : List User) (i n k : ℕ) → i < length us → (d : User) → userHas us i n k ≡ blocksHave (getD us i d) n k
-unfolding userHas
-user-blocks [] i n k h d = absurd (not-suc-le-zero h)
-user-blocks (u ∷ us) zero n k h d = refl
-user-blocks (u ∷ us) (suc i) n k h d = user-blocks us i n k (omega arith) d
 
 module _ (w : List ℕ) (p : Plan) (ok : checkOf w ≡ accepted p) where
   abbrev L : ℕ
@@ -103,7 +96,7 @@ module _ (w : List ℕ) (p : Plan) (ok : checkOf w ≡ accepted p) where
         (regrouped (leb (controlSymbols (p .cell) (p .frame)) s) (leb (6 * (2 * u .first)) k) (ltb k (6 * (2 * (u .first + u .count)))) (openPlace (p .cell) s (k % 6))
         (not (takenHalf (p .cell) (p .frame) s (k / 6)))
         ∙ ap (λ (t : Bool). (t && leb (controlSymbols (p .cell) (p .frame)) s && not (takenHalf (p .cell) (p .frame) s (k / 6))) && openPlace (p .cell) s (k % 6))
-        (ap₂ _&&_ low high ∙ sym (user-blocks (usersOf w p) i (slotOf (p .cell) s) (6 * (k / 6)) in-i d))
+        (ap₂ _&&_ low high ∙ sym (has-at d (usersOf w p) i (slotOf (p .cell) s) (6 * (k / 6)) in-i))
         ∙ sym (user-places w p ok i s (k / 6) (k % 6) (omega arith))
         ∙ ap (owns w p (UserOf i) s) (split k))
       where

@@ -7,11 +7,8 @@ use native.Mathlib.Decide.{decLe, ℕ-discrete}
 use native.Mathlib.Omega.{arith}
 use lib.Dec.{eqb}
 use borrow.Author.Tests.{eq-eqb, eqb-true}
+use Rattle.base.specs.Counts.{someOf}
 use Rattle.base.proofs.Tests.{by-test, clash}
-
-abbrev pub someOf : (ℕ → Bool) → ℕ → Bool
-someOf test zero = false
-someOf test (suc n) = someOf test n || test n
 
 or-first : (a b : Bool) → a ≡ true → a || b ≡ true
 or-first a b e = rw e refl

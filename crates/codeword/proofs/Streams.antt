@@ -73,7 +73,7 @@ outputs-after : (r : Registers) (n i : ℕ) → outputs (after r n) i ≡ output
 unfolding outputs
 outputs-after r n i = ap outputOf (after-after r n i)
 
-word-after : (r : Registers) (n k : ℕ) → wordOf (after r n) k ≡ binary (outputs r) n k
+pub word-after : (r : Registers) (n k : ℕ) → wordOf (after r n) k ≡ binary (outputs r) n k
 unfolding wordOf outputs
 word-after r n k =
     binary-same (outputs (after r n)) (outputs r) 0 n k

@@ -2,11 +2,11 @@
 use Prim.Native.Nat.{ℕ, _+_, _*_, _/_, _≤_, _<_}
 use mathlib.Core.Path.{_≡_, sym, ap, _∙_}
 use native.Mathlib.Omega.{arith}
-use Rattle.plan.specs.Fields.{mappingUnits}
+use Rattle.plan.specs.Fields.{mappingUnits, symbolGroups}
 use Rattle.plan.specs.Valid.{CellIn}
 use Rattle.plan.specs.declared.Cell.{Cell}
 use Rattle.plan.proofs.Counts.{blocks-least, sixths-most, units-most}
-use Rattle.layout.specs.Rules.{symbolGroups, formatGroup, formatHas, pcfich, quadSymbol, quadGroup, mappingUnitHas, phich}
+use Rattle.layout.specs.Rules.{formatGroup, formatHas, pcfich, quadSymbol, quadGroup, mappingUnitHas, phich}
 use Rattle.layout.specs.Owners.{carriers}
 use Rattle.layout.proofs.Units.{units-fit}
 use Rattle.base.specs.Counts.{Listed}

@@ -20,7 +20,8 @@ use Rattle.codeword.specs.Codewords.{dataSymbol, cfiBit}
 use Rattle.codeword.specs.Streams.{outputs}
 use Rattle.plan.specs.Valid.{CellIn}
 use Rattle.plan.specs.declared.Cell.{Cell}
-use Rattle.layout.specs.Rules.{symbolGroups, formatGroup, pcfich, quadSymbol, quadGroup, phich}
+use Rattle.plan.specs.Fields.{symbolGroups}
+use Rattle.layout.specs.Rules.{formatGroup, pcfich, quadSymbol, quadGroup, phich}
 use Rattle.layout.proofs.GroupShape.{quad-low}
 use Rattle.places.specs.Quads.{quadsPlace}
 use Rattle.places.specs.Places.{symbolAt, carrierAt, placeNumber, placesOf}

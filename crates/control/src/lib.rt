@@ -9,7 +9,7 @@ ghost use Rattle.gold.specs.Sequence.{binary};
 ghost use Rattle.codeword.specs.Codewords.{cfiBit};
 ghost use Rattle.plan.specs.Valid.{CellIn};
 ghost use Rattle.phich.specs.Spreading.{spreadLength};
-ghost use Rattle.layout.specs.Rules.{symbolGroups};
+ghost use Rattle.plan.specs.Fields.{symbolGroups};
 ghost use Rattle.control.specs.Pairs.{PairIn, PcfichPair, unitPair};
 
 // Two symbols that are sent beside each other, the numbers of their places, two of a group's four, and which pair of antenna ports sends

@@ -36,7 +36,7 @@ use Rattle.plan.specs.CommandLists.{hisFrom, nextOf}
 use Rattle.plan.specs.declared.Cell.{Cell}
 use Rattle.plan.specs.declared.Hi.{Hi}
 use Rattle.plan.specs.declared.CommandList.{CommandList}
-use Rattle.plan.specs.Fields.{mappingUnits}
+use Rattle.plan.specs.Fields.{mappingUnits, symbolGroups}
 use Rattle.plan.proofs.Counts.{units-most}
 use Rattle.places.specs.Places.{placeNumber, placesOf}
 use Rattle.places.specs.Quads.{quadPlace}
@@ -47,7 +47,7 @@ use Rattle.control.proofs.His.{his-in}
 use Rattle.control.proofs.Listings.{place-inside, phich-groups}
 use Rattle.control_read.proofs.Packing.{Packed, push-ok, push-more, pushed-length, packed-none, packed-all}
 use Rattle.control.proofs.Words.{word-bits}
-use Rattle.layout.specs.Rules.{symbolGroups, quadSymbol, quadGroup}
+use Rattle.layout.specs.Rules.{quadSymbol, quadGroup}
 use Rattle.layout.proofs.GroupShape.{first-quad}
 
 -- ---- the first quads

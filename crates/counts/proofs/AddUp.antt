@@ -25,10 +25,10 @@ use Rattle.layout.proofs.Partition.{in-owners}
 use Rattle.layout.specs.declared.Mark.the-variants.{Primary, Secondary}
 use Rattle.layout.specs.declared.Owner.{Owner}
 use Rattle.layout.specs.declared.Owner.the-variants.{Crs, Sync, Pbch, Pcfich, Phich, User as UserOf, Held, Idle}
-use Rattle.counts.specs.Sums.{sumTo, sumOf}
+use Rattle.base.specs.Sums.{sumTo, sumOf}
 use Rattle.layout.proofs.OneOwner.{fit, one-owner}
 use Rattle.counts.specs.Counts.{countOf, kindOf, kinds, kindCount}
-use Rattle.counts.proofs.Sums.{sum-const, swap, list-same}
+use Rattle.base.proofs.Sums.{sum-const, swap, list-same}
 
 -- ---- no owner is in the list twice: it is in the order of these codes
 abbrev code : Owner → ℕ

@@ -22,10 +22,10 @@ use Rattle.base.specs.Choice.{if_then_else_}
 use Rattle.layout.specs.Owners.{above, owners}
 use Rattle.layout.specs.declared.Owner.{Owner}
 use Rattle.layout.specs.declared.Owner.the-variants.{Phich, User as UserOf}
-use Rattle.counts.specs.Sums.{sumOf}
+use Rattle.base.specs.Sums.{sumOf}
 use Rattle.counts.specs.Counts.{countOf, kindOf, kindCount}
 use Rattle.counts.specs.Users.{userElements, allElements, usersElements}
-use Rattle.counts.proofs.Sums.{list-append}
+use Rattle.base.proofs.Sums.{list-append}
 use Rattle.counts.proofs.UserElements.{user-elements}
 
 abbrev nobody : User

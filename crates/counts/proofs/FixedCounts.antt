@@ -8,23 +8,23 @@ use native.Mathlib.Omega.{arith}
 use lib.Dec.{leb, ltb, eqb}
 use borrow.Author.Tests.{lt-ltb}
 use Rattle.base.proofs.Tests.{by-test}
-use Rattle.plan.specs.Fields.{mappingUnits}
+use Rattle.plan.specs.Fields.{mappingUnits, symbolGroups}
 use Rattle.plan.specs.Check.{checkOf}
 use Rattle.plan.specs.declared.Plan.{Plan}
 use Rattle.plan.specs.declared.Checked.the-variants.{Plan as accepted}
 use Rattle.base.specs.Choice.{if_then_else_, indicator}
 use Rattle.plan.specs.declared.Cell.{Cell}
 use Rattle.plan.specs.declared.Frame.{Frame}
-use Rattle.layout.specs.Rules.{slotLength, inSlot, crsSymbol, crsBelow, centre, inPbchArea, pbch, symbolGroups, elementGroup, inGroup, formatHas, pcfich, mappingUnitHas, phich}
+use Rattle.layout.specs.Rules.{slotLength, inSlot, crsSymbol, crsBelow, centre, inPbchArea, pbch, elementGroup, inGroup, formatHas, pcfich, mappingUnitHas, phich}
 use Rattle.layout.specs.Owners.{symbols, carriers, fixedRule, owns}
 use Rattle.layout.proofs.Few.{blocks-least, sixths-most}
 use Rattle.layout.proofs.Pilot.{hits}
 use Rattle.layout.proofs.Units.{units-fit}
 use Rattle.layout.specs.declared.Owner.the-variants.{Pbch, Pcfich, Phich}
-use Rattle.counts.specs.Sums.{sumTo}
+use Rattle.base.specs.Sums.{sumTo}
 use Rattle.counts.specs.Counts.{countOf}
 use Rattle.counts.specs.Users.{signals}
-use Rattle.counts.proofs.Sums.{by-six, sum-same, sum-none, sum-times}
+use Rattle.base.proofs.Sums.{by-six, sum-same, sum-none, sum-times}
 use Rattle.counts.proofs.Signals.{refs, half-left}
 use Rattle.counts.proofs.Halves.{central, centre-half, twelve}
 use Rattle.counts.proofs.Groups.{pairs, four-formats, three-groups, group-row}

@@ -7,21 +7,22 @@ use native.Mathlib.Omega.{arith}
 use lib.Dec.{T, ltb, eqb, eqb→eq}
 use borrow.Author.Tests.{lt-ltb, le-ltb, eqb-true, eqb-false, ltb-true, ltb-false}
 use Rattle.base.proofs.Tests.{by-test}
-use Rattle.base.proofs.Some.{someOf, which-passed}
+use Rattle.base.specs.Counts.{someOf}
+use Rattle.base.proofs.Some.{which-passed}
 use Rattle.base.proofs.Computed.{allBelow, below-at}
-use Rattle.plan.specs.Fields.{mappingUnits}
+use Rattle.plan.specs.Fields.{mappingUnits, symbolGroups}
 use Rattle.plan.specs.declared.Cell.{Cell}
 use Rattle.plan.proofs.Listed.{and-left, and-right}
 use Rattle.base.specs.Choice.{indicator}
 use Rattle.base.specs.Counts.{cnt}
-use Rattle.layout.specs.Rules.{symbolGroups, elementGroup, inGroup, formatGroup, isFormat, formatHas, quadSymbol, groupsLeft, quadGroup, quadHas, mappingUnitHas}
+use Rattle.layout.specs.Rules.{elementGroup, inGroup, formatGroup, isFormat, formatHas, quadSymbol, groupsLeft, quadGroup, quadHas, mappingUnitHas}
 use Rattle.layout.specs.Owners.{symbols, carriers}
 use Rattle.layout.proofs.Pilot.{slot-length}
 use Rattle.layout.proofs.GroupShape.{by-size, first-groups, quad-low}
 use Rattle.layout.proofs.Groups.{format-small, format-once}
 use Rattle.layout.proofs.Units.{unit-small, units-apart, quads-some}
-use Rattle.counts.specs.Sums.{sumTo}
-use Rattle.counts.proofs.Sums.{sum-same, sum-none, sum-add, sum-times, cnt-sum, blocks}
+use Rattle.base.specs.Sums.{sumTo}
+use Rattle.base.proofs.Sums.{sum-same, sum-none, sum-add, sum-times, cnt-sum, blocks}
 
 -- ---- how many pairs (s, t), s below S and t below G s, pass a test
 one-hit : (n a : ℕ) → sumTo n (λ j. indicator (eqb j a)) ≡ indicator (ltb a n)

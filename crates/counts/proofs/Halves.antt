@@ -12,9 +12,9 @@ use Rattle.plan.specs.declared.User.{User}
 use Rattle.base.specs.Choice.{indicator}
 use Rattle.layout.specs.Rules.{middle, centre}
 use Rattle.layout.specs.Owners.{blocksHave}
-use Rattle.counts.specs.Sums.{sumTo}
+use Rattle.base.specs.Sums.{sumTo}
 use Rattle.counts.specs.Users.{halves}
-use Rattle.counts.proofs.Sums.{sum-same, sum-add}
+use Rattle.base.proofs.Sums.{sum-same, sum-add}
 
 -- a range whose ends are half blocks
 range : (a b c d j k : ℕ) → ((a ≤ k) → (c ≤ j)) → ((c ≤ j) → (a ≤ k)) → ((k < b) → (j < d)) → ((j < d) → (k < b)) → leb a k && ltb k b ≡ leb c j && ltb j d

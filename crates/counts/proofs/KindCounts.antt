@@ -31,12 +31,12 @@ use Rattle.layout.specs.Owners.{symbols, carriers, fixedRule, above, owns, owne
 use Rattle.layout.specs.declared.Mark.the-variants.{Primary, Secondary}
 use Rattle.layout.specs.declared.Owner.{Owner}
 use Rattle.layout.specs.declared.Owner.the-variants.{Crs, Sync, Pbch, Pcfich, Phich, User as UserOf, Held, Idle}
-use Rattle.counts.specs.Sums.{sumTo, sumOf}
+use Rattle.base.specs.Sums.{sumTo, sumOf}
 use Rattle.counts.specs.Counts.{countOf, kindOf, kindCount}
 use Rattle.counts.specs.Users.{signals}
 use Rattle.counts.specs.Kinds.{crsElements, syncElements, pbchElements, holes, heldElements}
 use Rattle.counts.proofs.Logic.{agree, agreed, implies, follows, everyWay, by-table}
-use Rattle.counts.proofs.Sums.{six, by-six, sum-same, sum-none, sum-const, sum-add, sum-times, list-append}
+use Rattle.base.proofs.Sums.{six, by-six, sum-same, sum-none, sum-const, sum-add, sum-times, list-append}
 use Rattle.counts.proofs.Halves.{within, in-range, lowered, parted, away}
 use Rattle.layout.proofs.Fixed.{used-centre}
 use Rattle.counts.proofs.AddUp.{kinds-add-up}

@@ -19,7 +19,7 @@ use Rattle.plan.proofs.Counts.{blocks-most}
 use Rattle.base.specs.Choice.{if_then_else_}
 use Rattle.layout.specs.Owners.{symbols, carriers}
 use Rattle.layout.proofs.Pilot.{slot-length}
-use Rattle.counts.specs.Sums.{sumTo}
+use Rattle.base.specs.Sums.{sumTo}
 use Rattle.counts.specs.Counts.{kinds, kindCount}
 use Rattle.counts.specs.Kinds.{crsElements, syncElements, pbchElements, holes, heldElements}
 use Rattle.counts.proofs.AddUp.{kinds-add-up}

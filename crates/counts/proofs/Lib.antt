@@ -1,6 +1,5 @@
 -- Laws that the proofs cite. For the crates above: UserElements, Shapes, UserSizes, AllUsers, AddUp, FixedCounts, KindCounts.
 pub mod Logic
-pub mod Sums
 pub mod Signals
 pub mod Halves
 pub mod UserElements

@@ -18,10 +18,10 @@ use Rattle.plan.specs.Fields.{controlSymbols}
 use Rattle.layout.proofs.Pilot.{slot-length}
 use Rattle.counts.specs.declared.SlotShape.{SlotShape}
 use Rattle.counts.specs.declared.Shape.{Shape}
-use Rattle.counts.specs.Sums.{sumTo}
+use Rattle.base.specs.Sums.{sumTo}
 use Rattle.counts.specs.Users.{signals, taken, centreHalves, halves, rowElements, userElements}
 use Rattle.counts.specs.Shape.{rowPlaces, centrePlaces, slotShape, shapeOf, slotCount, countBy, SlotIn, ShapeIn}
-use Rattle.counts.proofs.Sums.{sum-same, sum-add, sum-times, sum-most, sum-least, sum-parts}
+use Rattle.base.proofs.Sums.{sum-same, sum-add, sum-times, sum-most, sum-least, sum-parts}
 use Rattle.counts.proofs.Halves.{away}
 
 -- ---- a symbol: the user's places, and those that the centre keeps from it, v in each half block

@@ -11,10 +11,10 @@ use Rattle.base.specs.Choice.{indicator}
 use Rattle.plan.specs.declared.Cell.{Cell}
 use Rattle.layout.specs.Rules.{crsSymbol, crsBelow}
 use Rattle.layout.proofs.Pilot.{crsFirst, hits, not-both, first-pair, second-pair, no-pair}
-use Rattle.counts.specs.Sums.{sumTo}
+use Rattle.base.specs.Sums.{sumTo}
 use Rattle.counts.specs.Users.{signals}
 use Rattle.counts.proofs.Logic.{everyWay, by-table}
-use Rattle.counts.proofs.Sums.{six}
+use Rattle.base.proofs.Sums.{six}
 
 -- ---- by symbol
 module _ (c : Cell) (P s : ℕ) where

@@ -3,12 +3,13 @@
 use Prim.Native.Nat.{ℕ, zero, suc, _+_, _-_, _*_, _/_, _%_, _≤_, _<_}
 use mathlib.Core.Path.{_≡_, refl, sym, ap, _∙_}
 use mathlib.Core.Bool.{Bool, true, false, not, _&&_, _||_, and-false}
-use mathlib.Core.List.{List, [], _∷_}
-use native.Mathlib.Nat.{not-suc-le-zero, le-of-suc-le-suc, mul-comm}
+use mathlib.Core.List.{List}
+use native.Mathlib.Nat.{mul-comm}
 use native.Mathlib.Omega.{arith}
 use lib.Dec.{T, leb, ltb, eqb}
 use lib.ListN.{length, getD}
 use borrow.Author.Tests.{lt-ltb, le-ltb, le-leb, lt-leb, ltb-true, ltb-false}
+use Rattle.base.proofs.Passing.{passes-is}
 use Rattle.base.proofs.Tests.{by-test, clash}
 use Rattle.base.specs.Tables.{table}
 use Rattle.plan.specs.Lists.{noneOf}
@@ -25,14 +26,15 @@ use Rattle.plan.proofs.Listed.{every-at}
 use Rattle.plan.proofs.Valid.{valid}
 use Rattle.base.specs.Choice.{indicator}
 use Rattle.layout.specs.Rules.{slotLength, slotOf, crs, crsBelow, crsOfFour, crsAny, marked, centre, used, pss, sss, inSyncArea, heldBySync, inPbchArea, pbch, heldByPbch, held}
-use Rattle.layout.specs.Owners.{symbols, carriers, fixedRule, above, free, userHas, userRule, blocksHave, owns}
+use Rattle.layout.specs.Owners.{symbols, carriers, fixedRule, above, free, userRule, blocksHave, owns}
+use Rattle.layout.specs.Chain.{userHas}
 use Rattle.layout.specs.declared.Owner.{Owner}
 use Rattle.layout.specs.declared.Owner.the-variants.{Phich, User as UserOf}
-use Rattle.counts.specs.Sums.{sumTo}
+use Rattle.base.specs.Sums.{sumTo}
 use Rattle.counts.specs.Counts.{countOf}
 use Rattle.counts.specs.Users.{signals, taken, rowElements, userElements}
 use Rattle.counts.proofs.Logic.{by-table, agree, agreed}
-use Rattle.counts.proofs.Sums.{sum-same, sum-none, sum-times, by-six}
+use Rattle.base.proofs.Sums.{sum-same, sum-none, sum-times, by-six}
 use Rattle.layout.proofs.Fixed.{used-centre}
 use Rattle.layout.proofs.Pilot.{hits}
 use Rattle.layout.proofs.ControlRegion.{AfterRegion, after-region}
@@ -88,11 +90,8 @@ module _ (c : Cell) (f : Frame) (s k : ℕ) (late : AfterRegion c s) where
       area-free ∙ ap (λ (x : Bool). not (crsAny c s k) && not x) (sym (spread (marked f && t) b (centre c k)))
 
 -- ---- the user's rule in a symbol after the control region, by half block and k mod 6
-has-at : (d : User) (us : List User) (i n k : ℕ) → i < length us → userHas us i n k ≡ blocksHave (getD us i d) n k
-unfolding userHas
-has-at d [] i n k l = absurd (not-suc-le-zero l)
-has-at d (u ∷ us) zero n k l = refl
-has-at d (u ∷ us) (suc i) n k l = has-at d us i n k (le-of-suc-le-suc l)
+pub has-at : (d : User) (us : List User) (i n k : ℕ) → i < length us → userHas us i n k ≡ blocksHave (getD us i d) n k
+has-at d us i n k l = passes-is (λ (u : User). blocksHave u n k) d us i l
 
 shuffle : (a q z : Bool) → a && true && (not q && not z) ≡ a && not z && not q
 shuffle a q z = agreed _ _ (by-table 3 (λ a q z. agree (a && true && (not q && not z)) (a && not z && not q)) tt a q z)

@@ -31,10 +31,10 @@ use Rattle.layout.proofs.Pilot.{slot-length, slot-short, late-unused}
 use Rattle.plan.proofs.ControlRegion.{region-six}
 use Rattle.layout.proofs.ControlRegion.{region-before-sync}
 use Rattle.layout.specs.declared.Owner.the-variants.{User as UserOf}
-use Rattle.counts.specs.Sums.{sumTo, sumOf}
+use Rattle.base.specs.Sums.{sumTo, sumOf}
 use Rattle.counts.specs.Counts.{countOf}
 use Rattle.counts.specs.Users.{signals, taken, halves, rowElements, userElements, allElements, usersElements}
-use Rattle.counts.proofs.Sums.{sum-none, sum-even, sum-most, sum-parts, swap}
+use Rattle.base.proofs.Sums.{sum-none, sum-even, sum-most, sum-parts, swap}
 use Rattle.counts.proofs.Signals.{signals-pair, signals-other}
 use Rattle.counts.proofs.Halves.{within, in-range, halves-most}
 use Rattle.counts.proofs.UserElements.{user-elements}

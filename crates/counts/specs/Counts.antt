@@ -9,7 +9,7 @@ use Rattle.layout.specs.Owners.{symbols, carriers, owns, owners}
 use Rattle.layout.specs.declared.Mark.the-variants.{Primary, Secondary}
 use Rattle.layout.specs.declared.Owner.{Owner}
 use Rattle.layout.specs.declared.Owner.the-variants.{Crs, Sync, Pbch, Pcfich, Phich, User as UserOf, Held, Idle}
-use Rattle.counts.specs.Sums.{sumTo, sumOf}
+use Rattle.base.specs.Sums.{sumTo, sumOf}
 
 -- document 01's element count, a user's G: "its element count (a user's G) is the number of its places, ports not multiplied": the
 -- places (s, k), s < S and k < 12N, at which the owner's rule holds

@@ -1,4 +1,3 @@
-pub mod Sums
 pub mod Counts
 pub mod Users
 pub mod Shape

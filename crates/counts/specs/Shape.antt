@@ -10,7 +10,7 @@ use Rattle.layout.specs.Rules.{slotLength}
 use Rattle.plan.specs.Fields.{controlSymbols}
 use Rattle.counts.specs.declared.SlotShape.{SlotShape}
 use Rattle.counts.specs.declared.Shape.{Shape}
-use Rattle.counts.specs.Sums.{sumTo}
+use Rattle.base.specs.Sums.{sumTo}
 use Rattle.counts.specs.Users.{signals, taken, centreHalves}
 
 -- the places of six subcarriers in symbol s that users can have, and the same of a symbol whose centre is taken

@@ -13,7 +13,7 @@ use Rattle.base.specs.Choice.{if_then_else_, indicator}
 use Rattle.layout.specs.Rules.{slotLength, crsSymbol, marked}
 use Rattle.plan.specs.Fields.{controlSymbols}
 use Rattle.layout.specs.Owners.{symbols}
-use Rattle.counts.specs.Sums.{sumTo, sumOf}
+use Rattle.base.specs.Sums.{sumTo, sumOf}
 
 -- how many of six subcarriers in a row have reference signals: each of the ports 0 to 3 below P that uses symbol s has one of the six
 unfoldable pub signals : Cell → ℕ → ℕ → ℕ

@@ -89,11 +89,11 @@ holes-on d l m s =
 
 -- ---- a run
 -- on one port, what stands at a place is the symbol alone
-one-place : {T portPair odd q u : ℕ} {g : List ℕ} (s t : ℕ) → Own q u (elementIn g s) → PlaceRight 1 T portPair odd q u g s t
+pub one-place : {T portPair odd q u : ℕ} {g : List ℕ} (s t : ℕ) → Own q u (elementIn g s) → PlaceRight 1 T portPair odd q u g s t
 unfolding ownPort
 one-place {T} s t w = let e : 0 * T + s ≡ s = omega (arith, zero-mul T) in record { own = rw e w; other = λ n. absurd (n refl) }
 
-place-one : {T portPair odd q u : ℕ} {g : List ℕ} (s t : ℕ) → PlaceRight 1 T portPair odd q u g s t → Own q u (elementIn g s)
+pub place-one : {T portPair odd q u : ℕ} {g : List ℕ} (s t : ℕ) → PlaceRight 1 T portPair odd q u g s t → Own q u (elementIn g s)
 unfolding ownPort
 place-one {T} s t w = let e : 0 * T + s ≡ s = omega (arith, zero-mul T) in rw e at (w .own)
 

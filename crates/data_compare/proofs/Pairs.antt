@@ -20,7 +20,7 @@ use Rattle.data_compare.specs.declared.Form.{Form}
 use Rattle.data_compare.specs.declared.Sums.{Sums}
 use Rattle.data_compare.specs.declared.Starts.{Starts}
 use Rattle.data_compare.specs.Tests.{noSums, sumsWith, toldBy}
-use Rattle.data_compare.specs.Places.{PairRight, Right, Starting, PairAt, PairsSeen, Pairs, RunSeen}
+use Rattle.data_compare.specs.Places.{PairRight, RightAt, Starting, PairAt, PairsSeen, Pairs, RunSeen}
 use Rattle.data_compare.proofs.Telling.{tells-none, tells-more, tells-both}
 use Rattle.data_compare.proofs.Numbers.{Both, Partners, sums-right, sums-none}
 
@@ -110,16 +110,12 @@ pub pairs-end :
 pairs-end {P} {T} {gap} {j} {start} {step} {m} {i = i} {f = f} {g = g} {s = s} d l e =
     let z : i ≡ m = omega (arith, d .few) in rw e (subst (λ (x : ℕ). PairsSeen P T gap j start step x f g (toldBy f s)) z (d .done))
 
--- ---- the pairs are those of two indices each
-module _ {own : ℕ → Bool} {T gap j start step m : ℕ} (even : j % 2 ≡ 0) (a : PairsAt own T j start step gap m) (i : ℕ) (l : i < m) where
+-- ---- pair i of them is that of two indices, whose places stand as the pair does
+module _
+    (place : ℕ → ℕ) (T gap j start step i : ℕ) (even : j % 2 ≡ 0) (first-at : place (j + 2 * i) ≡ start + step * i)
+    (second-at : place (j + 2 * i + 1) ≡ start + step * i + gap) where
   abbrev k : ℕ
   k = j + 2 * i
-
-  first-at : nth own T k ≡ start + step * i
-  first-at = ap (nth own T) (sym (a .even i l)) ∙ nth-of own T (start + step * i) (a .first i l) (omega (arith, a .within i l))
-
-  second-at : nth own T (k + 1) ≡ start + step * i + gap
-  second-at = ap (nth own T) (sym (a .odd i l)) ∙ nth-of own T (start + step * i + gap) (a .second i l) (a .within i l)
 
   next : j + (2 * i + 1) ≡ k + 1
   next = omega arith
@@ -139,19 +135,31 @@ module _ {own : ℕ → Bool} {T gap j start step m : ℕ} (even : j % 2 ≡ 0) 
   second-odd : (k + 1) % 2 ≡ 1
   second-odd = omega arith
 
-  pub pair-indices : {P q u : ℕ} {g : List ℕ} → PairAt P T gap j start step q u g i → Right own P T q u g (j + 2 * i) × Right own P T q u g (j + (2 * i + 1))
+  pub pair-indices : {P q u : ℕ} {g : List ℕ} → PairAt P T gap j start step q u g i → RightAt place P T q u g (j + 2 * i) × RightAt place P T q u g (j + (2 * i + 1))
   pair-indices p = (rw (after, first-even, first-at, second-at) (p .0), rw (next, back, half, second-odd, first-at, second-at) (p .1))
 
-  pub indices-pair : {P q u : ℕ} {g : List ℕ} → Right own P T q u g (j + 2 * i) → Right own P T q u g (j + (2 * i + 1)) → PairAt P T gap j start step q u g i
+  pub indices-pair : {P q u : ℕ} {g : List ℕ} → RightAt place P T q u g (j + 2 * i) → RightAt place P T q u g (j + (2 * i + 1)) → PairAt P T gap j start step q u g i
   indices-pair v w = (rw (after, first-even, first-at, second-at) at v, rw (next, back, half, second-odd, first-at, second-at) at w)
+
+-- of a channel that has the places `own`
+module _ {own : ℕ → Bool} {T gap j start step m : ℕ} (a : PairsAt own T j start step gap m) (i : ℕ) (l : i < m) where
+  first-own : nth own T (j + 2 * i) ≡ start + step * i
+  first-own = ap (nth own T) (sym (a .even i l)) ∙ nth-of own T (start + step * i) (a .first i l) (omega (arith, a .within i l))
+
+  second-own : nth own T (j + 2 * i + 1) ≡ start + step * i + gap
+  second-own = ap (nth own T) (sym (a .odd i l)) ∙ nth-of own T (start + step * i + gap) (a .second i l) (a .within i l)
 
 -- ---- a run, by its form
 pub run-seen :
     {P T gap start step m j r : ℕ} {run : Run} {f : Form} {g : List ℕ} → RunIn P T j run g → RunPairs run gap start step m
     → PairsSeen P T gap j start step m f g r → RunSeen P T j run f g r
-run-seen {T = T} {j = j} h p d =
+run-seen {T = T} {gap = gap} {start = start} {step = step} {j = j} h p d =
     record {
       seen = λ own q u laid o.
           let a = laid-pairs p laid in
-          rw (run-total p) (tells-both (λ i l. pair-indices (h .even) a i l) (λ i l. indices-pair (h .even) a i l) (d .seen q u o));
+          rw (run-total p)
+          (tells-both
+          (λ i l. pair-indices (nth own T) T gap j start step i (h .even) (first-own a i l) (second-own a i l))
+          (λ i l. indices-pair (nth own T) T gap j start step i (h .even) (first-own a i l) (second-own a i l))
+          (d .seen q u o));
     }

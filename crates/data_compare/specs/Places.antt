@@ -29,9 +29,12 @@ pub record PlaceRight (P T portPair odd q u : ℕ) (g : List ℕ) (s t : ℕ) : 
 abbrev pub PairRight : ℕ → ℕ → ℕ → ℕ → ℕ → List ℕ → ℕ → ℕ → Type 0
 PairRight P T portPair q u g s t = PlaceRight P T portPair 0 q u g s t × PlaceRight P T portPair 1 q u g t s
 
--- what stands at index j of a channel that has the places `own`
+-- what stands at index j of a channel, whose place is `place j`; and of one that has the places `own`, in ascending order
+abbrev pub RightAt : (ℕ → ℕ) → ℕ → ℕ → ℕ → ℕ → List ℕ → ℕ → Type 0
+RightAt place P T q u g j = PlaceRight P T (j / 2 % 2) (j % 2) q u g (place j) (place (partnerIndex j))
+
 abbrev pub Right : (ℕ → Bool) → ℕ → ℕ → ℕ → ℕ → List ℕ → ℕ → Type 0
-Right own P T q u g j = PlaceRight P T (j / 2 % 2) (j % 2) q u g (nth own T j) (nth own T (partnerIndex j))
+Right own P T q u g j = RightAt (nth own T) P T q u g j
 
 -- ---- pairs. Where pair i of a loop stands, and the next one, in bytes
 pub record RoundAt (P T j start step at next i : ℕ) : Type 0 where

@@ -21,13 +21,13 @@ ghost use Rattle.data_compare.specs.Places.{Starting, PairsSeen, PlacesS
 
 // What elements of an order and a unit have in common, for two elements as one number: `fixed` where `fixes` has bits, that is the
 // unit's byte and that levels are odd; and a level's bits from `same` on are alike, so that it is one of the order.
-struct Form {
-    same: u64,
-    fixed: u64,
-    fixes: u64,
+pub struct Form {
+    pub same: u64,
+    pub fixed: u64,
+    pub fixes: u64,
 }
 
-fn form_of(q: u32, byte: u8) -> Form
+pub fn form_of(q: u32, byte: u8) -> Form
     requires { ⌜ Order q ⌝ }
     ensures { λ r. ⌜ FormOf q byte r ⌝ }
 {
@@ -40,21 +40,21 @@ fn form_of(q: u32, byte: u8) -> Form
 }
 
 // The bits in which two elements are not of a form.
-fn wrong(f: Form, x: u64) -> u64
+pub fn wrong(f: Form, x: u64) -> u64
     ensures { λ r. ⌜ r ≡ wrongOf f x ⌝ }
 {
     (x ^ x / 2) & f.same | (x ^ f.fixed) & f.fixes
 }
 
 // Bits that were found in pairs, before those of the form are taken.
-struct Sums {
-    fixed: u64,
-    same: u64,
-    bad: u64,
+pub struct Sums {
+    pub fixed: u64,
+    pub same: u64,
+    pub bad: u64,
 }
 
 // One pair more: x on its own port, y on the other, where the partners must stand.
-fn with_pair(f: Form, s: Sums, x: u64, y: u64) -> Sums
+pub fn with_pair(f: Form, s: Sums, x: u64, y: u64) -> Sums
     requires { ⌜ x < 281474976710656 ⌝ }
     ensures { λ r. ⌜ r ≡ sumsWith f s x y ⌝ }
 {
@@ -67,20 +67,20 @@ fn with_pair(f: Form, s: Sums, x: u64, y: u64) -> Sums
 }
 
 // The bits in which the pairs are wrong.
-fn told(f: Form, s: Sums) -> u64
+pub fn told(f: Form, s: Sums) -> u64
     ensures { λ r. ⌜ r ≡ toldBy f s ⌝ }
 {
     s.bad | s.same & f.same | s.fixed & f.fixes
 }
 
 // Where the first pair and the next one begin, in bytes, and how far the other port is.
-struct Starts {
-    at: usize,
-    next: usize,
-    across: usize,
+pub struct Starts {
+    pub at: usize,
+    pub next: usize,
+    pub across: usize,
 }
 
-fn starts_of(ports: u8, places: usize, j: usize, start: usize, step: usize) -> Starts
+pub fn starts_of(ports: u8, places: usize, j: usize, start: usize, step: usize) -> Starts
     requires { ⌜ PairsFit ports places j start step ⌝ }
     ensures { λ r. ⌜ Starting ports places j start step r ⌝ }
 {
@@ -284,7 +284,7 @@ fn compare_runs(f: Form, grid: &[u8], a: Area, rows: &[u8; 45], spans: &[u8; 512
 }
 
 // The bytes of n places that are not 0, where no level is 0: three on each port with a term.
-fn weight_of(ports: u8, n: usize) -> usize
+pub fn weight_of(ports: u8, n: usize) -> usize
     requires { ⌜ n ≤ 16800 ⌝ }
     ensures { λ r. ⌜ r ≡ cond (eqb ports 1) 3 6 * n ⌝ }
 {

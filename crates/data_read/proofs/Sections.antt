@@ -1,26 +1,18 @@
 -- THE AREA, run after run, from its tables to its places, and its section. Assumes what reading an area needs.
-use Prim.Native.Nat.{ℕ, _+_, _-_, _*_, _/_, _%_, _^_, _≤_, _<_}
+use Prim.Native.Nat.{ℕ, _+_, _-_, _*_, _/_, _%_, _≤_, _<_}
 use mathlib.Core.Path.{_≡_, refl, sym, ap, ap₂, _∙_, subst}
-use mathlib.Core.Bool.{true, cond}
+use mathlib.Core.Bool.{cond}
 use mathlib.Core.List.{List}
-use native.Mathlib.Nat.{zero-add, mul-zero, mul-comm, mod-eq-of-lt}
+use native.Mathlib.Nat.{zero-add, mul-zero}
 use native.Mathlib.Omega.{arith}
 use lib.Dec.{eqb}
-use lib.ListN.{length, getD}
-use Rattle.base.specs.Bytes.{pairOf}
-use Rattle.base.specs.Digits.{dig, dig-two}
-use Rattle.base.proofs.Bytes.{level-back}
+use lib.ListN.{length}
+use Rattle.base.specs.Digits.{dig-two}
 use Rattle.base.proofs.Counts.{nth-of}
-use Rattle.base.proofs.Rows.{at-div, at-mod}
 use Rattle.base.proofs.Tables.{filled}
 use Rattle.gold.specs.declared.Registers.{Registers}
 use Rattle.gold.specs.Sequence.{binary}
-use Rattle.gold.proofs.Window.{spelled}
 use Rattle.modulation.specs.Demapping.{demapOf}
-use Rattle.modulation.specs.Marks.{markOf, isSymbol}
-use Rattle.modulation.proofs.Constellation.{known-each}
-use Rattle.modulation.proofs.Marks.{bits-told}
-use Rattle.modulation.proofs.Symbols.{demap-only}
 use Rattle.codeword.specs.Codewords.{scrambled}
 use Rattle.codeword.specs.Streams.{outputs}
 use Rattle.precoding.specs.Places.{ownPort}
@@ -28,10 +20,6 @@ use Rattle.layout.specs.Owners.{symbols, carriers}
 use Rattle.payload.specs.Sections.{sectionBytes}
 use Rattle.places.specs.Places.{placesOf}
 use Rattle.recovery.specs.Recovery.{wordOf, sectionOf}
-use Rattle.element_pairs.specs.Numbers.{elementFrom}
-use Rattle.constellation.specs.Axis.{wordOf as tableWord}
-use Rattle.constellation.specs.Entries.{elementNumber}
-use Rattle.constellation.proofs.Axes.{word-back}
 use Rattle.section_bits.specs.Gathering.{upTo, Bits, bitsIn, Begun, Flushed}
 use Rattle.walk.specs.declared.Cursor.{Cursor}
 use Rattle.walk.specs.declared.Run.{Run}
@@ -46,6 +34,7 @@ use Rattle.data_compare.specs.Symbols.{areaPlace, areaSymbol}
 use Rattle.data_read.specs.Reading.{areaBit, AreaReads}
 use Rattle.data_read.specs.Runs.{Stands, Reading, ReadOn, runElement, RunRead}
 use Rattle.data_read.specs.Areas.{symbolElement, sentBit, RunsIn, Going}
+use Rattle.data_read.proofs.SymbolBits.{known-stands}
 use Rattle.data_read.proofs.Gatherings.{read-none, read-later, read-join}
 
 -- ---- run after run
@@ -102,52 +91,12 @@ module _ {a : Area} {q : ℕ} {rows spans d g st part : List ℕ} (h : RunsIn a 
         subst (λ (x : ℕ). ReadOn q 0 x (symbolElement a) d g st part st′ part′) (area-count (h .runs) es ew ep (k .cursor) m) (k .read)
 
 -- ---- bits of a constellation point
--- by the table they are those that recovery takes
 module _ {a : Area} {q : ℕ} {d masks g : List ℕ} (h : AreaReads a q d masks g) where
-  word-known : (v : ℕ) → isSymbol q (pairOf (elementFrom v)) ≡ true → (tableWord d v ≡ wordOf (demapOf q (pairOf (elementFrom v)))) × (wordOf (demapOf q (pairOf (elementFrom v))) < 2 ^ q)
-  unfolding pairOf elementFrom elementNumber
-  word-known v s =
-      let o = h .section .area .order in
-      let p = pairOf (elementFrom v) in
-      let k = known-each q (elementFrom v) s in
-      let b = bits-told q (o .0) (p .re) (p .im) (k .0) (k .1) (markOf (q / 2) (p .re)) (markOf (q / 2) (p .im)) refl refl in
-      let w : ℕ = 2 * markOf (q / 2) (p .re) + markOf (q / 2) (p .im) in
-      let f = demap-only q p w (b .0) in
-      let i = level-back (v / 256 % 256) (omega arith) in
-      let j = level-back (v / 65536 % 256) (omega arith) in
-      let n : v % 16777216 ≡ elementNumber (v % 256) p = rw (i, j) (omega arith) in
-      let x : v / 256 % 32 ≡ v % 16777216 / 256 % 32 = omega arith in
-      let y : v / 65536 % 32 ≡ v % 16777216 / 65536 % 32 = omega arith in
-      let e : wordOf (demapOf q p) ≡ w = ap wordOf (b .0) in (
-        ap₂ (λ (s t : ℕ). 2 * getD d s 0 + getD d t 0) x y
-            ∙ word-back (h .axis) (o .0) (omega (arith, o .2)) (v % 256) w (v % 16777216) (omega arith) (n ∙ ap (elementNumber (v % 256)) (sym (f .0)))
-            ∙ mod-eq-of-lt (b .1) ∙ sym e,
-        rw e (b .1),
-      )
-
-  -- a symbol's
-  sent-word : (j : ℕ) → wordOf (demapOf q (areaSymbol a g j)) < 2 ^ q → binary (sentBit a q g) (q * j) q ≡ wordOf (demapOf q (areaSymbol a g j))
-  unfolding sentBit
-  sent-word j l =
-      let z = wordOf (demapOf q (areaSymbol a g j)) in
-      sym (spelled (sentBit a q g) (q * j) q z
-      (λ i m e.
-      let n : q - 1 - i ≡ m = omega arith in
-      ap (dig z) (sym n)
-      ∙ sym (ap₂ (λ (x y : ℕ). dig (wordOf (demapOf q (areaSymbol a g x))) (q - 1 - y))
-      (ap (λ (y : ℕ). (y + i) / q) (mul-comm q j) ∙ at-div j q i (omega arith))
-      (ap (λ (y : ℕ). (y + i) % q) (mul-comm q j) ∙ at-mod j q i (omega arith)))))
-      ∙ mod-eq-of-lt l
-
   stands : (j : ℕ) → j < areaCount a → Stands q d g (sentBit a q g) (0 + j) (symbolElement a j)
-  unfolding areaSymbol
+  unfolding areaSymbol sentBit
   stands j l =
-      record {
-        word = λ v e.
-            let s : areaSymbol a g j ≡ pairOf (elementFrom v) = ap pairOf e in
-            let k = word-known v (ap (isSymbol q) (sym s) ∙ h .section .known j l) in
-            k .0 ∙ sym (ap (λ (p : _). wordOf (demapOf q p)) s) ∙ sym (sent-word j (rw s (k .1))) ∙ ap (λ (x : ℕ). binary (sentBit a q g) (q * x) q) (sym (zero-add j));
-      }
+      subst (λ (x : ℕ). Stands q d g (sentBit a q g) x (symbolElement a j)) (sym (zero-add j))
+      (known-stands (h .section .area .order) (h .axis) (areaSymbol a g) j refl (h .section .known j l))
 
   sent-two : Bits (sentBit a q g)
   unfolding sentBit

@@ -1,17 +1,14 @@
 -- For the inner contracts and loops only: an area's symbols as its runs are read.
-use Prim.Native.Nat.{ℕ, _+_, _-_, _*_, _/_, _%_}
+use Prim.Native.Nat.{ℕ, _+_, _*_, _/_}
 use mathlib.Core.List.{List}
-use Rattle.base.specs.Digits.{dig}
-use Rattle.modulation.specs.Demapping.{demapOf}
 use Rattle.precoding.specs.Places.{ownPort}
 use Rattle.places.specs.Places.{placesOf}
-use Rattle.recovery.specs.Recovery.{wordOf}
 use Rattle.walk.specs.declared.Cursor.{Cursor}
 use Rattle.areas.specs.declared.Area.{Area}
 use Rattle.areas.specs.Areas.{areaCount}
 use Rattle.areas.specs.Runs.{AreaRuns, AreaAt}
 use Rattle.data_compare.specs.Symbols.{areaPlace, areaSymbol}
-use Rattle.data_read.specs.Runs.{Reading, ReadOn}
+use Rattle.data_read.specs.Runs.{symbolBit, Reading, ReadOn}
 
 -- the element of symbol j, on the port that sends the symbol itself
 abbrev pub symbolElement : Area → ℕ → ℕ
@@ -19,7 +16,7 @@ symbolElement a j = ownPort (a .cell .ports) (j / 2) * placesOf (a .cell) + area
 
 -- bit i of its symbols as they stand in the grid, still scrambled
 unfoldable pub sentBit : Area → ℕ → List ℕ → ℕ → ℕ
-sentBit a q g i = dig (wordOf (demapOf q (areaSymbol a g (i / q)))) (q - 1 - i % q)
+sentBit a q g i = symbolBit q (areaSymbol a g) i
 
 -- what all runs of an area need
 pub record RunsIn (a : Area) (q : ℕ) (rows spans d grid st part : List ℕ) : Type 0 where

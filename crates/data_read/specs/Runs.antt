@@ -1,11 +1,15 @@
 -- For the inner contracts and loops only: places of a channel, whatever channel it is, whose symbols' bits go into a section one after the other.
-use Prim.Native.Nat.{ℕ, _+_, _*_, _/_, _%_, _^_, _≤_, _<_}
+use Prim.Native.Nat.{ℕ, _+_, _-_, _*_, _/_, _%_, _^_, _≤_, _<_}
 use mathlib.Core.Path.{_≡_}
 use mathlib.Core.List.{List}
 use lib.ListN.{length}
+use Rattle.base.specs.declared.Pair.{Pair}
+use Rattle.base.specs.Digits.{dig}
 use Rattle.gold.specs.declared.Registers.{Registers}
 use Rattle.gold.specs.Sequence.{binary}
 use Rattle.modulation.specs.Symbols.{Order}
+use Rattle.modulation.specs.Demapping.{demapOf}
+use Rattle.recovery.specs.Recovery.{wordOf as demapped}
 use Rattle.precoding.specs.Places.{ownPort}
 use Rattle.constellation.specs.Axis.{Axis, wordOf}
 use Rattle.grid.specs.Elements.{elementIn}
@@ -23,6 +27,10 @@ pub record Table (q : ℕ) (d : List ℕ) : Type 0 where
 -- the bits of two elements that are one number
 abbrev pub bothOf : ℕ → List ℕ → ℕ → ℕ
 bothOf q d v = wordOf d v * 2 ^ q + wordOf d (upper v)
+
+-- bit i of symbols of q bits each
+abbrev pub symbolBit : ℕ → (ℕ → Pair) → ℕ → ℕ
+symbolBit q symbol i = dig (demapped (demapOf q (symbol (i / q)))) (q - 1 - i % q)
 
 -- by the table, the symbol k of the bits b is that of element e
 pub record Stands (q : ℕ) (d g : List ℕ) (b : ℕ → ℕ) (k e : ℕ) : Type 0 where

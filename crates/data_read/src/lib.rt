@@ -32,7 +32,7 @@ fn two_symbols(d: &[u8; 32], q: u64, v: u64) -> u64
 }
 
 // The bits of two pairs of symbols.
-fn four(d: &[u8; 32], q: u64, x: u64, y: u64) -> u64
+pub fn four(d: &[u8; 32], q: u64, x: u64, y: u64) -> u64
     requires { ⌜ Table q (now d) ⌝ }
     ensures { λ w. ⌜ (w ≡ bothOf q (now (d .entry)) x * 2 ^ (2 * q) + bothOf q (now (d .entry)) y) × (w < 2 ^ (4 * q)) ⌝ }
 {

@@ -26,7 +26,7 @@ ghost use Rattle.data_write.specs.Areas.{RunsIn, RunsDone, FillIn, AreaF
 
 // Four symbols, those of the lowest 4q bits of z, at two pairs of places, at bytes `at` and `next` of their own ports and `across` further on the
 // others. The table is read before the grid is written, since the compiler cannot tell the two apart.
-fn round(z: u64, q: u64, t: &[u32; 256], grid: &mut [u8], at: usize, next: usize, across: usize)
+pub fn round(z: u64, q: u64, t: &[u32; 256], grid: &mut [u8], at: usize, next: usize, across: usize)
     requires { ⌜ RoundIn 1 q at next across (now grid) ⌝ }
     ensures { λ _. ⌜ RoundDone 1 z q (now (t .entry)) at next across (now (grid .entry)) (now (grid .exit)) ⌝ }
 {
@@ -41,7 +41,7 @@ fn round(z: u64, q: u64, t: &[u32; 256], grid: &mut [u8], at: usize, next: usize
 }
 
 // The same where a hole is between the two places of a pair.
-fn round_apart(
+pub fn round_apart(
     z: u64,
     q: u64,
     t: &[u32; 256],

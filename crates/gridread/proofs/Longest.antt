@@ -22,7 +22,7 @@ use Rattle.plan.proofs.Answers.{no-number}
 use Rattle.plan.proofs.Valid.{valid}
 use Rattle.plan.proofs.Counts.{his-most, users-most}
 use Rattle.base.specs.Choice.{if_then_else_}
-use Rattle.counts.specs.Sums.{sumOf}
+use Rattle.base.specs.Sums.{sumOf}
 use Rattle.counts.specs.Users.{allElements}
 use Rattle.counts.proofs.UserSizes.{users-few}
 use Rattle.payload.specs.Sections.{bytesOf}

@@ -7,15 +7,13 @@ use Rattle.base.specs.Bits.{bitAt}
 use Rattle.base.specs.Counts.{cnt, nth}
 use Rattle.plan.specs.Lists.{oneOf, noneOf}
 use Rattle.plan.specs.Commands.{cellWith, cellxOf, frameOf, hiOf, entries, entryIn, sizeOf, commandOf, commandsAfter}
-use Rattle.plan.specs.Fields.{cellOk, frameOk, controlSymbols, phichFits, mappingUnits, phichGroups, sequencesOf, hiOk, samePair}
+use Rattle.plan.specs.Fields.{cellOk, frameOk, controlSymbols, phichFits, mappingUnits, phichGroups, sequencesOf, hiOk, samePair, groupSize, symbolGroups}
 use Rattle.plan.specs.Check.{begin, hiFault, fault, stateAfter, planOf, run, checkOf}
 use Rattle.plan.specs.declared.Checked.the-variants.{Plan as accepted}
 use Rattle.plan.specs.CommandLists.{commandsFrom, usersOf}
 use Rattle.layout.specs.Rules.{
   slotLength,
   marked,
-  groupSize,
-  symbolGroups,
   formatGroup,
   isFormat,
   formatHas,
@@ -26,7 +24,7 @@ use Rattle.layout.specs.Rules.{
   quadNumber,
   quadGroup,
 }
-use Rattle.counts.specs.Sums.{sumOf}
+use Rattle.base.specs.Sums.{sumOf}
 use Rattle.counts.specs.Counts.{kinds, kindCount}
 use Rattle.counts.specs.Users.{allElements, usersElements}
 use Rattle.counts.specs.Kinds.{crsElements, syncElements, pbchElements, holes, heldElements}

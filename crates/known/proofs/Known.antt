@@ -2,7 +2,8 @@
 use mathlib.Core.Path.{refl}
 use Rattle.base.specs.Digits.{dig}
 use Rattle.base.specs.Tables.{table}
-use Rattle.layout.specs.Rules.{groupSize, symbolGroups, formatGroup, isFormat, formatHas, quadSymbol, isLeft, groupsLeft, startNumber, quadNumber, quadGroup}
+use Rattle.plan.specs.Fields.{groupSize, symbolGroups}
+use Rattle.layout.specs.Rules.{formatGroup, isFormat, formatHas, quadSymbol, isLeft, groupsLeft, startNumber, quadNumber, quadGroup}
 use Rattle.base.specs.Counts.{cnt, nth}
 use Rattle.modulation.specs.Symbols.{bitsOf, evens, odds, level, modulationSymbol}
 use Rattle.sync.specs.Pss.{pssRoot, pssT, pssPhase}

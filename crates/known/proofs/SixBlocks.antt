@@ -11,7 +11,7 @@ use Rattle.plan.specs.declared.Checked.the-variants.{Plan as accepted}
 use Rattle.plan.specs.CommandLists.{commandsFrom, usersOf}
 use Rattle.base.specs.Bits.{bitAt}
 use Rattle.layout.specs.Rules.{slotLength, inSlot, crsSymbol, marked}
-use Rattle.counts.specs.Sums.{sumTo, sumOf}
+use Rattle.base.specs.Sums.{sumTo, sumOf}
 use Rattle.counts.specs.Counts.{kinds, kindCount}
 use Rattle.counts.specs.Users.{signals, taken, halves, rowElements, userElements, allElements, usersElements}
 use Rattle.counts.specs.Kinds.{crsElements, syncElements, pbchElements, holes, heldElements}

@@ -20,7 +20,8 @@ use Rattle.plan.proofs.ControlRegion.{region-least, region-most}
 use Rattle.plan.proofs.Listed.{and-left, and-right}
 use Rattle.plan.proofs.Valid.{valid}
 use Rattle.layout.specs.Rules.{slotLength, slotOf, elementGroup, inGroup, isFormat, formatHas, pcfich, phich}
-use Rattle.layout.specs.Owners.{free, userHas, userRule}
+use Rattle.layout.specs.Owners.{free, userRule}
+use Rattle.layout.specs.Chain.{userHas}
 use Rattle.layout.proofs.Pilot.{slot-length}
 use Rattle.layout.proofs.GroupShape.{quad-normal, quad-low}
 use Rattle.layout.proofs.Units.{phich-parts}

@@ -29,10 +29,10 @@ use Rattle.layout.specs.Rules.{
   heldByPbch,
   held,
 }
-use Rattle.layout.specs.Rules.{symbolGroups, elementGroup, inGroup, isFormat, formatHas, pcfich, quadSymbol, isLeft, groupsLeft, quadNumber, quadGroup, phich}
+use Rattle.layout.specs.Rules.{elementGroup, inGroup, isFormat, formatHas, pcfich, quadSymbol, isLeft, groupsLeft, quadNumber, quadGroup, phich}
 use Rattle.layout.specs.Owners.{fixedRule}
 use Rattle.layout.specs.Chain.{pilot, number, groupAt, controlAt, fixedAt, isIdle}
-use Rattle.plan.specs.Fields.{mappingUnits}
+use Rattle.plan.specs.Fields.{mappingUnits, symbolGroups}
 use Rattle.plan.specs.Valid.{CellIn}
 use Rattle.plan.proofs.Counts.{blocks-least, ports-most, sixths-most}
 use Rattle.plan.specs.declared.Cell.{Cell}

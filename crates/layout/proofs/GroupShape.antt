@@ -3,16 +3,17 @@
 use Prim.Native.Nat.{ℕ, zero, suc, _+_, _*_, _/_, _%_, _≤_, _<_}
 use mathlib.Core.Path.{_≡_, refl}
 use mathlib.Core.Logic.{_↔_, _⊎_, inl, inr}
-use mathlib.Core.Bool.{Bool, true, false, not, _&&_, _||_}
+use mathlib.Core.Bool.{Bool, true, false, not, _&&_}
 use native.Mathlib.Omega.{arith}
 use native.Mathlib.Nat.{mul-le-mul}
 use lib.Dec.{ltb, eqb}
 use borrow.Author.Tests.{eq-eqb, ne-eqb, lt-ltb, eqb-true, eqb-false, ltb-true, not-true}
 use Rattle.base.proofs.Tests.{by-test, clash, or-cases, is-false, on-if}
 use Rattle.plan.specs.Lists.{Among}
-use Rattle.plan.specs.Fields.{portCounts}
+use Rattle.plan.specs.Fields.{portCounts, groupSize, symbolGroups}
 use Rattle.plan.specs.Valid.{CellIn}
 use Rattle.plan.specs.declared.Cell.{Cell}
+use Rattle.plan.proofs.ControlElements as sizes
 use Rattle.plan.proofs.Listed.{and-left, and-right}
 use Rattle.plan.proofs.Counts.{ports-least}
 use Rattle.layout.specs.Rules.{
@@ -25,8 +26,6 @@ use Rattle.layout.specs.Rules.{
   crsOf,
   crsBelow,
   crsAny,
-  groupSize,
-  symbolGroups,
   elementGroup,
   inGroup,
   quadSymbol,
@@ -85,11 +84,10 @@ four-without c ok (suc (suc (suc (suc s)))) l z p m = absurd (let n : ⊥ = omeg
 
 -- what holds of six and of four holds of every size
 pub by-size : (P : ℕ → Type 0) (c : Cell) (s : ℕ) → P 6 → P 4 → P (groupSize c s)
-unfolding groupSize
-by-size P c s six four = on-if P (eqb s 0 || (eqb s 1 && eqb (c .ports) 4) || (eqb s 3 && eqb (c .prefix) 1)) (λ e. six) (λ e. four)
+by-size P c s six four = sizes.by-size c s P six four
 
 pub else-six : (c : Cell) (s : ℕ) → (groupSize c s ≡ 4 → ⊥) → groupSize c s ≡ 6
-else-six c s = by-size (λ (z : ℕ). (z ≡ 4 → ⊥) → z ≡ 6) c s (λ n. refl) (λ n. absurd (n refl))
+else-six c s n = sizes.else-six c s n
 
 -- THE LAW OF THE SIZES
 pub six-exactly : (c : Cell) → CellIn c → (s : ℕ) → s < 4 → (groupSize c s ≡ 6) ↔ HasCrs c s

@@ -11,10 +11,11 @@ use Rattle.base.proofs.Some.{some-in, all-apart}
 use Rattle.base.specs.Choice.{indicator}
 use Rattle.base.specs.Counts.{cnt}
 use Rattle.base.proofs.Counts.{cnt-none, cnt-more, cnt-all, cnt-lt, cnt-most}
+use Rattle.base.proofs.Ring as ring
 use Rattle.plan.specs.declared.Cell.{Cell}
-use Rattle.layout.specs.Rules.{symbolGroups, formatGroup, isFormat, formatHas, isLeft, groupsLeft}
+use Rattle.plan.specs.Fields.{symbolGroups}
+use Rattle.layout.specs.Rules.{formatGroup, isFormat, formatHas, isLeft, groupsLeft}
 use Rattle.layout.specs.Chain.{belowOf, number}
-use Rattle.layout.proofs.Ring as ring
 use Rattle.layout.proofs.GroupShape.{first-groups, groups-least, groups-most}
 
 pub is-format : (c : Cell) (t i : ℕ) → i < 4 → t ≡ formatGroup c i → isFormat c t ≡ true

@@ -4,15 +4,18 @@
 -- (owners by their rules), Lists.
 pub mod Lists
 pub mod Pilot
-pub mod Ring
 pub mod Groups
 pub mod Units
+pub mod Vacant
+pub mod Region
+pub mod Block
 pub mod Few
 pub mod GroupShape
 pub mod ControlRegion
 pub mod Fixed
 pub mod Partition
 mod Ways
+mod VacantWays
 pub mod OneOwner
 pub mod Numbers
 pub mod Asked

@@ -3,14 +3,15 @@
 use Prim.Native.Nat.{ℕ, zero, suc, _+_, _*_, _/_, _≤_, _<_}
 use mathlib.Core.Path.{_≡_, refl, sym, ap, _∙_}
 use mathlib.Core.Bool.{Bool, true, false, _&&_}
-use mathlib.Core.List.{List, [], _∷_}
+use mathlib.Core.List.{List}
 use native.Mathlib.Omega.{arith}
 use lib.Dec.{leb, ltb}
 use lib.ListN.{length}
 use borrow.Author.Tests.{le-ltb, le-leb, ltb-true, ltb-false, leb-true}
 use Rattle.base.proofs.Tests.{by-test, clash, both, is-false, on-if}
+use Rattle.base.proofs.Passing.{passes-inside}
 use Rattle.base.specs.Tables.{table}
-use Rattle.plan.specs.Lists.{noneOf, Every, Apart}
+use Rattle.plan.specs.Lists.{noneOf, Apart}
 use Rattle.plan.specs.Fields.{controlSymbols, mappingUnits}
 use Rattle.plan.specs.CommandLists.{usersOf}
 use Rattle.plan.specs.Valid.{Has, Disjoint}
@@ -22,12 +23,12 @@ use Rattle.plan.proofs.Listed.{and-left, and-right}
 use Rattle.plan.proofs.Counts.{ports-most}
 use Rattle.base.specs.Choice.{if_then_else_}
 use Rattle.layout.specs.Rules.{slotOf, crs, crsOf}
-use Rattle.layout.specs.Owners.{fixedRule, above, free, blocksHave, userHas, userRule, rest, owns, owners, ownerOf}
-use Rattle.layout.specs.Chain.{fixedAt, isIdle, userFrom, ownerAt}
+use Rattle.layout.specs.Owners.{fixedRule, above, free, blocksHave, userRule, rest, owns, owners, ownerOf}
+use Rattle.layout.specs.Chain.{fixedAt, isIdle, userFrom, ownerAt, userHas}
 use Rattle.layout.specs.declared.Mark.the-variants.{Primary, Secondary}
 use Rattle.layout.specs.declared.Owner.{Owner}
 use Rattle.layout.specs.declared.Owner.the-variants.{Crs, Sync, Pbch, Pcfich, Phich, User as UserOf, Held, Idle}
-use Rattle.layout.proofs.Lists.{In, here, there, in-left, in-right, table-in, none-in, none-at, some-in, first-is}
+use Rattle.layout.proofs.Lists.{In, here, there, in-left, in-right, table-in, none-in, none-at, some-in, first-is, first-as, none-as}
 use Rattle.layout.proofs.Units.{phich-parts}
 use Rattle.layout.proofs.Fixed.{Fit, fixed-at, fixed-ok}
 
@@ -90,31 +91,22 @@ has-block u n k e =
     (omega arith, omega arith)
 
 module _ (n k : ℕ) where
-  no-share : (u : User) (us : List User) → blocksHave u n k ≡ true → Every (Disjoint u) us → (i : ℕ) → userHas us i n k ≡ false
-  unfolding userHas
-  no-share u [] e d i = refl
-  no-share u (v ∷ us) e d zero = is-false _ (λ w. d .0 .blocks (k / 12) (has-block u n k e) (has-block v n k w))
-  no-share u (v ∷ us) e d (suc i) = no-share u us e (d .1) i
+  abbrev test : User → Bool
+  test u = blocksHave u n k
+
+  one-user : (u v : User) → Disjoint u v → test u ≡ true → test v ≡ true → ⊥
+  one-user u v d a b = d .blocks (k / 12) (has-block u n k a) (has-block v n k b)
 
   pub user-at : (us : List User) (b i : ℕ) → Apart Disjoint us → userHas us i n k ≡ true → userFrom b us n k ≡ UserOf (b + i)
-  unfolding userHas userFrom
-  user-at [] b i d e = clash e refl
-  user-at (u ∷ us) b zero d e = rw e (ap UserOf (let z : b ≡ b + 0 = omega arith in z))
-  user-at (u ∷ us) b (suc i) d e =
-      by-test (blocksHave u n k)
-      (λ w. clash e (no-share u us w (d .0) i))
-      (λ w. rw w (user-at us (b + 1) i (d .1) e ∙ ap UserOf (let z : b + 1 + i ≡ b + suc i = omega arith in z)))
+  unfolding userFrom
+  user-at us b i d e = first-as UserOf test Disjoint one-user us b i d e
 
   no-user-from : (us : List User) (b : ℕ) → ((i : ℕ) → i < length us → userHas us i n k ≡ false) → userFrom b us n k ≡ Idle
-  unfolding userFrom userHas
-  no-user-from [] b h = refl
-  no-user-from (u ∷ us) b h = rw (h 0 (omega arith)) (no-user-from us (b + 1) (λ i l. h (suc i) (omega arith)))
+  unfolding userFrom
+  no-user-from us b h = none-as UserOf test us b h
 
   pub has-index : (us : List User) (i : ℕ) → userHas us i n k ≡ true → i < length us
-  unfolding userHas
-  has-index [] i e = clash e refl
-  has-index (u ∷ us) zero e = omega arith
-  has-index (u ∷ us) (suc i) e = omega (arith, has-index us i e)
+  has-index us i e = passes-inside test us i e
 
 -- ---- all owners
 module _ (w : List ℕ) (p : Plan) (s k : ℕ) (fit : Fit (p .cell) k) (disjoint : Apart Disjoint (usersOf w p)) where

@@ -9,17 +9,19 @@ use native.Mathlib.Decide.{decLe, ℕ-discrete}
 use lib.Dec.{leb, ltb, eqb}
 use borrow.Author.Tests.{eq-eqb, lt-ltb, le-leb, lt-leb, eqb-true, ltb-true, leb-true}
 use Rattle.base.proofs.Tests.{both, on-if}
-use Rattle.base.proofs.Some.{someOf, passed, which-passed}
+use Rattle.base.specs.Counts.{someOf}
+use Rattle.base.proofs.Some.{passed, which-passed}
 use Rattle.base.specs.Counts.{nth}
 use Rattle.base.proofs.Counts.{nth-is, nth-of}
-use Rattle.layout.specs.Rules.{symbolGroups, elementGroup, inGroup, quadSymbol, isLeft, groupsLeft, startNumber, quadNumber, quadGroup, quadHas, mappingUnitHas, phich}
-use Rattle.layout.specs.Chain.{number, past, quadIn, unitAt, numberAt}
-use Rattle.plan.specs.Fields.{mappingUnits}
+use Rattle.base.specs.Ring.{past}
+use Rattle.base.proofs.Ring as ring
+use Rattle.layout.specs.Rules.{elementGroup, inGroup, quadSymbol, isLeft, groupsLeft, startNumber, quadNumber, quadGroup, quadHas, mappingUnitHas, phich}
+use Rattle.layout.specs.Chain.{number, quadIn, unitAt, numberAt}
+use Rattle.plan.specs.Fields.{mappingUnits, symbolGroups}
 use Rattle.plan.specs.declared.Cell.{Cell}
 use Rattle.layout.specs.declared.Owner.{Owner}
 use Rattle.layout.specs.declared.Owner.the-variants.{Phich, Idle}
 use Rattle.plan.proofs.Listed.{and-left, and-right}
-use Rattle.layout.proofs.Ring as ring
 use Rattle.layout.proofs.GroupShape.{quad-normal}
 use Rattle.layout.proofs.Groups.{left-first, left-least, left-some}
 

@@ -13,7 +13,7 @@ use types.Run.{OneOf}
 use denote.Enum.Declared.{tagOf}
 use Rattle.plan.specs.Lists.{oneOf}
 use Rattle.plan.specs.Commands.{userOf}
-use Rattle.plan.specs.Fields.{controlSymbols, mappingUnits}
+use Rattle.plan.specs.Fields.{controlSymbols, mappingUnits, groupSize, symbolGroups}
 use Rattle.plan.specs.CommandLists.{nextOf, usersFrom, usersOf, commandsFrom}
 use Rattle.plan.specs.declared.Cell.{Cell}
 use Rattle.plan.specs.declared.Frame.{Frame}
@@ -25,9 +25,9 @@ use Rattle.plan.proofs.CommandLists.{commands-next}
 use Rattle.base.specs.Choice.{if_then_else_}
 use Rattle.base.proofs.Tests.{by-test, same-test}
 use Rattle.layout.specs.Rules.{slotLength, slotOf, inSlot, crsShift, middle, centre, used, marked, inSyncArea, inPbchArea}
-use Rattle.layout.specs.Rules.{groupSize, symbolGroups, elementGroup, inGroup, formatGroup, isFormat, formatHas, quadSymbol, isLeft, groupsLeft, startNumber}
+use Rattle.layout.specs.Rules.{elementGroup, inGroup, formatGroup, isFormat, formatHas, quadSymbol, isLeft, groupsLeft, startNumber}
 use Rattle.layout.specs.Owners.{blocksHave}
-use Rattle.layout.specs.Chain.{pilot, belowOf, number, quadIn, unitAt, numberAt, groupAt, controlAt, fixedAt, userFrom, isIdle, ownerAt}
+use Rattle.layout.specs.Chain.{pilot, belowOf, number, quadIn, unitAt, numberAt, groupAt, controlAt, fixedAt, firstAs, userFrom, isIdle, ownerAt}
 use Rattle.layout.specs.declared.Mark.the-variants.{Primary, Secondary}
 use Rattle.layout.specs.declared.Owner.{Owner}
 use Rattle.layout.specs.declared.Owner.the-variants.{Crs, Sync, Pbch, Pcfich, Phich, User as UserOf, Held, Idle}
@@ -112,24 +112,6 @@ unfolding inPbchArea
 area-frame c f s k e = rw (ne-eqb (f .subframe) 0 e) refl
 
 -- ---- groups and units
--- the size of a group, by the code's tests
-module _ (c : Cell) where
-  pub size-first : {s : ℕ} → s ≡ 0 → 6 ≡ groupSize c s
-  unfolding groupSize
-  size-first e = rw e refl
-
-  pub size-second : {s : ℕ} → s ≡ 1 → c .ports ≡ 4 → 6 ≡ groupSize c s
-  unfolding groupSize
-  size-second e p = rw (e, eq-eqb (c .ports) 4 p) refl
-
-  pub size-few : {s : ℕ} → s ≡ 1 → (c .ports ≡ 4 → ⊥) → 4 ≡ groupSize c s
-  unfolding groupSize
-  size-few e p = rw (e, ne-eqb (c .ports) 4 p) refl
-
-  pub size-third : {s : ℕ} → s < 3 → (s ≡ 0 → ⊥) → (s ≡ 1 → ⊥) → 4 ≡ groupSize c s
-  unfolding groupSize
-  size-third {s = s} l n m = let z : s ≡ 2 = omega arith in rw z refl
-
 -- what `groups_left` promises
 module _ (c : Cell) (big : 6 ≤ c .blocks) (small : c .blocks < 256) (s : ℕ) {n : ℕ} (en : n ≡ c .blocks) where
   abbrev Left : ℕ → Type 0
@@ -235,7 +217,7 @@ module _ (c : Cell) (s t : ℕ) (first : s ≡ 0) where
       pub counted-le : b ≤ t
       counted-le = omega (arith, counted, number-is c big t)
 
-      numbered : t - b ≡ number c s t
+      pub numbered : t - b ≡ number c s t
       numbered = (let q : t - b ≡ number c 0 t = omega (arith, counted, number-is c big t) in q) ∙ ap (λ (s : ℕ). number c s t) (sym first)
 
       module _ (nx : (t ≡ x) → ⊥) (ny : (t ≡ y) → ⊥) (nz : (t ≡ z) → ⊥) (nw : (t ≡ w) → ⊥) where
@@ -320,18 +302,18 @@ far-fits t h r l m = omega arith
 module _ (w : List ℕ) (at k i : ℕ) where
   module _ (u : User) (eu : u ≡ userOf (drop at w)) (r : Bool) (er : (n : ℕ) → r ≡ blocksHave u n k) where
     pub user-found : (m : ℕ) → 0 < m → r ≡ true → (n : ℕ) → UserOf i ≡ userFrom i (usersFrom (drop at w) m) n k
-    unfolding userFrom
+    unfolding userFrom firstAs
     user-found zero l t n = absurd (not-suc-le-zero l)
     user-found (suc m) l t n = rw (commands-next userOf w at m, ← eu, ← er n, t) refl
 
     pub user-passed : (m : ℕ) → 0 < m → r ≡ false → (to : ℕ) → to ≡ nextOf w at → (j : ℕ) → j ≡ i + 1
         → (n : ℕ) → userFrom j (usersFrom (drop to w) (m - 1)) n k ≡ userFrom i (usersFrom (drop at w) m) n k
-    unfolding userFrom
+    unfolding userFrom firstAs
     user-passed zero l t to et j ej n = absurd (not-suc-le-zero l)
     user-passed (suc m) l t to et j ej n = rw (sub-one, ej, commands-next userOf w at m, ← eu, ← er n, t, ← et) refl
 
   pub user-end : (m : ℕ) → m ≡ 0 → (n : ℕ) → Idle ≡ userFrom i (usersFrom (drop at w) m) n k
-  unfolding userFrom commandsFrom
+  unfolding userFrom firstAs commandsFrom
   user-end m e n = rw e refl
 
 pub all-users : (us : List User) (k m n : ℕ) → userFrom (m - m) us n k ≡ userFrom 0 us n k

@@ -4,14 +4,16 @@ use Prim.Native.Nat.{ℕ, zero, suc, _+_, _-_, _*_, _/_, _%_}
 use mathlib.Core.Bool.{Bool, true, false, _&&_}
 use mathlib.Core.List.{List, [], _∷_}
 use lib.Dec.{leb, ltb, eqb}
-use Rattle.plan.specs.Fields.{controlSymbols, mappingUnits}
+use Rattle.plan.specs.Fields.{controlSymbols, mappingUnits, groupSize}
 use Rattle.plan.specs.CommandLists.{usersOf}
 use Rattle.plan.specs.declared.Cell.{Cell}
 use Rattle.plan.specs.declared.Frame.{Frame}
 use Rattle.plan.specs.declared.User.{User}
 use Rattle.plan.specs.declared.Plan.{Plan}
-use Rattle.base.specs.Choice.{if_then_else_, indicator}
-use Rattle.base.specs.Counts.{cnt}
+use Rattle.base.specs.Choice.{if_then_else_, indicator, passesAt}
+use Rattle.base.specs.Counts.{cnt, upwards}
+use Rattle.base.specs.Sums.{sumTo}
+use Rattle.base.specs.Ring.{past, ringBelow}
 use Rattle.layout.specs.Rules.{slotLength, slotOf, crsSymbol, crsShift, standsAt, used, inSyncArea, inPbchArea, elementGroup, inGroup, formatHas, quadSymbol, isLeft, groupsLeft, startNumber}
 use Rattle.layout.specs.Owners.{blocksHave}
 use Rattle.layout.specs.declared.Mark.the-variants.{Primary, Secondary}
@@ -33,10 +35,6 @@ belowOf a b c d t = indicator (ltb a t) + indicator (ltb b t) + indicator (ltb c
 -- a group's number in symbol s: how many groups left stand below it
 abbrev pub number : Cell → ℕ → ℕ → ℕ
 number c s t = cnt (isLeft c s) t
-
--- how far n lies past a around a ring of h numbers
-abbrev pub past : ℕ → ℕ → ℕ → ℕ
-past a h n = (n + (h - a % h)) % h
 
 -- of the groups left in symbol s, those of the units' quads i are as many as units, from i·h/3 past the start on; the unit that takes the
 -- number d past it, of the quads below n
@@ -69,10 +67,18 @@ fixedAt c f s k =
     then (if ltb q 4 then Held else Pbch)
     else Idle
 
+-- subcarrier k lies in the blocks of user i in slot n
+abbrev pub userHas : List User → ℕ → ℕ → ℕ → Bool
+userHas us i n k = passesAt (λ (u : User). blocksHave u n k) us i
+
+-- the first of a list that passes, as the owner with its number, which is counted from i on; idle where none does
+unfoldable pub firstAs : {A : Type 0} → (ℕ → Owner) → (A → Bool) → ℕ → List A → Owner
+firstAs owner test i [] = Idle
+firstAs owner test i (a ∷ rest) = if test a then owner i else firstAs owner test (i + 1) rest
+
 -- the first user whose blocks have subcarrier k in slot n, numbered from i on
 unfoldable pub userFrom : ℕ → List User → ℕ → ℕ → Owner
-userFrom i [] n k = Idle
-userFrom i (u ∷ us) n k = if blocksHave u n k then UserOf i else userFrom (i + 1) us n k
+userFrom i us n k = firstAs UserOf (λ (u : User). blocksHave u n k) i us
 
 unfoldable pub isIdle : Owner → Bool
 isIdle (Crs q) = false
@@ -90,3 +96,18 @@ ownerAt w p s k =
     if isIdle o
     then (if ltb s (controlSymbols (p .cell) (p .frame)) then Idle else userFrom 0 (usersOf w p) (slotOf (p .cell) s) k)
     else o
+
+-- of the groups left in symbol s with a number below n, those of the units: of each quad that lies there as many as units, around the ring
+unfoldable pub quadsBelow : Cell → ℕ → ℕ → ℕ → ℕ
+quadsBelow c s n i = let h = groupsLeft c s in if eqb (quadSymbol c i) s then ringBelow h (startNumber c s % h + i * h / 3) (mappingUnits c) n else 0
+
+unfoldable pub takenBelow : Cell → ℕ → ℕ → ℕ
+takenBelow c s n = quadsBelow c s n 0 + quadsBelow c s n 1 + quadsBelow c s n 2
+
+-- how many vacant groups of symbol s stand below group t
+unfoldable pub vacantBelow : Cell → ℕ → ℕ → ℕ
+vacantBelow c s t = number c s t - takenBelow c s (number c s t)
+
+-- and those that come before subcarrier k of symbol s in the order of 6.8.5, of L symbols: in a symbol before s one that starts at k does
+unfoldable pub vacantBefore : Cell → ℕ → ℕ → ℕ → ℕ
+vacantBefore c L k s = sumTo L (λ (n : ℕ). vacantBelow c n (upwards (groupSize c n) (k + indicator (ltb n s))))

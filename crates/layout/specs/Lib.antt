@@ -1,4 +1,5 @@
 pub mod Rules
+pub mod Region
 pub mod Owners
 pub mod Query
 pub mod Chain

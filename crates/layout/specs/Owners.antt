@@ -1,9 +1,9 @@
 -- What the promises cite: the rule of every owner, all owners of a plan, and the owner of a place. Document 01, Owners: "An owner is
 -- a reference signal with its port, a synchronisation mark (primary, secondary), PBCH, PCFICH, a PHICH unit, a user, held, or idle
 -- (the rest)." w is a plan's bytes, p the plan that the plan check answers with.
-use Prim.Native.Nat.{ℕ, zero, suc, _+_, _*_, _<_}
+use Prim.Native.Nat.{ℕ, _+_, _*_, _<_}
 use mathlib.Core.Bool.{Bool, false, _&&_}
-use mathlib.Core.List.{List, [], _∷_, _++_}
+use mathlib.Core.List.{List, _∷_, _++_}
 use lib.Dec.{leb, ltb}
 use lib.ListN.{length}
 use Rattle.base.specs.Tables.{table}
@@ -14,7 +14,7 @@ use Rattle.plan.specs.declared.Cell.{Cell}
 use Rattle.plan.specs.declared.Frame.{Frame}
 use Rattle.plan.specs.declared.User.{User}
 use Rattle.plan.specs.declared.Plan.{Plan}
-use Rattle.base.specs.Choice.{firstOf}
+use Rattle.base.specs.Choice.{firstOf, passesAt}
 use Rattle.layout.specs.Rules.{slotLength, slotOf, crs, pss, sss, pbch, held, pcfich, phich}
 use Rattle.layout.specs.declared.Mark.the-variants.{Primary, Secondary}
 use Rattle.layout.specs.declared.Owner.{Owner}
@@ -66,19 +66,14 @@ above c = Crs 0 ∷ Crs 1 ∷ Crs 2 ∷ Crs 3 ∷ Sync Primary ∷ Sync Secondar
 unfoldable pub free : Cell → Frame → ℕ → ℕ → Bool
 free c f s k = noneOf (λ (o : Owner). fixedRule c f o s k) (above c)
 
--- subcarrier k lies in the user's blocks in slot n, here the same blocks in both; and in those of user i
+-- subcarrier k lies in the user's blocks in slot n, here the same blocks in both
 unfoldable pub blocksHave : User → ℕ → ℕ → Bool
 blocksHave u n k = leb (12 * u .first) k && ltb k (12 * (u .first + u .count))
-
-unfoldable pub userHas : List User → ℕ → ℕ → ℕ → Bool
-userHas [] i n k = false
-userHas (u ∷ us) zero n k = blocksHave u n k
-userHas (u ∷ us) (suc i) n k = userHas us i n k
 
 -- "USER: its blocks, symbols s ≥ CFI, not owned above"; "User elements .. follow the new meaning" (#102): CFI + 1 at six blocks
 unfoldable pub userRule : List ℕ → Plan → ℕ → ℕ → ℕ → Bool
 userRule w p i s k =
-    userHas (usersOf w p) i (slotOf (p .cell) s) k && leb (controlSymbols (p .cell) (p .frame)) s && free (p .cell) (p .frame) s k
+    passesAt (λ (u : User). blocksHave u (slotOf (p .cell) s) k) (usersOf w p) i && leb (controlSymbols (p .cell) (p .frame)) s && free (p .cell) (p .frame) s k
 
 -- document 01's idle, "the rest": no owner above the users has the place, and no user
 unfoldable pub rest : List ℕ → Plan → ℕ → ℕ → Bool

@@ -6,7 +6,7 @@ use mathlib.Core.Bool.{Bool, not, _&&_, _||_}
 use lib.Dec.{leb, ltb, eqb}
 use Rattle.base.specs.Choice.{if_then_else_}
 use Rattle.base.specs.Counts.{cnt, nth}
-use Rattle.plan.specs.Fields.{mappingUnits}
+use Rattle.plan.specs.Fields.{mappingUnits, groupSize, symbolGroups}
 use Rattle.plan.specs.declared.Cell.{Cell}
 use Rattle.plan.specs.declared.Frame.{Frame}
 
@@ -95,17 +95,8 @@ heldByPbch c f s k = inPbchArea c f s k && crsOfFour c s k && not (crsAny c s k)
 unfoldable pub held : Cell → Frame → ℕ → ℕ → Bool
 held c f s k = heldBySync c f s k || heldByPbch c f s k
 
--- ---- control groups: "Symbol 0 has 2N groups of six subcarriers". Document 02: "Symbols 1 and 2 have three groups of four per block,
--- symbol 1 with four ports two groups of six" (#108); "A fourth control symbol has three groups of four per block in the normal prefix,
--- two groups of six in the extended one" (#102). The subcarriers of a group of control symbol s, 0 to 3 (36.211 6.2.4)
-unfoldable pub groupSize : Cell → ℕ → ℕ
-groupSize c s = if eqb s 0 || (eqb s 1 && eqb (c .ports) 4) || (eqb s 3 && eqb (c .prefix) 1) then 6 else 4
-
--- how many groups the symbol has, the group of subcarrier k there, and whether (s, k) is one of a group's four places: of six, "a group's
+-- ---- control groups: the group of subcarrier k in control symbol s, and whether (s, k) is one of a group's four places: of six, "a group's
 -- four places skip k with k mod 3 = C mod 3, also for one port"
-unfoldable pub symbolGroups : Cell → ℕ → ℕ
-symbolGroups c s = 12 * c .blocks / groupSize c s
-
 unfoldable pub elementGroup : Cell → ℕ → ℕ → ℕ
 elementGroup c s k = k / groupSize c s
 

@@ -1,15 +1,19 @@
 // The owner of each place of the grid (document 01, Owners), and the owner query.
 ghost use mathlib.Core.Path.{_≡_};
 ghost use Prim.Native.Nat.{ℕ, _+_, _-_, _*_, _/_, _%_, _≤_, _<_};
-ghost use mathlib.Core.Bool.{_&&_};
+ghost use mathlib.Core.Bool.{true, _&&_};
 ghost use lib.ListN.{drop};
 ghost use lib.Dec.{leb, ltb};
 ghost use Rattle.plan.specs.Check.{checkOf};
 ghost use Rattle.plan.specs.CommandLists.{usersFrom};
 ghost use Rattle.plan.specs.declared.Checked.the-variants.{Plan as accepted};
-ghost use Rattle.layout.specs.Rules.{slotLength, inSlot, crsSymbol, crsShift, middle, marked, inSyncArea, inPbchArea, groupSize, formatGroup, groupsLeft, quadSymbol, startNumber};
+ghost use Rattle.plan.specs.Fields.{controlSymbols, symbolGroups};
+ghost use Rattle.plan.specs.Valid.{CellIn, FrameIn};
+ghost use Rattle.layout.specs.Rules.{slotLength, inSlot, crsSymbol, crsShift, middle, marked, inSyncArea, inPbchArea, formatGroup, groupsLeft, quadSymbol, startNumber};
 ghost use Rattle.layout.specs.Owners.{ownerNumber, symbols as symbolsOf, carriers as carriersOf, gridPlace, blocksHave, ownerOf};
-ghost use Rattle.layout.specs.Chain.{pilotOf, pilot, quadIn, unitAt, numberAt, groupAt, controlAt, fixedAt, userFrom, belowOf};
+ghost use Rattle.layout.specs.Chain.{pilotOf, pilot, number as numberOf, quadIn, unitAt, numberAt, groupAt, controlAt, fixedAt, userFrom, belowOf, quadsBelow, vacantBelow, vacantBefore};
+ghost use Rattle.layout.specs.Region.{isVacant, groupQuad};
+ghost use Rattle.base.specs.Ring.{between as betweenOf, ringBelow};
 ghost use Rattle.layout.specs.Query.{inGrid, ownerQueryOf};
 use plan::Cell;
 use plan::Checked;
@@ -241,21 +245,6 @@ pub fn formats_below(a: usize, b: usize, c: usize, d: usize, t: usize) -> usize
     base::one_below(a, t) + base::one_below(b, t) + base::one_below(c, t) + base::one_below(d, t)
 }
 
-// The subcarriers of a group of control symbol s. PCFICH and PHICH use the first three.
-pub fn group_size(cell: Cell, s: usize) -> usize
-    requires { ⌜ s < 3 ⌝ }
-    ensures { λ r. ⌜ r ≡ groupSize cell s ⌝ }
-{
-    if s == 0 {
-        return 6;
-    }
-    if s == 1 {
-        if cell.ports == 4 { 6 } else { 4 }
-    } else {
-        4
-    }
-}
-
 // The number of the groups that PCFICH leaves in control symbol s: all but four of symbol 0.
 pub fn groups_left(cell: Cell, s: usize) -> usize
     requires { ⌜ (6 ≤ cell .blocks) × (s < 3) ⌝ }
@@ -265,7 +254,7 @@ pub fn groups_left(cell: Cell, s: usize) -> usize
     if s == 0 {
         return 2 * n - 4;
     }
-    if group_size(cell, s) == 4 {
+    if plan::group_size(cell, s) == 4 {
         3 * n
     } else {
         2 * n
@@ -356,12 +345,101 @@ fn group_at(cell: Cell, s: usize, t: usize) -> Owner
     number_at(cell, s, t - formats_below(a, b, c, d, t))
 }
 
+// a less b, or 0 where b is greater.
+fn less(a: usize, b: usize) -> usize
+    ensures { λ r. ⌜ r ≡ a - b ⌝ }
+{
+    if b < a { a - b } else { 0 }
+}
+
+// How many numbers from lo to hi - 1 stand below x.
+fn between(lo: usize, hi: usize, x: usize) -> usize
+    ensures { λ r. ⌜ (r ≡ betweenOf lo hi x) × (r ≤ x) ⌝ }
+{
+    less(less(x, lo), less(x, hi))
+}
+
+// Of a ring of h numbers, how many of the m from p on stand below x.
+fn ring_below(h: usize, p: usize, m: usize, x: usize) -> usize
+    requires { ⌜ (p < 4096) × (m < 4096) × (x < 4096) ⌝ }
+    ensures { λ r. ⌜ r ≡ ringBelow h p m x ⌝ }
+{
+    let end = p + m;
+    between(p, end, x) + between(less(p, h), less(end, h), x)
+}
+
+// Of the groups left in symbol s with a number below n, those of the units' quads i.
+fn quads_below(cell: Cell, s: usize, n: usize, i: usize) -> usize
+    requires { ⌜ (6 ≤ cell .blocks) × (cell .sixths ≤ 12) × (n < 1024) × (i < 3) ⌝ }
+    ensures { λ r. ⌜ r ≡ quadsBelow cell s n i ⌝ }
+{
+    if quad_symbol(cell, i) != s {
+        return 0;
+    }
+    let h = groups_left(cell, s);
+    let from = start_number(cell, s) % h + i * h / 3;
+    ring_below(h, from, plan::units(cell), n)
+}
+
+// The groups left in symbol s below group t.
+fn left_below(cell: Cell, s: usize, t: usize) -> usize
+    requires { ⌜ 6 ≤ cell .blocks ⌝ }
+    ensures { λ r. ⌜ r ≡ numberOf cell s t ⌝ }
+{
+    if 0 < s {
+        return t;
+    }
+    let a = format_group(cell, 0);
+    let b = format_group(cell, 1);
+    let c = format_group(cell, 2);
+    let d = format_group(cell, 3);
+    t - formats_below(a, b, c, d, t)
+}
+
+// The vacant groups of symbol s below group t.
+fn vacant_below(cell: Cell, s: usize, t: usize) -> usize
+    requires { ⌜ (6 ≤ cell .blocks) × (cell .sixths ≤ 12) × (t ≤ symbolGroups cell s) × (t < 1024) ⌝ }
+    ensures { λ r. ⌜ (r ≡ vacantBelow cell s t) × (r < 1024) ⌝ }
+{
+    let n = left_below(cell, s, t);
+    let first = quads_below(cell, s, n, 0);
+    let second = quads_below(cell, s, n, 1);
+    n - (first + second + quads_below(cell, s, n, 2))
+}
+
+// The vacant groups of the region's symbols that come before subcarrier k of symbol s.
+fn vacant_before(cell: Cell, symbols: usize, k: usize, s: usize) -> usize
+    requires { ⌜ (6 ≤ cell .blocks) × (cell .sixths ≤ 12) × (symbols ≤ 4) × (k < 12 * cell .blocks) ⌝ }
+    ensures { λ r. ⌜ (r ≡ vacantBefore cell symbols k s) × (r < 4096) ⌝ }
+{
+    let mut sum: usize = 0;
+    let mut n: usize = 0;
+    while n < symbols {
+        let size = plan::group_size(cell, n);
+        let starts = (k + base::one_below(n, s) + (size - 1)) / size;
+        sum = sum + vacant_below(cell, n, starts);
+        n = n + 1;
+    }
+    sum
+}
+
+// The quad of the block that a vacant group t of control symbol s takes.
+pub fn group_quad(cell: Cell, frame: Frame, s: usize, t: usize) -> usize
+    requires { ⌜ CellIn cell × FrameIn frame × (cell .duration ≡ 1 → 3 ≤ controlSymbols cell frame) × (s < controlSymbols cell frame) × (isVacant cell s t ≡ true) ⌝ }
+    ensures { λ r. ⌜ r ≡ groupQuad cell frame s t ⌝ }
+{
+    let symbols = plan::control_symbols(cell, frame);
+    let n = vacant_before(cell, symbols, t * plan::group_size(cell, s), s);
+    let quads = plan::region_groups(cell, frame);
+    interleaver::quad(interleaver::start(quads, ((cell.identity as usize) + n) % quads))
+}
+
 // The owner of subcarrier k in control symbol s beside the cell's reference signals. A group of six skips two places, also with one port.
 fn control_at(cell: Cell, s: usize, k: usize) -> Owner
     requires { ⌜ (6 ≤ cell .blocks) × (cell .sixths ≤ 12) × (s < 3) × (k < 12 * cell .blocks) ⌝ }
     ensures { λ r. ⌜ r ≡ controlAt cell s k ⌝ }
 {
-    if group_size(cell, s) == 4 {
+    if plan::group_size(cell, s) == 4 {
         return group_at(cell, s, k / 4);
     }
     if k % 3 == (cell.identity as usize) % 3 {

@@ -25,7 +25,7 @@ use Rattle.base.specs.Choice.{if_then_else_}
 use Rattle.layout.specs.Owners.{symbols, carriers}
 use Rattle.counts.specs.Counts.{kinds, kindCount}
 use Rattle.counts.proofs.AddUp.{kinds-add-up}
-use Rattle.counts.proofs.Sums.{sum-part}
+use Rattle.base.proofs.Sums.{sum-part}
 use Rattle.payload.specs.Payload.{gridLength, payloadLength, spareClear, unlessLengths, unlessBuffers}
 use Rattle.layout.proofs.Pilot.{symbols-most}
 use Rattle.payload.proofs.Lengths.{grid-most, length-room, length-found}

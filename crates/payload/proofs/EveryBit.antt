@@ -25,8 +25,8 @@ use Rattle.layout.specs.declared.Mark.{Mark}
 use Rattle.layout.specs.declared.Mark.the-variants.{Primary, Secondary}
 use Rattle.layout.specs.declared.Owner.{Owner}
 use Rattle.layout.specs.declared.Owner.the-variants.{Crs, Sync, Pbch, Pcfich, Phich, User as UserOf, Held, Idle}
-use Rattle.counts.specs.Sums.{sumTo, sumOf}
-use Rattle.counts.proofs.Sums.{sum-same, list-append}
+use Rattle.base.specs.Sums.{sumTo, sumOf}
+use Rattle.base.proofs.Sums.{sum-same, list-append}
 use Rattle.payload.specs.Sections.{sectionBytes, bytesOf, startOf, sectionBits, sparesFrom}
 use Rattle.payload.specs.Payload.{pbchBitCount, heads, sections, payloadLength, spareBits, AcceptedPayload}
 use Rattle.payload.specs.Bits.{occurs, hiBits, ownerBits, bitsOfAll}

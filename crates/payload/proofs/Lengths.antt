@@ -25,7 +25,7 @@ use Rattle.plan.proofs.CommandLists.{commands-next, commands-zero}
 use Rattle.base.proofs.Tests.{by-test, on-if}
 use Rattle.layout.specs.Owners.{symbols}
 use Rattle.counts.specs.Kinds.{pbchElements}
-use Rattle.counts.specs.Sums.{sumOf}
+use Rattle.base.specs.Sums.{sumOf}
 use Rattle.counts.specs.Users.{userElements, allElements}
 use Rattle.counts.specs.declared.Shape.{Shape}
 use Rattle.counts.specs.Shape.{shapeOf, countBy, ShapeIn}

@@ -17,8 +17,8 @@ use Rattle.plan.specs.declared.User.{User}
 use Rattle.plan.specs.declared.Plan.{Plan}
 use Rattle.plan.specs.declared.Checked.the-variants.{Plan as accepted}
 use Rattle.layout.specs.declared.Owner.the-variants.{User as UserOf}
-use Rattle.counts.specs.Sums.{sumTo}
-use Rattle.counts.proofs.Sums.{sum-same}
+use Rattle.base.specs.Sums.{sumTo}
+use Rattle.base.proofs.Sums.{sum-same}
 use Rattle.counts.proofs.UserElements.{user-elements}
 use Rattle.payload.specs.Sections.{sectionBytes, bytesOf, startOf, span, sectionBits, spareAt, sparesFrom}
 use Rattle.payload.specs.Payload.{userBitCount, heads, sections, payloadLength, usersStart}

@@ -12,8 +12,8 @@ use Rattle.base.specs.Choice.{if_then_else_, indicator}
 use Rattle.base.specs.Tables.{table}
 use Rattle.base.proofs.Tests.{by-test}
 use Rattle.plan.specs.Lists.{Among, Every}
-use Rattle.counts.specs.Sums.{sumTo, sumOf}
-use Rattle.counts.proofs.Sums.{sum-none, list-append}
+use Rattle.base.specs.Sums.{sumTo, sumOf}
+use Rattle.base.proofs.Sums.{sum-none, list-append}
 use Rattle.payload.specs.Sections.{span}
 use Rattle.payload.specs.Bits.{occurs}
 
@@ -21,15 +21,6 @@ pub sum-first : (n : ℕ) (f : ℕ → ℕ) → sumTo (suc n) f ≡ f 0 + sumTo 
 unfolding sumTo
 sum-first zero f = omega arith
 sum-first (suc n) f = omega (arith, sum-first n f)
-
--- the sum of x over the one number that is k
-pub sum-one : (k x n : ℕ) → k < n → sumTo n (λ m. if eqb k m then x else 0) ≡ x
-unfolding sumTo
-sum-one k x zero h = absurd (not-suc-le-zero h)
-sum-one k x (suc n) h =
-    by-test (eqb k n)
-    (λ e. let q : k ≡ n = eqb-true k n e in rw e (omega (arith, sum-none n (λ m. if eqb k m then x else 0) (λ m l. rw (ne-eqb k m (λ d. omega arith)) refl))))
-    (λ e. let q : k ≡ n → ⊥ = eqb-false k n e in rw e (omega (arith, sum-one k x n (omega arith))))
 
 -- ---- sums over lists
 pub sum-table : {A : Type 0} (f : A → ℕ) (n : ℕ) (g : ℕ → A) → sumOf (table n g) f ≡ sumTo n (λ i. f (g i))

@@ -16,10 +16,10 @@ use Rattle.plan.specs.declared.Hi.{Hi}
 use Rattle.phich.specs.Spreading.{spreadLength}
 use Rattle.phich.specs.Units.{mappingUnit}
 use Rattle.phich.proofs.Units.{hi-unit}
-use Rattle.counts.specs.Sums.{sumTo, sumOf}
-use Rattle.counts.proofs.Sums.{sum-same, sum-none, sum-add}
+use Rattle.base.specs.Sums.{sumTo, sumOf}
+use Rattle.base.proofs.Sums.{sum-same, sum-none, sum-add, sum-one}
 use Rattle.payload.specs.Bits.{occurs, mappingUnitBits}
-use Rattle.payload.proofs.Sums.{sum-one, occurs-nil}
+use Rattle.payload.proofs.Sums.{occurs-nil}
 
 occurs-if : (t : Bool) (b x : ℕ) (rest : List ℕ) → occurs b (if t then x ∷ rest else rest) ≡ (if t then indicator (eqb x b) else 0) + occurs b rest
 unfolding occurs sumOf

@@ -12,7 +12,7 @@ use Rattle.phich.specs.Spreading.{spreadLength}
 use Rattle.phich.specs.Units.{mappingUnit}
 use Rattle.layout.specs.declared.Owner.{Owner}
 use Rattle.layout.specs.declared.Owner.the-variants.{Crs, Sync, Pbch, Pcfich, Phich, User as UserOf, Held, Idle}
-use Rattle.counts.specs.Sums.{sumOf}
+use Rattle.base.specs.Sums.{sumOf}
 use Rattle.payload.specs.Sections.{sectionBits}
 use Rattle.payload.specs.Payload.{heads, sections}
 

@@ -7,8 +7,8 @@ use Rattle.plan.specs.declared.Plan.{Plan}
 use Rattle.base.specs.Choice.{indicator}
 use Rattle.layout.specs.Owners.{symbols, carriers, owns}
 use Rattle.layout.specs.declared.Owner.{Owner}
-use Rattle.counts.specs.Sums.{sumTo}
-use Rattle.counts.proofs.Sums.{sum-same, cnt-sum}
+use Rattle.base.specs.Sums.{sumTo}
+use Rattle.base.proofs.Sums.{sum-same, cnt-sum}
 use Rattle.counts.specs.Counts.{countOf}
 use Rattle.base.specs.Counts.{cnt}
 use Rattle.places.specs.Places.{placeNumber, placesOf, ownsAt}

@@ -1,11 +1,12 @@
 -- Half blocks: which of six subcarriers of a row an owner has. Assumes a control region of one symbol or more.
-use Prim.Native.Nat.{ℕ, zero, suc, _+_, _*_, _%_, _≤_, _<_}
+use Prim.Native.Nat.{ℕ, suc, _+_, _*_, _%_, _≤_, _<_}
 use mathlib.Core.Path.{_≡_, refl, ap₂, _∙_}
 use mathlib.Core.Bool.{Bool, true, false, not, _&&_, and-false}
-use mathlib.Core.List.{List, [], _∷_}
+use mathlib.Core.List.{List}
 use native.Mathlib.Omega.{arith}
 use lib.Dec.{leb}
 use borrow.Author.Tests.{le-leb, leb-true}
+use Rattle.base.proofs.Passing.{passes-same}
 use Rattle.base.proofs.Tests.{by-test, same-test}
 use Rattle.plan.specs.Check.{checkOf}
 use Rattle.plan.specs.CommandLists.{usersOf}
@@ -18,7 +19,8 @@ use Rattle.plan.specs.Valid.{Valid}
 use Rattle.plan.proofs.Valid.{valid}
 use Rattle.layout.specs.Rules.{slotOf, standsAt, crsOf, crsBelow, crsAny, middle, centre, inSyncArea, inPbchArea, pbch}
 use Rattle.plan.specs.Fields.{controlSymbols}
-use Rattle.layout.specs.Owners.{blocksHave, userHas, userRule, free, fixedRule, owns}
+use Rattle.layout.specs.Owners.{blocksHave, userRule, free, fixedRule, owns}
+use Rattle.layout.specs.Chain.{userHas}
 use Rattle.layout.specs.declared.Owner.the-variants.{Pbch, User as UserOf}
 use Rattle.layout.proofs.ControlRegion.{AfterRegion, after-region}
 use Rattle.counts.proofs.UserElements.{area-free}
@@ -41,10 +43,7 @@ module _ (b r : ℕ) (in-r : r < 6) where
       (leb-same (suc (6 * b + r)) (12 * (u .first + u .count)) (suc (6 * b)) (12 * (u .first + u .count)) (λ h. omega arith) (λ h. omega arith))
 
   user-six : (us : List User) (i n : ℕ) → userHas us i n (6 * b + r) ≡ userHas us i n (6 * b)
-  unfolding userHas
-  user-six [] i n = refl
-  user-six (u ∷ us) zero n = blocks-six u n
-  user-six (u ∷ us) (suc i) n = user-six us i n
+  user-six us i n = passes-same (λ (u : User). blocksHave u n (6 * b + r)) (λ (u : User). blocksHave u n (6 * b)) (λ u. blocks-six u n) us i
 
   centre-six : (c : Cell) → centre c (6 * b + r) ≡ centre c (6 * b)
   unfolding middle
@@ -96,7 +95,7 @@ module _ (w : List ℕ) (p : Plan) (ok : Valid w p) where
       let n = not (crsAny (p .cell) s r) in
       let t = not (takenHalf (p .cell) (p .frame) s b) in
       by-test (leb (controlSymbols (p .cell) (p .frame)) s)
-      (λ e. rw (e, user-six b r h, free-half s b r h (after-region w p ok s (leb-true (controlSymbols (p .cell) (p .frame)) s e))) (order (u (6 * b)) n t))
+      (λ e. rw (e, user-six b r h (usersOf w p) i (slotOf (p .cell) s), free-half s b r h (after-region w p ok s (leb-true (controlSymbols (p .cell) (p .frame)) s e))) (order (u (6 * b)) n t))
       (λ e. rw e (lost (u (6 * b + r)) (u (6 * b)) (free (p .cell) (p .frame) s (6 * b + r)) t n))
 
 -- a user's, under an accepted plan

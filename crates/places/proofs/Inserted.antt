@@ -10,7 +10,8 @@ use borrow.Author.Tests.{lt-ltb, le-ltb, not-true}
 use Rattle.base.proofs.Tests.{clash}
 use Rattle.base.specs.Choice.{indicator}
 use Rattle.plan.specs.declared.Cell.{Cell}
-use Rattle.layout.specs.Rules.{symbolGroups, formatGroup, isFormat, formatHas, quadSymbol, isLeft, groupsLeft, quadNumber, quadGroup}
+use Rattle.plan.specs.Fields.{symbolGroups}
+use Rattle.layout.specs.Rules.{formatGroup, isFormat, formatHas, quadSymbol, isLeft, groupsLeft, quadNumber, quadGroup}
 use Rattle.layout.specs.Chain.{belowOf, number}
 use Rattle.layout.proofs.Groups.{is-format, below, number-is, number-later}
 use Rattle.layout.proofs.Units.{number-lt, unit-number}

@@ -15,7 +15,8 @@ use Rattle.base.proofs.Counts.{cnt-none, cnt-add, cnt-same, cnt-skip, cnt-all, 
 use Rattle.base.proofs.Tests.{both}
 use Rattle.plan.specs.declared.Cell.{Cell}
 use Rattle.plan.proofs.Listed.{and-left, and-right}
-use Rattle.layout.specs.Rules.{groupSize, symbolGroups, elementGroup, inGroup}
+use Rattle.plan.specs.Fields.{groupSize, symbolGroups}
+use Rattle.layout.specs.Rules.{elementGroup, inGroup}
 use Rattle.layout.proofs.GroupShape.{by-size, group-below}
 use Rattle.layout.specs.Owners.{symbols, carriers}
 use Rattle.counts.proofs.Groups.{group-four}

@@ -6,14 +6,15 @@ use native.Mathlib.Omega.{arith}
 use lib.Dec.{ltb}
 use Rattle.base.specs.Choice.{indicator}
 use Rattle.plan.specs.declared.Cell.{Cell}
-use Rattle.layout.specs.Rules.{groupSize, symbolGroups, formatGroup, quadSymbol, groupsLeft, startNumber, quadNumber, quadGroup}
+use Rattle.plan.specs.Fields.{groupSize, symbolGroups}
+use Rattle.layout.specs.Rules.{formatGroup, quadSymbol, groupsLeft, startNumber, quadNumber, quadGroup}
 use Rattle.layout.specs.Owners.{carriers}
 use Rattle.layout.proofs.GroupShape.{else-six, groups-most}
 use Rattle.layout.proofs.Groups.{left-most}
 use Rattle.layout.proofs.Units.{number-lt}
 use Rattle.places.specs.Quads.{quadPlace}
 use Rattle.layout.specs.Chain.{belowOf}
-use Rattle.places.specs.Steps.{stepOf}
+use Rattle.places.specs.Steps.{stepOf, leftOf}
 use Rattle.places.specs.Places.{placeNumber}
 use Rattle.places.proofs.Quads.{place-four, place-six}
 use Rattle.places.proofs.Inserted.{unit-inserted, unit-later}
@@ -32,9 +33,8 @@ step-sum a b c d n t ex er = rw (← ex) er
 module _ (c : Cell) (m i : ℕ) (big : 6 ≤ c .blocks) {n : ℕ} (en : n ≡ quadNumber c m i) where
   pub unit-sum :
       {s : ℕ} → s ≡ quadSymbol c i → s ≤ 0 → {w x y z : ℕ} → w ≡ formatGroup c 0 → x ≡ formatGroup c 1 → y ≡ formatGroup c 2 → z ≡ formatGroup c 3
-      → {a b d e : ℕ} → a ≡ stepOf w x y z n w → b ≡ stepOf w x y z n x → d ≡ stepOf w x y z n y → e ≡ stepOf w x y z n z
-      → n + (a + b + d + e) ≡ quadGroup c m i
-  unit-sum es l ew ex ey ez ea eb ed ee = let z : quadSymbol c i ≡ 0 = omega arith in cc (unit-inserted c big m i z)
+      → {g : ℕ} → g ≡ leftOf w x y z n → g ≡ quadGroup c m i
+  unit-sum es l ew ex ey ez eg = let z : quadSymbol c i ≡ 0 = omega arith in eg ∙ rw (ew, ex, ey, ez, en) (unit-inserted c big m i z)
 
   pub unit-sum-later : {s : ℕ} → s ≡ quadSymbol c i → 0 < s → n ≡ quadGroup c m i
   unit-sum-later es l = en ∙ unit-later c big m i (omega arith)
@@ -48,8 +48,8 @@ module _ (c : Cell) (s g j : ℕ) {z : ℕ} (in-g : g < symbolGroups c s) (in-j 
   place-of-six n ex = rw (eW, ex, place-six c s g j in-g in-j (else-six c s (λ d. n (ez ∙ d)))) refl
 
 -- what fits the machine's words
-pub rows-few : (c : Cell) (s : ℕ) {W : ℕ} → W ≡ carriers c → s < 3 → c .blocks < 256 → s * W ≤ 2 * 3060
-rows-few c s {W = W} e l small = mul-le-mul {n₁ = s} {m₁ = W} {n₂ = 2} {m₂ = 3060} (omega arith) (omega arith)
+pub rows-few : (c : Cell) (s : ℕ) {W : ℕ} → W ≡ carriers c → s < 4 → c .blocks < 256 → s * W ≤ 3 * 3060
+rows-few c s {W = W} e l small = mul-le-mul {n₁ = s} {m₁ = W} {n₂ = 3} {m₂ = 3060} (omega arith) (omega arith)
 
 pub groups-few : (c : Cell) (s g : ℕ) → g < symbolGroups c s → c .blocks < 256 → g < 1024
 groups-few c s g l small = omega (arith, groups-most c s)

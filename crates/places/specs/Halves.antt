@@ -10,7 +10,7 @@ use Rattle.plan.specs.declared.Frame.{Frame}
 use Rattle.plan.specs.declared.Plan.{Plan}
 use Rattle.layout.specs.Rules.{slotOf, crsBelow, inSyncArea, inPbchArea}
 use Rattle.plan.specs.Fields.{controlSymbols}
-use Rattle.layout.specs.Owners.{userHas}
+use Rattle.layout.specs.Chain.{userHas}
 
 -- the r-th of six subcarriers of symbol s has no reference signal of the ports below P
 unfoldable pub without : Cell → ℕ → ℕ → ℕ → Bool

@@ -1,4 +1,4 @@
--- Laws that the proofs cite. For the crates above: Verdict, Earliest, Valid, Counts, ControlRegion, CommandLists, Entries, Reading, Answers. About lists alone: OneOf, Listed, Few.
+-- Laws that the proofs cite. For the crates above: Verdict, Earliest, Valid, Counts, ControlRegion, ControlElements, CommandLists, Entries, Reading, Answers. About lists alone: OneOf, Listed, Few.
 pub mod OneOf
 pub mod Listed
 pub mod Few
@@ -14,6 +14,7 @@ mod OneCommand
 mod Opening
 pub mod Valid
 pub mod Counts
+pub mod ControlElements
 mod Before
 mod Phases
 mod Clashes

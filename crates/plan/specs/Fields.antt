@@ -1,5 +1,6 @@
--- What the promises cite: the ranges of the commands' fields. Document 01, Plan and payload; Owners (PHICH).
-use Prim.Native.Nat.{ℕ, _+_, _*_, _/_}
+-- What the promises cite: the ranges of the commands' fields, and what they go by: the control region and its groups. Document 01, Plan and
+-- payload; Owners (PHICH); document 02.
+use Prim.Native.Nat.{ℕ, zero, suc, _+_, _-_, _*_, _/_}
 use mathlib.Core.Bool.{Bool, true, cond, _&&_, _||_}
 use mathlib.Core.List.{List, [], _∷_}
 use lib.Dec.{leb, ltb, eqb}
@@ -62,6 +63,28 @@ hiOk c h = ltb (h .group) (phichGroups c) && ltb (h .sequence) (sequencesOf c)
 
 unfoldable pub samePair : Hi → Hi → Bool
 samePair h e = eqb (h .group) (e .group) && eqb (h .sequence) (e .sequence)
+
+-- ---- control groups: "Symbol 0 has 2N groups of six subcarriers". Document 02: "Symbols 1 and 2 have three groups of four per block,
+-- symbol 1 with four ports two groups of six" (#108); "A fourth control symbol has three groups of four per block in the normal prefix,
+-- two groups of six in the extended one" (#102). The subcarriers of a group of control symbol s, 0 to 3 (36.211 6.2.4)
+unfoldable pub groupSize : Cell → ℕ → ℕ
+groupSize c s = cond (eqb s 0 || (eqb s 1 && eqb (c .ports) 4) || (eqb s 3 && eqb (c .prefix) 1)) 6 4
+
+-- how many groups the symbol has, and those below symbol s have
+unfoldable pub symbolGroups : Cell → ℕ → ℕ
+symbolGroups c s = 12 * c .blocks / groupSize c s
+
+unfoldable pub groupsBelow : Cell → ℕ → ℕ
+groupsBelow c zero = 0
+groupsBelow c (suc s) = groupsBelow c s + symbolGroups c s
+
+-- ---- control elements: "With R groups left in the control symbols (s < CFI) after PCFICH and PHICH, there are floor(R/9)" (document 02,
+-- #101). R: PCFICH has four groups, each PHICH unit three. (`layout` shows that so many are left: no group is taken twice)
+unfoldable pub regionGroups : Cell → Frame → ℕ
+regionGroups c f = groupsBelow c (controlSymbols c f) - 4 - 3 * mappingUnits c
+
+unfoldable pub controlElements : Cell → Frame → ℕ
+controlElements c f = regionGroups c f / 9
 
 -- "RNTI u16 (1–65535); modulation Q u8 ..; first block u8; count u8, at least 1, first + count ≤ N"
 unfoldable pub userOk : Cell → User → Bool

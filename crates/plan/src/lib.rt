@@ -2,15 +2,15 @@
 // with the plan, or with the first fault: which command, at which byte of the plan, the first of its fields that has the fault,
 // and so the refusal; and the command before that it clashes with.
 ghost use mathlib.Core.Path.{_≡_};
-ghost use Prim.Native.Nat.{_+_, _*_, _≤_};
+ghost use Prim.Native.Nat.{_+_, _*_, _≤_, _<_};
 ghost use mathlib.Core.List.{List};
 ghost use lib.ListN.{length, drop};
 ghost use Rattle.plan.specs.Lists.{oneOf};
 ghost use Rattle.plan.specs.Commands.{byte, cellWith, cellOf, cellxOf, frameOf, hiOf, userOf, entryFor, commandOf};
-ghost use Rattle.plan.specs.Fields.{mappingUnits, phichGroups, sequencesOf, samePair, controlSymbols, phichFits};
+ghost use Rattle.plan.specs.Fields.{mappingUnits, phichGroups, sequencesOf, samePair, controlSymbols, phichFits, groupSize, symbolGroups, regionGroups};
 ghost use Rattle.plan.specs.Check.{refusalNumber, checkOf, refusalOf};
 ghost use Rattle.plan.specs.CommandLists.{nextOf};
-ghost use Rattle.plan.specs.Valid.{CellIn};
+ghost use Rattle.plan.specs.Valid.{CellIn, FrameIn};
 ghost use Rattle.plan.specs.Finding.{causeRefusal, demand as demandOf, cellCause, frameCause, hiCause, userCause, foundAt, walkOf};
 ghost use Rattle.plan.specs.Finding.{sameRnti, sharesBlock, sharedBy, inCommon, earlierOf, findingAt, findingOf};
 ghost use Rattle.plan.specs.Loops.{brokenFor, lateCause, celled, cellRest, restFrom, bodyRest, planRest, standsAt, pairOf, blocksOf, PairsUsed, UsersUsed, HisPast, HisRead, EndDue};
@@ -506,6 +506,51 @@ pub fn sequences(c: Cell) -> u8
     ensures { λ r. ⌜ r ≡ sequencesOf c ⌝ }
 {
     if c.prefix == 1 { 4 } else { 8 }
+}
+
+// The subcarriers of a group of control symbol s.
+pub fn group_size(cell: Cell, s: usize) -> usize
+    requires { ⌜ s < 4 ⌝ }
+    ensures { λ r. ⌜ r ≡ groupSize cell s ⌝ }
+{
+    if s == 0 {
+        return 6;
+    }
+    if s == 1 {
+        return if cell.ports == 4 { 6 } else { 4 };
+    }
+    if s == 3 {
+        return if cell.prefix == 1 { 6 } else { 4 };
+    }
+    4
+}
+
+// The groups of control symbol s, of six subcarriers or of four: two or three a block.
+fn symbol_groups(cell: Cell, s: usize) -> usize
+    requires { ⌜ s < 4 ⌝ }
+    ensures { λ r. ⌜ (r ≡ symbolGroups cell s) × (r ≤ 3 * cell .blocks) ⌝ }
+{
+    let blocks = cell.blocks as usize;
+    if group_size(cell, s) == 4 {
+        3 * blocks
+    } else {
+        2 * blocks
+    }
+}
+
+// The groups of the control region that PCFICH, with four, and the PHICH units, with three each, leave.
+pub fn region_groups(cell: Cell, frame: Frame) -> usize
+    requires { ⌜ CellIn cell × FrameIn frame ⌝ }
+    ensures { λ r. ⌜ (r ≡ regionGroups cell frame) × (r < 1024) ⌝ }
+{
+    let symbols = control_symbols(cell, frame);
+    let mut all: usize = 0;
+    let mut s: usize = 0;
+    while s < symbols {
+        all = all + symbol_groups(cell, s);
+        s = s + 1;
+    }
+    all - 4 - 3 * units(cell)
 }
 
 // Whether an RNTI is in a table, with no early exit, so that several places are looked at together.

@@ -43,7 +43,7 @@ swap true false = refl
 swap false true = refl
 swap false false = refl
 
-shuffle : (a b c d : Bool) → (a || b) || (c || d) ≡ (d || b) || (c || a)
+pub shuffle : (a b c d : Bool) → (a || b) || (c || d) ≡ (d || b) || (c || a)
 shuffle true b c true = refl
 shuffle true b c false = sym (ap (λ (x : Bool). b || x) (swap c true) ∙ swap b true)
 shuffle false b c true = ap (λ (x : Bool). b || x) (swap c true) ∙ swap b true

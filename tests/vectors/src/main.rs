@@ -1,8 +1,9 @@
-//! Prints expected vectors for the downlink mapper, written from TS 36.211
-//! and documents 01 and 02 alone. One argument names the section.
+//! Prints expected vectors for the downlink mapper, written from TS 36.211,
+//! TS 36.212 and documents 01 and 02 alone. One argument names the section.
 
 mod crs;
 mod gold;
+mod interleaver;
 mod modulation;
 mod phich;
 mod precoding;
@@ -22,6 +23,7 @@ fn section(name: &str) -> Option<Vec<String>> {
         "phich" => Some(phich::lines()),
         "precoding" => Some(precoding::lines()),
         "sample" => Some(sample::lines()),
+        "interleaver" => Some(interleaver::lines()),
         _ => None,
     }
 }
@@ -33,7 +35,7 @@ fn main() -> ExitCode {
         _ => None,
     };
     let Some(lines) = lines else {
-        eprintln!("usage: vectors gold|modulation|sync|crs|phich|precoding|sample");
+        eprintln!("usage: vectors gold|modulation|sync|crs|phich|precoding|sample|interleaver");
         return ExitCode::from(2);
     };
     let mut text = lines.join("\n");
@@ -51,7 +53,7 @@ fn main() -> ExitCode {
 mod tests {
     use super::section;
 
-    const NAMES: [&str; 7] = [
+    const NAMES: [&str; 8] = [
         "gold",
         "modulation",
         "sync",
@@ -59,6 +61,7 @@ mod tests {
         "phich",
         "precoding",
         "sample",
+        "interleaver",
     ];
 
     #[test]
@@ -77,8 +80,9 @@ mod tests {
         // gold: 1 + 9 * 6 + 28; modulation: 340 + 4 * 33 * 33;
         // sync: 3 + 168 + 102 * 2; crs: 2 * 6 * 4 * 3 * 3;
         // phich: 2 * 24 * 4; precoding: 5 + 12 + 32 + 24 + 36 * (1 + 2 + 4);
-        // sample: 9 + 9 * 33 + 256.
-        let counts = [83, 4696, 375, 432, 192, 325, 562];
+        // sample: 9 + 9 * 33 + 256;
+        // interleaver: 4 * (6 + 4 * 2 + 3 + 4 + 8 + 11 + 16 + 22 + 25).
+        let counts = [83, 4696, 375, 432, 192, 325, 562, 412];
         for (name, count) in NAMES.iter().zip(counts) {
             assert_eq!(section(name).unwrap().len(), count, "{name}");
         }

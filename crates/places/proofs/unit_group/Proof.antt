@@ -28,38 +28,17 @@ format-group-requires-3 c κs = search needs
 format-group-requires-4 : tie.Need-format-group-requires-4
 format-group-requires-4 c κs = search needs
 
-step-requires : tie.Need-step-requires
-step-requires c κs = search needs
-
-step-requires-2 : tie.Need-step-requires-2
-step-requires-2 c κs = search needs
-
-add-result : tie.Need-add-result
-add-result c = search needs
-
-step-requires-3 : tie.Need-step-requires-3
-step-requires-3 c κs = search needs
-
-add-result-2 : tie.Need-add-result-2
-add-result-2 c = search needs
-
-step-requires-4 : tie.Need-step-requires-4
-step-requires-4 c κs = search needs
-
-add-result-3 : tie.Need-add-result-3
-add-result-3 c = search needs
-
-add-result-4 : tie.Need-add-result-4
-add-result-4 c = search needs
+left-group-requires : tie.Need-left-group-requires
+left-group-requires c κs = search needs
 
 returns-2 : tie.Need-returns-2
 returns-2 c =
-    let at-step3 = c .before in let at-step2 = at-step3 .before in let at-step = at-step2 .before in let at-format-group4 = at-step .before in
+    let at-format-group4 = c .before in
     let at-format-group3 = at-format-group4 .before in let at-format-group2 = at-format-group3 .before in let at-format-group = at-format-group2 .before in
     let at-if1 = at-format-group .before in let at-quad-symbol = at-if1 .before in let at-unit-number = at-quad-symbol .before in let entry = at-unit-number .before in
     unit-sum (entry .args .cell) (entry .args .m) (entry .args .i) (entry .pre .0) (at-unit-number .unit-number .ensures .0) (at-quad-symbol .quad-symbol .ensures)
     (at-if1 .if1 .left) (at-format-group .format-group .ensures) (at-format-group2 .format-group2 .ensures) (at-format-group3 .format-group3 .ensures)
-    (at-format-group4 .format-group4 .ensures) (at-step .step .ensures .0) (at-step2 .step2 .ensures .0) (at-step3 .step3 .ensures .0) (c .step4 .ensures .0)
+    (at-format-group4 .format-group4 .ensures) (c .left-group .ensures)
 
 pub unit-group-spec : {M : Type 1} → statement M
 unit-group-spec =
@@ -72,12 +51,5 @@ unit-group-spec =
     format-group-requires-2
     format-group-requires-3
     format-group-requires-4
-    step-requires
-    step-requires-2
-    add-result
-    step-requires-3
-    add-result-2
-    step-requires-4
-    add-result-3
-    add-result-4
+    left-group-requires
     returns-2)

@@ -1,0 +1,3 @@
+pub mod Groups
+pub mod Walk
+pub mod Block

@@ -1,0 +1,5 @@
+pub mod Pairs
+pub mod Places
+pub mod Quads
+pub mod Given
+pub mod Elements
