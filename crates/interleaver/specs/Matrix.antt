@@ -1,5 +1,6 @@
--- What the promises cite. TS 36.212 5.1.4.2.1, the sub-block interleaver, on R quads for every R: "rows of 32, empty places first and
--- dropped at the end; the j-th column read is the one numbered by the five bits of (j+16) mod 32, reversed" (request #101).
+-- For laws and inner contracts, and ahead of the promises of document 02, #101: TS 36.212 5.1.4.2.1, the sub-block interleaver, on R quads for
+-- every R. "rows of 32, empty places first and dropped at the end; the j-th column read is the one numbered by the five bits of (j+16) mod
+-- 32, reversed".
 -- Places of the matrix are numbered row by row, reads of it column by column: read t is row t mod rows of the column read (t / rows)-th.
 use Prim.Native.Nat.{ℕ, _+_, _-_, _*_, _/_, _%_, _<_}
 use mathlib.Core.Path.{_≡_}

@@ -1,5 +1,5 @@
--- What the promises cite: the groups of the control region that neither PCFICH nor PHICH has, by one number in the order of TS 36.211 6.8.5.
--- Document 02, #101. c is the cell, L the number of control symbols, s one of them, t a group of it.
+-- For laws and inner contracts, and ahead of the promises of document 02, #101: the groups of the control region that neither PCFICH nor
+-- PHICH has, by one number in the order of TS 36.211 6.8.5. c is the cell, L the number of control symbols, s one of them, t a group of it.
 use Prim.Native.Nat.{ℕ, _+_, _*_, _/_, _%_}
 use mathlib.Core.Bool.{Bool, not, _&&_}
 use lib.Dec.{eqb, ltb}
@@ -15,7 +15,7 @@ unfoldable pub isVacant : Cell → ℕ → ℕ → Bool
 isVacant c s t = ltb t (symbolGroups c s) && isLeft c s t && not (someOf (λ (m : ℕ). mappingUnitHas c m s t) (mappingUnits c))
 
 -- "mapped as in 36.211 6.8.5", steps 1 to 10: k' goes up from 0, for each k' the symbol l' from 0 to L − 1, and m' counts the groups so far
--- that "(k', l') represents", which have it as their lowest subcarrier, and that are left. x is k' × L + l'
+-- that have (k', l') as their lowest subcarrier and are vacant. x is k' × L + l'
 unfoldable pub vacantAt : Cell → ℕ → ℕ → Bool
 vacantAt c L x = eqb (x / L % groupSize c (x % L)) 0 && isVacant c (x % L) (x / L / groupSize c (x % L))
 

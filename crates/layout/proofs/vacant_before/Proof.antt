@@ -1,7 +1,7 @@
+-- The vacant groups of the symbols so far, one symbol more with each turn.
 use native.Mathlib.Omega.{arith}
 use borrow.Author.Needs.{needs}
 use Rattle.layout.proofs.VacantWays.{before-none, size-least, starts-fit, before-next, before-all}
--- The vacant groups of the symbols so far, one symbol more with each turn.
 use Prim.Native.Nat.{_≤_, _-_, _*_}
 use mathlib.Core.Path.{_≡_}
 use Rattle.layout.specs.Chain.{vacantBefore}

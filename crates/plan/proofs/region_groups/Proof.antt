@@ -1,3 +1,4 @@
+-- `plan::region_groups` meets its contract: the groups of the symbols so far, one symbol more with each turn. Assumes nothing.
 use Rattle.plan.proofs.ControlElements.{region-loop, region-less}
 use Prim.Native.Nat.{_≤_, _-_}
 use mathlib.Core.Path.{_≡_}
@@ -5,7 +6,6 @@ use native.Mathlib.Omega.{arith}
 use Rattle.plan.specs.Fields.{groupsBelow}
 use Rattle.plan.proofs.Counts.{blocks-most, units-most}
 use Rattle.plan.proofs.ControlElements.{below-none, below-next, below-most, region-symbols, region-fits}
--- `plan::region_groups` meets its contract: the groups of the symbols so far, one symbol more with each turn. Assumes nothing.
 use Rattle.plan.proofs.region_groups.Statement.{statement}
 use Rattle.plan.proofs.region_groups.Tie as tie
 
