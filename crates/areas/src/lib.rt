@@ -1,5 +1,7 @@
 // The places of the channels that fill them k first, then s, PBCH and the users (TS 36.211 6.6.4, 6.3.5): rows, half blocks of six subcarriers,
 // and the subcarriers of six that have no reference signal.
+#![tactic(auto)]
+
 ghost use Rattle.std.specs.Prelude.{◌≡◌, ◌*◌, ◌≤◌, ◌<◌, length};
 ghost use Rattle.areas.specs.Areas.{pbch_area, user_area};
 ghost use Rattle.areas.specs.Masks.{bit_if, mask_but, Masks};
@@ -9,7 +11,7 @@ use plan::{Cell, Frame, User};
 
 // The places of such a channel by half blocks of six subcarriers: rows `first` to `last` - 1, half blocks `from` to `to` - 1, without
 // the reference signals of the ports below `signals` and, if `leaves`, without synchronisation's and PBCH's half blocks.
-#[derive(Drop)]
+#[derive(Clone, Copy)]
 pub struct Area {
     pub cell: Cell,
     pub frame: Frame,
@@ -22,7 +24,7 @@ pub struct Area {
 }
 
 // Spans `first` to `whole` - 1 of a table have all half blocks of an area, and `whole` to `end` - 1 those without the centre's.
-#[derive(Drop)]
+#[derive(Clone, Copy)]
 struct SpanLists {
     first: usize,
     whole: usize,
@@ -30,7 +32,7 @@ struct SpanLists {
 }
 
 // The spans of a row: `first` to `end` - 1.
-#[derive(Drop)]
+#[derive(Clone, Copy)]
 struct RowSpans {
     first: usize,
     end: usize,

@@ -1,4 +1,6 @@
 // Sets of numbers as words of 64 bits: n is a member where bit n % 64 of word n / 64 is 1. A set of two words has the numbers below 128.
+#![tactic(auto)]
+
 ghost use Rattle.std.specs.Prelude.{◌≡◌, ◌-◌, ◌/◌, ◌<◌, length};
 ghost use Rattle.bitset.specs.Sets.{member, added, ones_of, run_of, meet, joined};
 

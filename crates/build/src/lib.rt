@@ -1,4 +1,6 @@
 // build: the grid of a plan and a payload, channel by channel in the schedule's turns (document 01).
+#![tactic(auto)]
+
 ghost use Rattle.std.specs.Prelude.{◌≡◌, ℕ, length};
 ghost use Rattle.base.specs.Tables.{table};
 ghost use Rattle.plan.specs.Check.{check_of};
@@ -17,7 +19,7 @@ use plan::{Checked, Plan, Refusal};
 use schedule::Channel;
 
 // The count of user elements, ports not multiplied, or the refusal.
-#[derive(Drop)]
+#[derive(Clone, Copy)]
 pub enum Built {
     Elements(usize),
     Refused(Refusal),

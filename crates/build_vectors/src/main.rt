@@ -1,5 +1,7 @@
 // Calls of build: reads them from standard input and prints of each its number, from 1, the count or "refused" and the number, and
 // a digest of the grid after the call. Every byte of the grid is 165 before it, so that a refusal shows that no byte changed.
+#![tactic(auto)]
+
 use build::Built;
 use records::value;
 

@@ -1,5 +1,7 @@
 // A channel written into a grid. Every channel with a sequence is filled through a lent register pair (document 01, Sequence: "The register
 // pair is lent to the channel being filled and advanced in place").
+#![tactic(auto)]
+
 ghost use Rattle.std.specs.Prelude.{◌≡◌, length};
 ghost use Rattle.gold.specs.Steps.{after};
 ghost use Rattle.grid.specs.Writing.{Written};

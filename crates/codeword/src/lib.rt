@@ -1,4 +1,6 @@
 // Scrambling of a channel's bits (TS 36.211 6.3.1): its scrambled bits, 48 at a time from the sequence and as many at a time as are asked for.
+#![tactic(auto)]
+
 ghost use Rattle.std.specs.Prelude.{◌≡◌, ◌+◌, ◌*◌, ◌%◌, ◌<◌, ◌≤◌, ◌^◌, length, get_or};
 ghost use Rattle.base.specs.Bits.{bit_at};
 ghost use Rattle.gold.specs.Sequence.{binary};
@@ -114,7 +116,7 @@ fn joined(word: u64, next: u64) -> u64
 
 // The word in use, and how many of its lowest bits are not taken. A loop has them in locals, since the compiler cannot tell the array from a
 // grid that is written.
-#[derive(Drop)]
+#[derive(Clone, Copy)]
 pub struct Rest {
     pub word: u64,
     pub left: u64,

@@ -1,5 +1,7 @@
 // A grid's elements compared with the values that are due there, in place: the number of their bytes that are not 0, or a
 // difference. When the numbers of all channels make up that of the grid, every other element is silent.
+#![tactic(auto)]
+
 ghost use Rattle.std.specs.Prelude.{◌≡◌, ℕ, ◌+◌, ◌*◌, ◌/◌, ◌≤◌, ◌<◌, length};
 ghost use Rattle.base.specs.Pairs.{Small};
 ghost use Rattle.precoding.specs.Places.{on_port};
@@ -10,7 +12,7 @@ ghost use Rattle.compare.specs.Comparing.{nonzero, nonzeros, seen_of, both_of, F
 use base::{Element, Pair};
 
 // What a comparison of elements with their values found: how many of their bytes are not 0, or a difference.
-#[derive(Drop)]
+#[derive(Clone, Copy)]
 pub enum Seen {
     Weight(usize),
     Differs,

@@ -1,4 +1,6 @@
 // TS 36.211 7.1: the elements of a modulation order's symbols as numbers, the unit's byte + 256 I + 65536 J, in a table by the word of their bits.
+#![tactic(auto)]
+
 ghost use Rattle.std.specs.Prelude.{◌≡◌, ◌+◌, ◌*◌, ◌%◌, ◌^◌, ◌≤◌, ◌<◌, nat_abs, length, get_or};
 ghost use Rattle.base.specs.Bytes.{signed_of};
 ghost use Rattle.constellation.specs.Entries.{three_bytes, byte_less, four_set, Entries, Elements, Widened};

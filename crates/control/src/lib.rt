@@ -1,5 +1,7 @@
 // What writing, comparing and reading the control channels share (TS 36.211 6.7, 6.9): the pairs of symbols of PCFICH and of a PHICH
 // unit with their places, and the length of the spreading sequences.
+#![tactic(auto)]
+
 ghost use Rattle.std.specs.Prelude.{◌≡◌, ◌≤◌, ◌<◌};
 ghost use Rattle.gold.specs.Sequence.{binary};
 ghost use Rattle.codeword.specs.Codewords.{cfi_bit};
@@ -14,7 +16,7 @@ use plan::Cell;
 
 // Two symbols that are sent beside each other, the numbers of their places, two of a group's four, and which pair of antenna ports sends
 // them (6.3.4.3, 6.9.2).
-#[derive(Drop)]
+#[derive(Clone, Copy)]
 pub struct PairAt {
     pub first_place: usize,
     pub second_place: usize,

@@ -1,4 +1,6 @@
 // The HIs' bits back from a grid (TS 36.211 6.9): each from the first quad of its PHICH unit.
+#![tactic(auto)]
+
 ghost use Rattle.std.specs.Prelude.{◌≡◌, ◌+◌, ◌*◌, drop};
 ghost use Rattle.gold.specs.Steps.{after};
 ghost use Rattle.plan.specs.Fields.{mapping_units};

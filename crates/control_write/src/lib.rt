@@ -1,4 +1,6 @@
 // PCFICH and the PHICH units written into a grid (TS 36.211 6.7, 6.9): two places at a time.
+#![tactic(auto)]
+
 ghost use Rattle.std.specs.Prelude.{◌≡◌, ◌*◌};
 ghost use Rattle.gold.specs.Steps.{after};
 ghost use Rattle.phich.specs.Spreading.{spread_length};

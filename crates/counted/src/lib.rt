@@ -1,4 +1,6 @@
 // What gridcount answers for an input: the counts of the nine kinds of owners, or a refusal (document 01, Known elements).
+#![tactic(auto)]
+
 ghost use Rattle.std.specs.Prelude.{◌≡◌};
 ghost use Rattle.plan.specs.Check.{refusal_number, check_of};
 ghost use Rattle.plan.specs.declared.Checked.TheVariants.{Plan as accepted};
@@ -9,7 +11,7 @@ use base::wide;
 use plan::{Checked, Plan, Refusal};
 
 // The refusal's number, or 0 and the counts in the order of the lines: CRS, PSS, SSS, PBCH, PCFICH, PHICH, PDSCH, held, idle.
-#[derive(Drop)]
+#[derive(Clone, Copy)]
 pub struct Counted {
     pub refusal: u8,
     pub counts: [usize; 9],

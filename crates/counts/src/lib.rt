@@ -1,5 +1,7 @@
 // How many places a user has, by products with numbers that are summed up once for all users (document 01: "its element count (a user's
 // G) is the number of its places, ports not multiplied"), and all users together: what build and read return.
+#![tactic(auto)]
+
 ghost use Rattle.std.specs.Prelude.{◌≡◌, ◌+◌, ◌-◌, ◌*◌, ◌≤◌, ◌<◌, min, max, ltb};
 ghost use Rattle.base.specs.Choice.{indicator};
 ghost use Rattle.plan.specs.Check.{check_of};
@@ -14,14 +16,14 @@ use layout::slot_length;
 use plan::{Cell, Frame, Plan, User};
 
 // Of one slot, the places of six subcarriers that users can have: in all of its symbols, and in those whose centre is taken.
-#[derive(Drop)]
+#[derive(Clone, Copy)]
 pub struct SlotShape {
     pub whole: usize,
     pub centre: usize,
 }
 
 // What a user's count needs of the cell and the frame: of the even slot, 2f, and of the odd one.
-#[derive(Drop)]
+#[derive(Clone, Copy)]
 pub struct Shape {
     pub even: SlotShape,
     pub odd: SlotShape,

@@ -1,4 +1,6 @@
 // Cell-specific reference signals, TS 36.211 6.10.1: the c_init of a symbol, and a value from two bits of its sequence.
+#![tactic(auto)]
+
 ghost use Rattle.std.specs.Prelude.{◌≡◌, ◌<◌, ◌≤◌};
 ghost use Rattle.crs.specs.Crs.{normal_prefix, crs_init, word_value};
 

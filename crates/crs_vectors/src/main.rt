@@ -1,4 +1,6 @@
 // Prints values of the cell-specific reference signals, to be compared with another implementation's.
+#![tactic(auto)]
+
 ghost use Rattle.std.specs.Prelude.{◌<◌, ◌≤◌};
 
 use base::Pair;

@@ -1,5 +1,7 @@
 // PBCH and the users in a grid, compared in place (TS 36.211 6.6, 6.3): run by run, whether each place holds a constellation point, and
 // the other port its partner. The bits themselves are read later, when the whole grid is known to be some payload's.
+#![tactic(auto)]
+
 ghost use Rattle.std.specs.Prelude.{◌≡◌, cond, ◌+◌, ◌*◌, ◌≤◌, ◌<◌, eqb};
 ghost use Rattle.modulation.specs.Symbols.{Order};
 ghost use Rattle.walk.specs.Addresses.{PairsIn, PairsFit, RunIn, RunOpen, SinglesIn, HolesIn};
@@ -17,7 +19,7 @@ use walk::Run;
 
 // What elements of an order and a unit have in common, for two elements as one number: `fixed` where `fixes` has bits, that is the
 // unit's byte and that levels are odd; and a level's bits from `same` on are alike, so that it is one of the order.
-#[derive(Drop)]
+#[derive(Clone, Copy)]
 pub struct Form {
     pub same: u64,
     pub fixed: u64,
@@ -44,7 +46,7 @@ pub fn wrong(f: Form, x: u64) -> u64
 }
 
 // Bits that were found in pairs, before those of the form are taken.
-#[derive(Drop)]
+#[derive(Clone, Copy)]
 pub struct Sums {
     pub fixed: u64,
     pub same: u64,
@@ -72,7 +74,7 @@ pub fn told(f: Form, s: Sums) -> u64
 }
 
 // Where the first pair and the next one begin, in bytes, and how far the other port is.
-#[derive(Drop)]
+#[derive(Clone, Copy)]
 pub struct Starts {
     pub at: usize,
     pub next: usize,
@@ -257,7 +259,7 @@ fn places_of(run: Run) -> usize
 }
 
 // How many places were compared, and the bits in which they are wrong.
-#[derive(Drop)]
+#[derive(Clone, Copy)]
 struct Sum {
     j: usize,
     bad: u64,

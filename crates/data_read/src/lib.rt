@@ -1,5 +1,7 @@
 // The bits of PBCH and of the users, read from a grid (TS 36.211 6.6, 6.3): each channel's section of the payload. Its places go run by run, on
 // two ports or four two pairs of places at a time, and bits come from an order's table of levels.
+#![tactic(auto)]
+
 ghost use Rattle.std.specs.Prelude.{◌≡◌, ◌+◌, ◌*◌, ◌≤◌, ◌<◌, ◌^◌, length};
 ghost use Rattle.payload.specs.Sections.{section_bytes};
 ghost use Rattle.recovery.specs.Recovery.{section_of};

@@ -1,5 +1,7 @@
 // PBCH and the users written into a grid (TS 36.211 6.3.5, 6.6.4): their places run by run, on two ports or four a pair of places at a time,
 // with elements from an order's table.
+#![tactic(auto)]
+
 ghost use Rattle.std.specs.Prelude.{◌≡◌, ◌+◌, ◌*◌, ◌≤◌, ◌<◌, length};
 ghost use Rattle.modulation.specs.Symbols.{Order, unit_of};
 ghost use Rattle.walk.specs.Addresses.{PairsIn, PairsFit, RunIn, RunOpen, SinglesIn, HolesIn};
@@ -56,7 +58,7 @@ pub fn round_apart(
 }
 
 // The bytes of the first round's pairs on their own ports, and how much further their other ports are.
-#[derive(Drop)]
+#[derive(Clone, Copy)]
 struct FirstRound {
     at: usize,
     next: usize,

@@ -1,5 +1,7 @@
 // Elements of a grid as numbers, the unit's byte + 256 I + 65536 J, and two of them as one number, the second 24 bits on: written and read by
 // wide stores and loads.
+#![tactic(auto)]
+
 ghost use Rattle.std.specs.Prelude.{◌≡◌, ◌+◌, ◌<◌, length};
 ghost use Rattle.element_pairs.specs.Numbers.{Put, OnePut, TwoPut, PairPut, HalfRead, OneRead, TwoRead};
 

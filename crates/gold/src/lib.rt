@@ -1,5 +1,7 @@
 // The pseudo-random sequence c(n) of TS 36.211 7.2, up to 28 bits at a time, or 48. A register holds the next 31 values of
 // its sequence as a number, the first most significant (bit 30), and so does a word.
+#![tactic(auto)]
+
 ghost use Rattle.std.specs.Prelude.{◌≡◌, ◌≤◌, ◌-◌, ◌/◌, ◌%◌, ◌^◌};
 ghost use Rattle.gold.specs.Sequence.{binary, start2, pair_at};
 ghost use Rattle.gold.specs.Steps.{after, word_of};
@@ -7,7 +9,7 @@ ghost use Rattle.gold.specs.Window.{window, sums, offsets1, offsets2};
 ghost use Rattle.gold.specs.Wide.{wide_of, Narrows, Gives48, Goes48};
 
 // The register pair of document 01: the next 31 values of x1 and of x2.
-#[derive(Drop)]
+#[derive(Clone, Copy)]
 pub struct Registers {
     pub x1: u32,
     pub x2: u32,
@@ -123,7 +125,7 @@ pub fn pair_at(c_init: u32, first: usize) -> Registers
 }
 
 // 64 values of x1 and of x2, each as a number, the first most significant: for whoever takes many bits, 48 at a time.
-#[derive(Drop)]
+#[derive(Clone, Copy)]
 pub struct Wide {
     pub x1: u64,
     pub x2: u64,

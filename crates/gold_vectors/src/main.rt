@@ -1,4 +1,6 @@
 // Prints values of the pseudo-random sequence, to be compared with another implementation's.
+#![tactic(auto)]
+
 ghost use Rattle.std.specs.Prelude.{◌≤◌};
 
 use gold::Registers;

@@ -1,5 +1,7 @@
 // gridbuild: reads a two-byte plan length, the plan and the payload from standard input, and writes the grid to standard output, or
 // why the input is refused to standard error.
+#![tactic(auto)]
+
 ghost use Rattle.std.specs.Prelude.{◌≤◌, length};
 
 use build::Built;

@@ -1,5 +1,7 @@
 // gridcount: reads a two-byte plan length, the plan and the payload from standard input, and prints how many elements each
 // kind of owner has, or why the input is refused.
+#![tactic(auto)]
+
 use counted::Counted;
 
 fn entry(name: &[u8], count: usize) {

@@ -1,5 +1,7 @@
 // gridpicture: reads a two-byte plan length and the plan from standard input, and writes a picture (SVG) of the owner of every
 // resource element to standard output; or the refusal to standard error.
+#![tactic(auto)]
+
 mod colour;
 mod sheet;
 
@@ -188,7 +190,7 @@ fn bands(plan: &[u8], cell: Cell) {
 }
 
 // A place of the legend.
-#[derive(Drop)]
+#[derive(Clone, Copy)]
 struct Spot {
     column: usize,
     down: usize,

@@ -1,5 +1,7 @@
 // gridread: reads a two-byte plan length, the plan and a grid from standard input, and writes the payload that made the grid to
 // standard output, or why the input is refused to standard error.
+#![tactic(auto)]
+
 ghost use Rattle.std.specs.Prelude.{◌≤◌, length};
 
 use mapper::Number;

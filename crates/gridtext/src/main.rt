@@ -1,11 +1,13 @@
 // gridtext: reads a two-byte plan length and the plan from standard input, and prints the owner of every resource element for a
 // terminal of 80 columns, two characters for each; or the refusal on standard error.
+#![tactic(auto)]
+
 ghost use Rattle.std.specs.Prelude.{◌≤◌};
 
 use plan::{Cell, Checked, Plan};
 
 // An owner's two characters.
-#[derive(Drop)]
+#[derive(Clone, Copy)]
 struct Mark {
     first: u8,
     second: u8,

@@ -1,12 +1,14 @@
 // The sub-block interleaver of TS 36.212 5.1.4.2.1 on quads: a cursor that goes through the output positions in order, from any of them
 // around to it again.
+#![tactic(auto)]
+
 ghost use Rattle.std.specs.Prelude.{◌≡◌, ◌+◌, ◌≤◌, ◌<◌, cond};
 ghost use Rattle.interleaver.specs.Matrix.{column_at, quad_at};
 ghost use Rattle.interleaver.specs.Cursor.{cursor_at, step_of, Stands, Seeks, empty_in, next_of};
 
 // A cursor at output position `at` of `quads`: at `place` of the matrix, whose first `empty` places are empty, in the column that is read
 // `order`-th.
-#[derive(Drop)]
+#[derive(Clone, Copy)]
 pub struct Cursor {
     pub quads: usize,
     pub at: usize,

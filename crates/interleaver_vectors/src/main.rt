@@ -1,5 +1,7 @@
 // Prints the quads in the order in which they are sent, 32 on a line, for several numbers of quads and cells: by the cursor from the
 // cell's position on.
+#![tactic(auto)]
+
 ghost use Rattle.std.specs.Prelude.{◌≤◌};
 
 // The start of a line: how many quads, the cell, and how many were sent before.

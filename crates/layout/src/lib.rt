@@ -1,4 +1,6 @@
 // The owner of each place of the grid (document 01, Owners), and the owner query.
+#![tactic(auto)]
+
 ghost use Rattle.std.specs.Prelude.{◌≡◌, ℕ, ◌+◌, ◌-◌, ◌*◌, ◌/◌, ◌%◌, ◌≤◌, ◌<◌, true, ◌&&◌, drop, leb, ltb};
 ghost use Rattle.plan.specs.Check.{check_of};
 ghost use Rattle.plan.specs.CommandLists.{users_from};
@@ -15,14 +17,14 @@ ghost use Rattle.layout.specs.Query.{in_grid, owner_query_of};
 use plan::{Cell, Checked, Frame, Plan, Refusal, User};
 
 // The synchronisation marks.
-#[derive(Drop)]
+#[derive(Clone, Copy)]
 pub enum Mark {
     Primary,
     Secondary,
 }
 
 // A reference signal with its port, a mark, PBCH, PCFICH, a PHICH unit, a user by its position in the plan, held, or idle.
-#[derive(Drop)]
+#[derive(Clone, Copy)]
 pub enum Owner {
     Crs(u8),
     Sync(Mark),
@@ -35,7 +37,7 @@ pub enum Owner {
 }
 
 // What the owner query answers.
-#[derive(Drop)]
+#[derive(Clone, Copy)]
 pub enum OwnerAnswer {
     Is(Owner),
     Refused(Refusal),

@@ -1,4 +1,6 @@
 // What gridpicture and gridtext share: the owners of places in a row, which owners a plan has, and their names.
+#![tactic(auto)]
+
 ghost use Rattle.std.specs.Prelude.{◌≡◌, ◌+◌, ◌≤◌, length};
 ghost use Rattle.plan.specs.Check.{check_of};
 ghost use Rattle.plan.specs.declared.Checked.TheVariants.{Plan as accepted};

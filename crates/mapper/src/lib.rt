@@ -2,6 +2,8 @@
 // that it leaves to us (owners, kinds, samples), and for every byte that it leaves; the sample has its level, gain and bound beside it, and read the
 // record `Reads`, which says the same as its equation. The functions for C answer with a number: a count, a length or a value, or minus the refusal's
 // number; include/mapper.h describes them.
+#![tactic(auto)]
+
 ghost use Rattle.std.specs.Prelude.{◌≡◌, ◌<◌, ◌^◌, [], ◌∷◌, get_or, not, T, pos, neg_ℤ};
 ghost use Rattle.std.specs.Float.{binary32};
 ghost use Rattle.std.specs.Float.Ieee.{is_nan, to_bits};
@@ -25,7 +27,7 @@ use read::ReadBack;
 use sample::{Sample, SampleAnswer};
 
 // A length or a count, or the refusal.
-#[derive(Drop)]
+#[derive(Clone, Copy)]
 pub enum Number {
     Is(usize),
     Refused(Refusal),

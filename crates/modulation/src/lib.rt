@@ -1,5 +1,7 @@
 // TS 36.211 7.1: the symbol of two bits, for the control channels, and the unit of an order. The symbols of a data channel's order are in a
 // table that `constellation` fills.
+#![tactic(auto)]
+
 ghost use Rattle.std.specs.Prelude.{◌≡◌};
 ghost use Rattle.modulation.specs.Symbols.{modulation_symbol, unit_of};
 

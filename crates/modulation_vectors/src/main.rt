@@ -1,4 +1,6 @@
 // Prints every symbol of every order, and what each level pair near 0 stands for, by the tables that build and read go by.
+#![tactic(auto)]
+
 ghost use Rattle.modulation.specs.Symbols.{Order};
 
 use base::Pair;

@@ -1,4 +1,6 @@
 // The payload of a plan (document 01, Plan and payload; Refusals 10 to 12): its sections, its length, and its spare bits.
+#![tactic(auto)]
+
 ghost use Rattle.std.specs.Prelude.{◌≡◌, ◌+◌, ◌*◌, ◌≤◌, length, drop};
 ghost use Rattle.plan.specs.Check.{check_of};
 ghost use Rattle.plan.specs.CommandLists.{users_from};

@@ -1,4 +1,6 @@
 // The control channel's groups (TS 36.211 6.8.5).
+#![tactic(auto)]
+
 ghost use Rattle.std.specs.Prelude.{◌≡◌, false, ℕ, ◌+◌, ◌*◌, ◌%◌, ◌≤◌, ◌<◌, length};
 ghost use Rattle.bitset.specs.Sets.{member};
 ghost use Rattle.plan.specs.Fields.{mapping_units};

@@ -1,5 +1,7 @@
 // The control channel's elements in a grid, compared in place (TS 36.211 6.8, 6.3): quad by quad of the given elements, whether each place
 // holds a QPSK symbol, and the other port its partner. The bits themselves are read later, when the whole grid is known to be some payload's.
+#![tactic(auto)]
+
 ghost use Rattle.std.specs.Prelude.{◌≡◌, ◌+◌, ◌*◌, ◌≤◌, ◌<◌, length};
 ghost use Rattle.element_pairs.specs.Numbers.{TwoRead};
 ghost use Rattle.walk.specs.Addresses.{PairsIn};
@@ -105,7 +107,7 @@ fn compare_quads(f: Form, grid: &[u8], cell: Cell, groups: &[u16; 800], e: usize
 }
 
 // How many elements were compared, and the bits in which they are wrong.
-#[derive(Drop)]
+#[derive(Clone, Copy)]
 struct Sum {
     given: usize,
     bad: u64,

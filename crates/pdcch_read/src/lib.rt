@@ -1,4 +1,6 @@
 // The bits of given control elements, read from a grid (TS 36.211 6.8, 6.3): a quad's four symbols are a byte of the payload.
+#![tactic(auto)]
+
 ghost use Rattle.std.specs.Prelude.{◌≡◌, ◌+◌, ◌*◌, ◌≤◌, ◌<◌, length};
 ghost use Rattle.std.specs.Int.Bits.{bit_xor};
 ghost use Rattle.gold.specs.Steps.{word_of};

@@ -1,4 +1,6 @@
 // The control channel written into a grid (TS 36.211 6.8): the quads of the given control elements, each at its group's four places.
+#![tactic(auto)]
+
 ghost use Rattle.std.specs.Prelude.{◌≡◌, ◌*◌, ◌≤◌, ◌<◌, length};
 ghost use Rattle.std.specs.Int.Bits.{bit_xor};
 ghost use Rattle.gold.specs.Steps.{after, word_of};
@@ -16,7 +18,7 @@ use gold::Registers;
 use plan::{Cell, Frame};
 
 // The four places of a group, in ascending order two pairs: the first place of each, and how far the second place of a pair is from it.
-#[derive(Drop)]
+#[derive(Clone, Copy)]
 struct GroupPairs {
     first: usize,
     second: usize,

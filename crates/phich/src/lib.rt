@@ -2,6 +2,8 @@
 // of the spreading sequences, 4 with the normal prefix and 2 with the extended one; the word w has the scrambling bits
 // c(0), .., c(11) as its twelve low bits, c(0) the most significant. A buffer of 200 bytes has the levels I and J of 25 units'
 // first quads, unit by unit: place y of them is place y % 4 of unit y / 4, and its levels are bytes 2y and 2y + 1.
+#![tactic(auto)]
+
 ghost use Rattle.std.specs.Prelude.{◌≡◌, ℕ, ◌+◌, ◌*◌, ◌/◌, ◌%◌, ◌<◌, ◌≤◌, length, drop, unsigned_abs};
 ghost use Rattle.base.specs.Signs.{flip, by as by_sign};
 ghost use Rattle.base.specs.Pairs.{Small};
@@ -17,7 +19,7 @@ use base::Pair;
 use plan::{Hi, hi_at, next_at};
 
 // An entry of a spreading sequence: re + j im, one of them 0 and the other 1 or -1.
-#[derive(Drop)]
+#[derive(Clone, Copy)]
 pub struct SignPair {
     pub re: i8,
     pub im: i8,

@@ -1,5 +1,7 @@
 // Prints, for sets of HIs that a generator draws, the sums of units 0 and 1 and the bits that they give back, with both
 // prefixes.
+#![tactic(auto)]
+
 ghost use Rattle.std.specs.Prelude.{◌≡◌, true, ℕ, ◌≤◌, ◌<◌, length};
 ghost use Rattle.base.specs.Tables.{table};
 ghost use Rattle.phich.specs.Spreading.{Length};
@@ -45,7 +47,7 @@ fn put(plan: &mut [u8; 48], count: usize, h: Hi)
     plan[at + 2] = h.sequence;
 }
 
-#[derive(Drop)]
+#[derive(Clone, Copy)]
 struct Drawn {
     x: u64,
     count: usize,
@@ -69,7 +71,7 @@ fn draw_set(x: u64, l: usize, k: u64, plan: &mut [u8; 48]) -> Drawn
     Drawn { x: s, count: count }
 }
 
-#[derive(Drop)]
+#[derive(Clone, Copy)]
 struct Bits {
     x: u64,
     word: u64,

@@ -1,5 +1,7 @@
 // The places of each channel in the order in which its values fill them (document 01, Owners). The specs say it for every owner; the
 // functions here are for the channels whose order is not that of the grid: PCFICH and the PHICH units, which go quad by quad.
+#![tactic(auto)]
+
 ghost use Rattle.std.specs.Prelude.{◌≡◌, ◌+◌, ◌*◌, ◌≤◌, ◌<◌};
 ghost use Rattle.plan.specs.Fields.{symbol_groups};
 ghost use Rattle.layout.specs.Rules.{quad_number, quad_group};

@@ -1,6 +1,8 @@
 // The plan check (document 01, Plan and payload; Refusals 1 to 7; document 02, #108, 18): reads a plan's commands from left to right and answers
 // with the plan, or with the first fault: which command, at which byte of the plan, the first of its fields that has the fault,
 // and so the refusal; and the command before that it clashes with.
+#![tactic(auto)]
+
 ghost use Rattle.std.specs.Prelude.{◌≡◌, ◌+◌, ◌*◌, ◌≤◌, ◌<◌, List, length, drop};
 ghost use Rattle.plan.specs.Lists.{one_of};
 ghost use Rattle.plan.specs.Commands.{byte, cell_with, cell_of, cellx_of, frame_of, hi_of, user_of, entry_for, command_of};
@@ -14,7 +16,7 @@ ghost use Rattle.plan.specs.Loops.{broken_for, late_cause, celled, cell_rest, re
 
 // 10 CELL: the identity C, the width in blocks N, the prefix (1 extended), the antenna ports P, and N_g in sixths. 12 CELLX has also PHICH's
 // duration (1 extended); that of CELL is normal.
-#[derive(Drop)]
+#[derive(Clone, Copy)]
 pub struct Cell {
     pub identity: u16,
     pub blocks: u8,
@@ -25,7 +27,7 @@ pub struct Cell {
 }
 
 // 11 FRAME.
-#[derive(Drop)]
+#[derive(Clone, Copy)]
 pub struct Frame {
     pub number: u16,
     pub subframe: u8,
@@ -33,14 +35,14 @@ pub struct Frame {
 }
 
 // 20 HI: an acknowledgement's place in the PHICH.
-#[derive(Drop)]
+#[derive(Clone, Copy)]
 pub struct Hi {
     pub group: u8,
     pub sequence: u8,
 }
 
 // 30 USER: order is the modulation's Q, the bits of a symbol.
-#[derive(Drop)]
+#[derive(Clone, Copy)]
 pub struct User {
     pub rnti: u16,
     pub order: u8,
@@ -49,7 +51,7 @@ pub struct User {
 }
 
 // A command with its operands. Broken: an unknown command, or the plan ends before its operands.
-#[derive(Drop)]
+#[derive(Clone, Copy)]
 pub enum Command {
     Cell(Cell),
     Cellx(Cell),
@@ -62,7 +64,7 @@ pub enum Command {
 
 // The plan check's refusals 1 to 7, in their order, those of the calls above it, 8 to 13, and the plan check's 18: a control region too
 // short for the extended PHICH duration.
-#[derive(Drop)]
+#[derive(Clone, Copy)]
 pub enum Refusal {
     Unreadable,
     Order,
@@ -81,20 +83,20 @@ pub enum Refusal {
 }
 
 // A command's refusal, or none: what the definitions say; the code finds the cause, Reason.
-#[derive(Drop)]
+#[derive(Clone, Copy)]
 pub enum Fault {
     Nothing,
     Is(Refusal),
 }
 
 // Commands of one kind in a row: the first one's position in the plan, and how many.
-#[derive(Drop)]
+#[derive(Clone, Copy)]
 pub struct CommandList {
     pub at: usize,
     pub count: usize,
 }
 
-#[derive(Drop)]
+#[derive(Clone, Copy)]
 pub struct Plan {
     pub cell: Cell,
     pub frame: Frame,
@@ -102,14 +104,14 @@ pub struct Plan {
     pub users: CommandList,
 }
 
-#[derive(Drop)]
+#[derive(Clone, Copy)]
 pub enum Checked {
     Plan(Plan),
     Refused(Refusal),
 }
 
 // The first reason for which a command is refused, in the order of its fields.
-#[derive(Drop)]
+#[derive(Clone, Copy)]
 pub enum Cause {
     // Refusal 1: a byte that is no command; the plan ends before a command's operands; the plan ends before END.
     Unknown,
@@ -146,7 +148,7 @@ pub enum Cause {
 }
 
 // A command's first cause, or none.
-#[derive(Drop)]
+#[derive(Clone, Copy)]
 enum Reason {
     Nothing,
     Is(Cause),
@@ -154,7 +156,7 @@ enum Reason {
 
 // Where the walk over the commands stops, and why. The command is counted from 1. The offset is the position of its command byte in the plan,
 // from 0; that of a missing END is the plan's length.
-#[derive(Drop)]
+#[derive(Clone, Copy)]
 struct Stop {
     command: usize,
     offset: usize,
@@ -162,21 +164,21 @@ struct Stop {
 }
 
 // How many commands of one kind stand in a row, or the first fault of one.
-#[derive(Drop)]
+#[derive(Clone, Copy)]
 enum Counted {
     Count(usize),
     Refused(Stop),
 }
 
 // The plan, or the first fault.
-#[derive(Drop)]
+#[derive(Clone, Copy)]
 enum Walked {
     Accepted(Plan),
     Refused(Stop),
 }
 
 // What a command has in common with one before it.
-#[derive(Drop)]
+#[derive(Clone, Copy)]
 enum Shared {
     Nothing,
     Pair,
@@ -185,14 +187,14 @@ enum Shared {
 }
 
 // A command of the plan by its number, counted from 1, and the position of its command byte.
-#[derive(Drop)]
+#[derive(Clone, Copy)]
 pub struct Numbered {
     pub command: usize,
     pub offset: usize,
 }
 
 // The earlier command that a refused one clashes with, or none.
-#[derive(Drop)]
+#[derive(Clone, Copy)]
 pub enum Earlier {
     Nothing,
     Is(Numbered),
@@ -200,7 +202,7 @@ pub enum Earlier {
 
 // Why a plan is refused: the command's number and offset as in Stop; earlier: of PairUsed, RntiUsed and BlockUsed the first command that has the
 // pair, the RNTI or one of the blocks.
-#[derive(Drop)]
+#[derive(Clone, Copy)]
 pub struct Finding {
     pub refusal: Refusal,
     pub command: usize,
@@ -210,7 +212,7 @@ pub struct Finding {
 }
 
 // The plan, or why it is refused.
-#[derive(Drop)]
+#[derive(Clone, Copy)]
 pub enum Explained {
     Accepted(Plan),
     Refused(Finding),

@@ -1,5 +1,7 @@
 // Plans and what the check answers: reads them from standard input and prints of each a line `plan K N`, K its number from 1, N 0 for an
 // accepted plan, else the refusal's number. After 0 stand the plan's fields, command by command.
+#![tactic(auto)]
+
 use plan::{Cell, Checked, CommandList, Frame, Hi, Plan, User};
 
 fn field(n: u64) {

@@ -1,6 +1,8 @@
 // planexplain: reads a two-byte plan length and the plan from standard input, prints each command of the plan in words up to the one that is
 // refused, and says which field of it is refused and what is allowed there, or which command before has used it. What follows the plan is not
 // looked at.
+#![tactic(auto)]
+
 use libc::STDOUT_FILENO;
 use plan::{Cause, Cell, Command, Earlier, Explained, Finding, Frame, Hi, User};
 

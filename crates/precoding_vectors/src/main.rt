@@ -1,5 +1,7 @@
 // Prints what each port sends for known symbols, with transmit diversity and in PHICH, to be compared with another
 // implementation. The places are written into a small grid as build writes them, and the elements read back from it.
+#![tactic(auto)]
+
 ghost use Rattle.std.specs.Prelude.{◌≤◌, ◌<◌, nat_abs};
 ghost use Rattle.base.specs.Pairs.{Small};
 ghost use Rattle.grid.specs.Writing.{Room};

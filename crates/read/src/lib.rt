@@ -1,5 +1,7 @@
 // read: the payload from which building makes a grid, or 13 (document 01). The whole grid is verified in place before a byte of the
 // payload is written; then each section is read into its part of the payload.
+#![tactic(auto)]
+
 ghost use Rattle.std.specs.Prelude.{◌≡◌, ◌≤◌, ◌<◌};
 ghost use Rattle.recovery.specs.Recovery.{payload_in};
 ghost use Rattle.areas.specs.Areas.{pbch_area};
@@ -13,7 +15,7 @@ use plan::{Checked, Plan, Refusal};
 use schedule::{Channel, started};
 
 // The count of user elements, ports not multiplied, or the refusal.
-#[derive(Drop)]
+#[derive(Clone, Copy)]
 pub enum ReadBack {
     Elements(usize),
     Refused(Refusal),

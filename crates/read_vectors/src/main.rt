@@ -1,13 +1,15 @@
 // Calls of read: reads plans, payloads and changes of the built grid from standard input. Of each call it prints the record's number, from
 // 1, the count or "refused" and the number, and a digest of the payload after it; of a sweep, which changes every byte of the grid
 // in turn, how many grids were refused and read, how many of those read are built again by what was read, and a digest of all.
+#![tactic(auto)]
+
 use base::wide;
 use build::Built;
 use read::ReadBack;
 use records::{Digest, value};
 
 // What a sweep has seen.
-#[derive(Drop)]
+#[derive(Clone, Copy)]
 struct Tally {
     refused: usize,
     read: usize,

@@ -1,11 +1,13 @@
 // What the test programs of plan, build and read share: numbers in their input, the lengths that they lend, and digests of what they see.
+#![tactic(auto)]
+
 ghost use Rattle.std.specs.Prelude.{◌≤◌, ◌<◌, length};
 
 use base::wide;
 use plan::Checked;
 
 // Two numbers that depend on every byte and its position.
-#[derive(Drop)]
+#[derive(Clone, Copy)]
 pub struct Digest {
     pub a: u64,
     pub b: u64,

@@ -1,5 +1,7 @@
 // One grid element, three bytes, as a modem sample: silence, a phase step, or a pair of f32 (document 01, Samples).
 // A level I of unit u stands for I / √u: I as an f32, exactly, times the gain, the f32 nearest 1 / √u, rounded once.
+#![tactic(auto)]
+
 ghost use Rattle.std.specs.Prelude.{◌≡◌, nat_abs};
 ghost use Rattle.std.specs.Float.{binary32};
 ghost use Rattle.std.specs.Float.Ieee.{of_int};
@@ -10,14 +12,14 @@ ghost use Rattle.sample.specs.Cases.{silent_of, phase_of, scaled_of};
 ghost use Rattle.sample.specs.Promise.{Exact, Sampled};
 
 // The pair of f32 of an element's I and J.
-#[derive(Drop)]
+#[derive(Clone, Copy)]
 pub struct Point {
     pub re: f32,
     pub im: f32,
 }
 
 // What an element means: `Phase` holds I of the phase −2πI/63.
-#[derive(Drop)]
+#[derive(Clone, Copy)]
 pub enum Sample {
     Silence,
     Phase(u8),
@@ -25,7 +27,7 @@ pub enum Sample {
 }
 
 // Refused is document 01's refusal 9.
-#[derive(Drop)]
+#[derive(Clone, Copy)]
 pub enum SampleAnswer {
     Is(Sample),
     Refused,
@@ -33,7 +35,7 @@ pub enum SampleAnswer {
 
 // A unit of levels: its byte in the grid, the unit u itself, the largest level either way, and the f32 nearest 1 / √u.
 // Nothing computes with u: it is what the contracts hold the gain and the samples to. Public for the laws of crates above.
-#[derive(Drop)]
+#[derive(Clone, Copy)]
 pub struct UnitRow {
     pub byte: u8,
     pub unit: u16,
@@ -41,7 +43,7 @@ pub struct UnitRow {
     pub gain: f32,
 }
 
-#[derive(Drop)]
+#[derive(Clone, Copy)]
 pub enum Scale {
     Levels(UnitRow),
     Nothing,

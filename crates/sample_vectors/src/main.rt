@@ -1,11 +1,13 @@
 // Vectors of the sample: the gains, every level to ±16 of every unit, and how many pairs of bytes each unit byte takes.
+#![tactic(auto)]
+
 use sample::{Sample, SampleAnswer};
 
 // The bytes of the units of levels.
 const BYTES: [u8; 9] = [1, 2, 4, 10, 20, 42, 84, 170, 255];
 
 // How many answers of each kind.
-#[derive(Drop)]
+#[derive(Clone, Copy)]
 struct Counts {
     silence: u32,
     phase: u32,

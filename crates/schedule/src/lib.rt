@@ -1,5 +1,7 @@
 // The schedule of a plan's channels: which channel has which turn, with its parameters, its sequence and its section of the payload. Building,
 // verifying and reading go over it, each in one loop.
+#![tactic(auto)]
+
 ghost use Rattle.std.specs.Prelude.{◌≡◌, ◌+◌, ◌*◌, ◌<◌, ◌≤◌};
 ghost use Rattle.gold.specs.Sequence.{pair_at};
 ghost use Rattle.crs.specs.Crs.{crs_init};
@@ -19,7 +21,7 @@ use layout::Mark;
 use plan::{Cell, Frame, Plan, User};
 
 // Which channel: the reference signals of a symbol, a synchronisation mark, PBCH, PCFICH, a PHICH unit, a user.
-#[derive(Drop)]
+#[derive(Clone, Copy)]
 pub enum Channel {
     Crs(u8),
     Sync(Mark),
@@ -31,7 +33,7 @@ pub enum Channel {
 
 // A cursor over the schedule: the turn's number, the position of the next user's command in the plan, and the byte of the payload at which
 // the next user's section starts.
-#[derive(Drop)]
+#[derive(Clone, Copy)]
 pub struct Turn {
     pub number: usize,
     pub at: usize,
@@ -39,7 +41,7 @@ pub struct Turn {
 }
 
 // A part of the payload.
-#[derive(Drop)]
+#[derive(Clone, Copy)]
 pub struct Section {
     pub start: usize,
     pub end: usize,

@@ -1,5 +1,7 @@
 // A section of the payload from a channel's bits as they are read, still scrambled (TS 36.211 6.3.1): the sequence is taken off 48 bits at a
 // time.
+#![tactic(auto)]
+
 ghost use Rattle.std.specs.Prelude.{◌≡◌, ◌+◌, ◌^◌, ◌≤◌, ◌<◌, length, get_or};
 ghost use Rattle.section_bits.specs.Gathering.{with_four, with_two, Puts48, Begun, GiveIn, Gives, PutLast, State, Flushed};
 

@@ -1,4 +1,6 @@
 // How the test programs write levels, level pairs and bits, to be compared with what other implementations print.
+#![tactic(auto)]
+
 use libc::STDOUT_FILENO;
 
 // A level in decimal, with a minus sign below 0.

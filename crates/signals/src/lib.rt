@@ -1,5 +1,7 @@
 // What writing and comparing the reference and synchronisation signals of a subframe share (TS 36.211 6.10.1.2, 6.11.1.2, 6.11.2.2): the
 // numbers of their first elements, and the elements of the synchronisation signals.
+#![tactic(auto)]
+
 ghost use Rattle.std.specs.Prelude.{◌≡◌, ◌+◌, ◌-◌, ◌*◌, ◌≤◌, ◌<◌};
 ghost use Rattle.plan.specs.Valid.{CellIn};
 ghost use Rattle.layout.specs.Rules.{slot_length};

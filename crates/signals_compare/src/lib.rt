@@ -1,4 +1,6 @@
 // The reference and synchronisation signals of a subframe, compared with those in a grid (TS 36.211 6.10.1.2, 6.11.1.2, 6.11.2.2).
+#![tactic(auto)]
+
 ghost use Rattle.std.specs.Prelude.{◌≡◌, ◌+◌, ◌*◌, ◌%◌, ◌≤◌, ◌<◌, length};
 ghost use Rattle.base.specs.Bytes.{element_of};
 ghost use Rattle.crs.specs.Crs.{word_value};

@@ -1,4 +1,6 @@
 // The reference and synchronisation signals of a subframe, written into its grid (TS 36.211 6.10.1.2, 6.11.1.2, 6.11.2.2).
+#![tactic(auto)]
+
 ghost use Rattle.std.specs.Prelude.{◌≡◌, ◌+◌, ◌*◌, ◌≤◌, ◌<◌, length};
 ghost use Rattle.gold.specs.Steps.{after};
 ghost use Rattle.grid.specs.Writing.{Written};

@@ -1,1 +1,3 @@
 // What a subframe sends: definitions and their laws. No code.
+#![tactic(auto)]
+

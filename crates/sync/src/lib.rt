@@ -1,24 +1,26 @@
 // The synchronisation signals of TS 36.211 6.11: the primary signal's phase numbers, the secondary signal's signs.
+#![tactic(auto)]
+
 ghost use Rattle.std.specs.Prelude.{◌≡◌, ◌+◌, ◌*◌, ◌/◌, ◌%◌, ◌^◌, ◌<◌, ◌≤◌};
 ghost use Rattle.sync.specs.Pss.{pss_root, pss_t, pss_phase};
 ghost use Rattle.sync.specs.Inner.{Sequences, pushed_of, around_of, signs_of, indices_of, sss_of, bit_in, level_in};
 
 // The two indices that a cell-identity group stands for, each below 31.
-#[derive(Drop)]
+#[derive(Clone, Copy)]
 pub struct Indices {
     pub m0: u32,
     pub m1: u32,
 }
 
 // The secondary signal of one cell and subframe: bit n of `even` is set where d(2n) is -1, of `odd` where d(2n+1) is.
-#[derive(Drop)]
+#[derive(Clone, Copy)]
 pub struct Sss {
     pub even: u32,
     pub odd: u32,
 }
 
 // The three sequences of length 31, x(i) at bit i.
-#[derive(Drop)]
+#[derive(Clone, Copy)]
 struct Words {
     s: u32,
     c: u32,

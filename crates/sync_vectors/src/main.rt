@@ -1,4 +1,6 @@
 // Prints the synchronisation signals: the primary's phase numbers, the index pairs of the 168 groups, the secondary's signs.
+#![tactic(auto)]
+
 fn phases(r: u16) {
     let mut i: usize = 0;
     while i < 62 {

@@ -1,4 +1,6 @@
 // two_builds: two payloads built under one plan, for the regulator's second question (demand 3 of docs/APPROVAL.md).
+#![tactic(auto)]
+
 ghost use Rattle.std.specs.Prelude.{◌≡◌};
 ghost use Rattle.build.specs.Build.{built_answer};
 ghost use Rattle.two_builds.specs.Both.{both_built, first_after, second_after, Separate};

@@ -1,5 +1,7 @@
 // Whether some accepted payload makes a grid, found in place: every channel's elements are compared with what the payload read from
 // them would give, and the bytes that are not 0 are counted: by their number every other element is silent (document 01, refusal 13).
+#![tactic(auto)]
+
 ghost use Rattle.std.specs.Prelude.{ℕ, List};
 ghost use Rattle.compare.specs.Comparing.{Compared};
 ghost use Rattle.areas.specs.Areas.{pbch_area};

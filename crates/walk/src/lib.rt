@@ -1,5 +1,7 @@
 // The places of a channel that fills its places k first, then s, as runs of half blocks (six subcarriers each). A row has one form,
 // a bit for each of six subcarriers that is open, and a list of spans of half blocks: any set, one for each row.
+#![tactic(auto)]
+
 ghost use Rattle.std.specs.Prelude.{◌≡◌, ◌+◌, ◌*◌, ◌≤◌, ◌<◌, length};
 ghost use Rattle.walk.specs.Forms.{SingleForm, HolesOf, holes_with, Stretch};
 ghost use Rattle.walk.specs.Addresses.{OffsetsAt};
@@ -7,14 +9,14 @@ ghost use Rattle.walk.specs.Tables.{cursor_start, cursor_run, cursor_next, row_e
 ghost use Rattle.walk.specs.Spans.{SpanPut, RowPut};
 
 // A row and the next of its spans.
-#[derive(Drop)]
+#[derive(Clone, Copy)]
 pub struct Cursor {
     pub s: usize,
     pub i: usize,
 }
 
 // Half blocks one after another: the number of the first place, how many, and the row's form.
-#[derive(Drop)]
+#[derive(Clone, Copy)]
 pub struct Run {
     pub first: usize,
     pub halves: usize,
@@ -107,7 +109,7 @@ pub fn put_row(rows: &mut [u8; 45], s: usize, mask: u8, first: usize, end: usize
 }
 
 // Where the own ports of a pair and of the next one begin, in elements, and how far the other port is.
-#[derive(Drop)]
+#[derive(Clone, Copy)]
 pub struct PortOffsets {
     pub own: usize,
     pub next: usize,
@@ -128,7 +130,7 @@ pub fn port_offsets(ports: u8, places: usize, j: usize) -> PortOffsets
 
 // The holes of a form on one port: the places before the first, the places from one to the next, or 0 where there is none, and the places
 // of six.
-#[derive(Drop)]
+#[derive(Clone, Copy)]
 pub struct Holes {
     pub lead: usize,
     pub each: usize,
@@ -195,7 +197,7 @@ pub fn holes_of(mask: usize) -> Holes
 }
 
 // The places before the first hole: where they begin, and how many they are.
-#[derive(Drop)]
+#[derive(Clone, Copy)]
 pub struct FirstStretch {
     pub at: usize,
     pub left: usize,

@@ -1,4 +1,6 @@
 // What the programs for engineers share: refusals in words.
+#![tactic(auto)]
+
 use libc::{STDERR_FILENO, STDOUT_FILENO};
 
 fn say(fd: i32, sentence: &[u8]) {
