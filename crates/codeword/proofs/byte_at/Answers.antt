@@ -1,0 +1,14 @@
+-- `codeword::byte_at` meets its contract. Assumes nothing.
+use mathlib.Core.Path.{refl, sym}
+use native.Mathlib.Omega.{arith}
+use lib.ListN.{get_or-eq_default}
+use Rattle.codeword.proofs.byte_at.Goals as goal
+
+pub overflow_cast-result : goal.overflow_cast-result
+overflow_cast-result c = omega (arith, c.shared_slice_known-1.given c.args.i)
+
+pub returns-then-i-bits : goal.returns-then-i-bits
+returns-then-i-bits c = (refl, omega (arith, c.shared_slice_known-1.given c.args.i))
+
+pub returns : goal.returns
+returns c = (sym (get_or-eq_default c.args.bits.now 0 c.if-i-bits.false), omega arith)

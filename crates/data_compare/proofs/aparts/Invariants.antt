@@ -1,0 +1,10 @@
+-- `data_compare::aparts` meets its contract, as `sides` does. Assumes nothing.
+use Prim.Native.Nat.{◌-◌}
+use Rattle.data_compare.specs.Places.{Pairs}
+use Rattle.data_compare.proofs.aparts.Given as goal
+
+abbrev pub invariant-loop-i : goal.invariant-loop-i
+invariant-loop-i l = Pairs l.ports l.places 2 l.j l.start 3 l.n l.f l.grid l.s l.at l.next l.i
+
+abbrev pub decreases-loop-i : goal.decreases-loop-i
+decreases-loop-i l = l.n - l.i

@@ -1,0 +1,29 @@
+-- `data_write::first_round` meets its contract. Assumes nothing.
+use mathlib.Core.Path.{refl}
+use native.Mathlib.Omega.{arith}
+use Rattle.walk.proofs.Addresses.{offsets-small}
+use Rattle.data_write.proofs.first_round.Goals as goal
+
+pub port_offsets-p-requires : goal.port_offsets-p-requires
+port_offsets-p-requires c = c.requires.inside.room.fits
+
+pub overflow_add-result : goal.overflow_add-result
+overflow_add-result c = omega (arith, offsets-small c.requires.inside c.port_offsets-p.ensures)
+
+pub overflow_mul-result : goal.overflow_mul-result
+overflow_mul-result c = omega (arith, offsets-small c.requires.inside c.port_offsets-p.ensures)
+
+pub overflow_add-result-2 : goal.overflow_add-result-2
+overflow_add-result-2 c = omega (arith, offsets-small c.requires.inside c.port_offsets-p.ensures)
+
+pub overflow_add-result-3 : goal.overflow_add-result-3
+overflow_add-result-3 c = omega (arith, offsets-small c.requires.inside c.port_offsets-p.ensures)
+
+pub overflow_mul-result-2 : goal.overflow_mul-result-2
+overflow_mul-result-2 c = omega (arith, offsets-small c.requires.inside c.port_offsets-p.ensures)
+
+pub overflow_mul-result-3 : goal.overflow_mul-result-3
+overflow_mul-result-3 c = omega (arith, offsets-small c.requires.inside c.port_offsets-p.ensures)
+
+pub returns : goal.returns
+returns c = record { offsets = c.port_offsets-p.result; ports = c.port_offsets-p.ensures; at = refl; next = refl; across = refl }

@@ -1,0 +1,9 @@
+-- `gridpicture::bands` is safe and ends: the measure is the number of bands that are left. Assumes nothing.
+use Prim.Native.Nat.{◌-◌, ◌≤◌}
+use Rattle.gridpicture.proofs.bands.Given as goal
+
+abbrev pub invariant-loop-band : goal.invariant-loop-band
+invariant-loop-band l = band ≤ l.end
+
+abbrev pub decreases-loop-band : goal.decreases-loop-band
+decreases-loop-band l = l.end - band

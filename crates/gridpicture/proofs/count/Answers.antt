@@ -1,0 +1,18 @@
+-- `gridpicture::count` meets its contract: no more owners than numbers. The measure is what is left of these. Assumes nothing.
+use native.Mathlib.Omega.{arith}
+use Rattle.gridpicture.proofs.count.Goals as goal
+
+pub loop-n-init : goal.loop-n-init
+loop-n-init c = omega arith
+
+pub overflow_add-owners : goal.overflow_add-owners
+overflow_add-owners c = omega arith
+
+pub overflow_add-n : goal.overflow_add-n
+overflow_add-n c = omega arith
+
+pub loop-n-smaller : goal.loop-n-smaller
+loop-n-smaller c = omega arith
+
+pub loop-n-preserved : goal.loop-n-preserved
+loop-n-preserved c = omega arith

@@ -1,0 +1,18 @@
+-- `gridread::lend` lends a part of the buffer: no plan has a longer payload. Assumes nothing.
+use native.Mathlib.Omega.{arith}
+use Rattle.gridread.proofs.Longest.{payload-longest, payload-part-length}
+use Rattle.gridread.proofs.lend.Goals as goal
+
+pub slice_bounds-fill-end : goal.slice_bounds-fill-end
+slice_bounds-fill-end c =
+    omega (
+      arith,
+      c.requires,
+      payload-longest c.args.plan.now c.payload_length.result c.payload_length.ensures _
+          c.n-1.given.1,
+    )
+
+pub slice_bounds-fill-end-in-Is : goal.slice_bounds-fill-end-in-Is
+slice_bounds-fill-end-in-Is c =
+    payload-part-length c.args.plan.now c.payload_length.result c.payload_length.ensures _ c.n-1.given.1
+    c.args.buffer.now c.requires

@@ -1,0 +1,15 @@
+-- `gridtext::band` is safe and ends: the measure is the number of symbols that are left. Assumes nothing.
+use native.Mathlib.Omega.{arith}
+use Rattle.gridtext.proofs.band.Goals as goal
+
+pub loop-s-init : goal.loop-s-init
+loop-s-init c = omega arith
+
+pub overflow_add-s : goal.overflow_add-s
+overflow_add-s c = omega arith
+
+pub loop-s-smaller : goal.loop-s-smaller
+loop-s-smaller c = omega arith
+
+pub loop-s-preserved : goal.loop-s-preserved
+loop-s-preserved c = omega arith

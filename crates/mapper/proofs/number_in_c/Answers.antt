@@ -1,0 +1,14 @@
+-- `mapper::number_in_c` meets its contract: the number, or minus the refusal's. Assumes nothing.
+use Rattle.mapper.proofs.Numbers.{plus-back, minus-back, small_is}
+use mathlib.Core.Path.{ap}
+use Rattle.mapper.specs.Calls.{number_answer}
+use Rattle.mapper.proofs.number_in_c.Goals as goal
+
+pub plus-requires : goal.plus-requires
+plus-requires c = small_is c.args.n _ c.n-1.given.1 c.requires
+
+pub returns-in-Is : goal.returns-in-Is
+returns-in-Is c = plus-back _ (number_answer c.args.n) c.plus.result c.plus.type-inv c.plus.ensures (ap number_answer c.n-1.given.1)
+
+pub returns-in-Refused : goal.returns-in-Refused
+returns-in-Refused c = minus-back _ (number_answer c.args.n) c.minus.result c.minus.type-inv c.minus.ensures (ap number_answer c.n-in-Refused-1.given.1)

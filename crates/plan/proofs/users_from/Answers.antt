@@ -1,0 +1,83 @@
+-- `plan::users_from` meets its contract: the loop over the USERs, then END. Its invariant is `UsersGoing`, its measure what is left of the plan. Assumes nothing.
+use Prim.Native.Nat.{◌+◌, ◌*◌}
+use mathlib.Core.Path.{refl, ◌∙◌}
+use native.Mathlib.Omega.{arith}
+use lib.ListN.{drop}
+use Rattle.plan.specs.CommandLists.{users_from}
+use Rattle.plan.proofs.Phases.{users-first, users-done, AtUser, users-less, users-refused, users-again}
+use Rattle.plan.proofs.Reading.{stands-user}
+use Rattle.plan.proofs.users_from.Goals as goal
+
+-- the USER at the loop's position, and its cause
+step : (c : tie.After-user-cause invariant-loop decreases-loop) →
+    let u = c.before.before.before.user-at.result in
+    let i = c.before.before.before.before.before.before.loop in
+    let a = c.before.before.before.before.before.before.before.before.args in
+    AtUser a.plan.now a.cell a.frame a.start a.his (a.start + 3 * a.his) i.users i.at i.rntis i.blocks u c.user-cause.result
+step c =
+    let at-user-at = c.before.before.before in
+    let at-stands = at-user-at.before.before in
+    let at-loop = at-stands.before in
+    let at-args = at-loop.before.before in
+    let w = at-args.args.plan.now in
+    let mid = at-args.args.start + 3 * at-args.args.his in
+    record {
+      going = at-loop.loop.invariant;
+      ok = at-args.requires.1;
+      there = stands-user (drop at-loop.loop.at w) at-stands.stands.ensures at-user-at.before.if1.true at-user-at.user-at.ensures;
+      cause = c.user-cause.ensures (users_from (drop mid w) at-loop.loop.users) at-loop.loop.invariant.used;
+    }
+
+pub overflow_mul-mid : goal.overflow_mul-mid
+overflow_mul-mid c = omega (arith, c.requires.0.room)
+
+pub overflow_add-mid : goal.overflow_add-mid
+overflow_add-mid c = omega (arith, c.requires.0.room)
+
+pub loop-rntis-init : goal.loop-rntis-init
+loop-rntis-init c =
+    users-first c.args.plan.now c.args.cell c.args.frame c.args.start c.args.his _ c.requires.0 refl
+
+pub stands-requires : goal.stands-requires
+stands-requires c = c.loop-rntis.invariant.standing.room
+
+pub offset_bounds-rntis-users : goal.offset_bounds-rntis-users
+offset_bounds-rntis-users c = omega (arith, c.loop-rntis.invariant.few)
+
+pub bounds-rntis-users : goal.bounds-rntis-users
+bounds-rntis-users c = omega (arith, c.loop-rntis.invariant.few)
+
+pub overflow_add-users : goal.overflow_add-users
+overflow_add-users c = omega (arith, c.loop-rntis.invariant.few)
+
+pub loop-rntis-smaller : goal.loop-rntis-smaller
+loop-rntis-smaller c = users-less (step c) c.next_at-at.ensures
+
+pub loop-rntis-preserved : goal.loop-rntis-preserved
+loop-rntis-preserved c =
+    
+    
+    
+    users-again (step c) c.enum_told-1.given.1 c.blocks_of-own.ensures c.join-blocks.ensures c.next_at-at.ensures
+
+pub overflow_add-his : goal.overflow_add-his
+overflow_add-his c =
+    
+    omega (arith, c.requires.0.room, c.loop-rntis.invariant.few)
+
+pub overflow_add-his-in-Is : goal.overflow_add-his-in-Is
+overflow_add-his-in-Is c =
+    
+    omega (arith, c.requires.0.room, c.loop-rntis.invariant.few)
+
+pub returns-in-Is : goal.returns-in-Is
+returns-in-Is c = users-refused (step c) c.cause-1.given.1 c.found.ensures
+
+pub finish-requires : goal.finish-requires
+finish-requires c =
+    
+    
+    users-done c.loop-rntis.invariant c.requires.0 c.stands.ensures c.loop-rntis-test.false
+
+pub returns : goal.returns
+returns c = c.finish.ensures ∙ c.loop-rntis.invariant.same

@@ -1,0 +1,9 @@
+-- `precoding_vectors::lines` ends after its places. Assumes nothing.
+use Prim.Native.Nat.{◌-◌, ◌≤◌}
+use Rattle.precoding_vectors.proofs.lines.Given as goal
+
+abbrev pub invariant-loop-j : goal.invariant-loop-j
+invariant-loop-j l = l.j ≤ l.places
+
+abbrev pub decreases-loop-j : goal.decreases-loop-j
+decreases-loop-j l = l.places - l.j

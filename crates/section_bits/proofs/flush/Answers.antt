@@ -1,0 +1,13 @@
+-- `section_bits::flush` meets its contract. Assumes nothing.
+use Rattle.section_bits.proofs.Gatherings.{none-held, last-put}
+use Rattle.section_bits.proofs.flush.Goals as goal
+
+pub returns-then-got-eq0 : goal.returns-then-got-eq0
+returns-then-got-eq0 c = none-held c.requires c.if-got-eq0.true
+
+pub returns : goal.returns
+returns c =
+    
+    
+    
+    last-put c.requires c.word48.ensures c.power.ensures c.put_last.ensures

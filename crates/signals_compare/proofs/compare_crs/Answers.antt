@@ -1,0 +1,38 @@
+-- `signals_compare::compare_crs` meets its contract: every sixth element from the first one on, on each port, is a reference signal. Assumes nothing.
+use native.Mathlib.Omega.{arith}
+use Rattle.compare.proofs.Accumulating.{comparing}
+use Rattle.signals.proofs.Ports.{first-port, second-port, one_inside, one-done, both-inside, both-done}
+use Rattle.signals_compare.proofs.compare_crs.Goals as goal
+
+pub crs_at-first-requires : goal.crs_at-first-requires
+crs_at-first-requires c =
+    first-port c.requires c.crs_port-port.ensures
+
+pub compare_values-requires : goal.compare_values-requires
+compare_values-requires c =
+    one_inside c.requires c.crs_port-port.ensures c.crs_at-first.ensures c.wide-n.ensures
+
+pub returns-then-cell-eq1 : goal.returns-then-cell-eq1
+returns-then-cell-eq1 c =
+    
+    one-done c.requires c.crs_port-port.ensures c.crs_at-first.ensures c.wide-n.ensures (comparing c.args.grid.now) c.args.r c.if-cell-eq1.true
+    c.compare_values.ensures
+
+pub overflow_add-port : goal.overflow_add-port
+overflow_add-port c =
+    omega (arith, (second-port c.requires c.crs_port-port.ensures c.if-cell-eq1.false).2, c.ranges)
+
+pub crs_at-second-requires : goal.crs_at-second-requires
+crs_at-second-requires c =
+    second-port c.requires c.crs_port-port.ensures c.if-cell-eq1.false
+
+pub compare_values_on_both-requires : goal.compare_values_on_both-requires
+compare_values_on_both-requires c =
+    
+    both-inside c.requires c.crs_port-port.ensures c.crs_at-first.ensures c.wide-n.ensures c.if-cell-eq1.false c.crs_at-second.ensures
+
+pub returns : goal.returns
+returns c =
+    
+    both-done c.requires c.crs_port-port.ensures c.crs_at-first.ensures c.wide-n.ensures c.if-cell-eq1.false c.crs_at-second.ensures
+    (comparing c.args.grid.now) c.args.r c.compare_values_on_both.ensures

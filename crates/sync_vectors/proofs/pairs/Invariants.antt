@@ -1,0 +1,9 @@
+-- `sync_vectors::pairs` ends. Assumes nothing.
+use Prim.Native.Nat.{◌≤◌, ◌-◌}
+use Rattle.sync_vectors.proofs.pairs.Given as goal
+
+abbrev pub invariant-loop-d : goal.invariant-loop-d
+invariant-loop-d l = l.d ≤ 168
+
+abbrev pub decreases-loop-d : goal.decreases-loop-d
+decreases-loop-d l = 168 - l.d

@@ -1,0 +1,9 @@
+-- `sync_vectors::phases` ends. Assumes nothing.
+use Prim.Native.Nat.{◌≤◌, ◌-◌}
+use Rattle.sync_vectors.proofs.phases.Given as goal
+
+abbrev pub invariant-loop-i : goal.invariant-loop-i
+invariant-loop-i l = l.i ≤ 62
+
+abbrev pub decreases-loop-i : goal.decreases-loop-i
+decreases-loop-i l = 62 - l.i
