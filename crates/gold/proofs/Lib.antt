@@ -8,4 +8,3 @@ pub mod Laws
 pub mod Cores
 pub mod Values64
 pub mod Loops
-pub mod Lent

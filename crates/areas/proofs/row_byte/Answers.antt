@@ -9,13 +9,10 @@ overflow_add-result c = omega (arith, single-small c.row_mask-mask.ensures.singl
 
 pub returns-then-taken : goal.returns-then-taken
 returns-then-taken c =
-    
-    
     byte-out c.row_mask-mask.ensures c.args.frame c.args.leaves c.if-leaves.true c.if-taken.true c.taken.ensures
 
 pub returns-then-leaves : goal.returns-then-leaves
 returns-then-leaves c =
-    
     byte-not c.row_mask-mask.ensures c.args.frame c.args.leaves c.if-taken.false c.taken.ensures
 
 pub returns : goal.returns

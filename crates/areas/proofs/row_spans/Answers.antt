@@ -12,12 +12,10 @@ returns-then-last-s c =
 
 pub returns-then-x-lt64 : goal.returns-then-x-lt64
 returns-then-x-lt64 c =
-    
     spans-whole c.args.first c.args.last c.args.lists c.args.s c.args.x (omega (arith, c.if-s-first.false))
     (omega (arith, c.if-last-s.false)) c.if-x-lt64.true
 
 pub returns : goal.returns
 returns c =
-    
     spans-rest c.args.first c.args.last c.args.lists c.args.s c.args.x (omega (arith, c.if-s-first.false))
     (omega (arith, c.if-last-s.false)) (omega (arith, c.if-x-lt64.false))

@@ -17,7 +17,6 @@ bounds-masks-s c = omega arith
 
 pub put_row-requires-in-loop-s : goal.put_row-requires-in-loop-s
 put_row-requires-in-loop-s c =
-    
     (
       c.loop-s.invariant.size,
       omega (arith, c.loop-s-test.true),
@@ -35,9 +34,6 @@ loop-s-smaller c = omega arith
 
 pub loop-s-preserved : goal.loop-s-preserved
 loop-s-preserved c =
-    
-    
-    
     rows_on c.args.first c.args.last c.args.lists c.args.masks.now c.loop-s.invariant c.loop-s-test.true refl
     c.row_spans-r.ensures c.put_row-in-loop-s.ensures
 

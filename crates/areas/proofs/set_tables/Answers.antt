@@ -7,11 +7,8 @@ span_lists-lists-requires c = lists-in c.requires c.wide-blocks.result c.wide-bl
 
 pub set_rows-requires : goal.set_rows-requires
 set_rows-requires c =
-    
     rows_in c.requires c.wide-blocks.result c.wide-blocks.ensures c.span_lists-lists.ensures.0 c.span_lists-lists.ensures.1
 
 pub returns : goal.returns
 returns c =
-    
-    
     tables-made c.requires c.wide-blocks.result c.wide-blocks.ensures c.span_lists-lists.ensures.0 c.set_rows.ensures

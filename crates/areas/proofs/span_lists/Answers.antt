@@ -13,7 +13,6 @@ overflow_sub-blocks c = omega (arith, c.requires)
 
 pub put_span-left-requires : goal.put_span-left-requires
 put_span-left-requires c =
-    
     (c.put_span-whole.ensures.size ∙ c.requires.0, omega (arith, c.requires, put-few c.put_span-whole.ensures), omega (arith, c.requires, c.smaller.ensures.first))
 
 pub overflow_add-blocks : goal.overflow_add-blocks
@@ -21,7 +20,6 @@ overflow_add-blocks c = omega (arith, c.requires)
 
 pub put_span-end-requires : goal.put_span-end-requires
 put_span-end-requires c =
-    
     (
       c.put_span-left.ensures.size ∙ c.put_span-whole.ensures.size ∙ c.requires.0,
       omega (arith, c.requires, put-few c.put_span-whole.ensures, put-few c.put_span-left.ensures),
@@ -30,8 +28,6 @@ put_span-end-requires c =
 
 pub returns : goal.returns
 returns c =
-    
-    
     (
       lists-made c.args.blocks c.args.from c.args.to c.requires.2 c.smaller.ensures c.greater.ensures c.requires.0
           c.requires.4 c.put_span-whole.ensures c.put_span-left.ensures c.put_span-end.ensures,

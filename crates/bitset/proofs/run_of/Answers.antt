@@ -7,6 +7,4 @@ use Rattle.bitset.proofs.run_of.Goals as goal
 
 pub returns : goal.returns
 returns c =
-    
-    
     ap₂ (λ (x y : ℕ). x ∷ y ∷ []) (ap₂ bit_xor c.ones.ensures c.ones-2.ensures) (ap₂ bit_xor c.ones-3.ensures c.ones-4.ensures)

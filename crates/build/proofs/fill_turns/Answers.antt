@@ -23,7 +23,6 @@ section_of-part-requires c =
 
 pub slice_bounds-fill_turn-count : goal.slice_bounds-fill_turn-count
 slice_bounds-fill_turn-count c =
-    
     (going-room c.requires.0 (c.loop-turn.invariant.1 c.requires.0) c.count-turns.ensures c.loop-turn-test.true c.channel_at-ch.ensures c.section_of-part.ensures
     ).0
 
@@ -37,7 +36,6 @@ fill_turn-have-requires c =
 
 pub next-turn-requires : goal.next-turn-requires
 next-turn-requires c =
-    
     (_, passing (going-due c.requires.0 (c.loop-turn.invariant.1 c.requires.0) c.count-turns.ensures c.loop-turn-test.true) c.channel_at-ch.ensures c.section_of-part.ensures)
 
 pub loop-turn-smaller : goal.loop-turn-smaller

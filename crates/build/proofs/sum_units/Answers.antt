@@ -13,6 +13,5 @@ quad_sums-requires c =
 
 pub returns : goal.returns
 returns c =
-    
     sums-made c.args.plan.now c.args.p c.args.payload.now c.requires.0 c.requires.1 c.pbch_bits.ensures c.section_bytes-start.ensures
     c.users_start-end.ensures c.spread_length-l.ensures c.quad_sums.ensures

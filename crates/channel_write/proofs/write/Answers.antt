@@ -1,4 +1,5 @@
 -- `channel_write::write` meets its contract: a mark, PCFICH, a unit, or another channel. Assumes nothing.
+use borrow.Enum.Refused.{opened}
 use Rattle.channel_write.proofs.Filling.{mark-in, mark-written, unit_ok, unit-written, pcfich-ok, pcfich-written, other-ok, other-starts, other-written}
 use Rattle.channel_write.proofs.write.Goals as goal
 
@@ -6,30 +7,30 @@ pub write_mark-requires : goal.write_mark-requires
 write_mark-requires c = mark-in c.requires.0
 
 pub map-requires : goal.map-requires
-map-requires c = pcfich-ok c.args.sums.now c.args.bits.now c.requires.0 c.enum_told-1.given.1
+map-requires c = pcfich-ok c.args.sums.now c.args.bits.now c.requires.0 c.in-Pcfich.is
 
 pub map-requires-in-Phich : goal.map-requires-in-Phich
 map-requires-in-Phich c =
-    unit_ok c.args.sums.now c.args.bits.now c.requires.0 c.ch-in-Phich-1.given.1 c.wide-from.ensures
+    unit_ok c.args.sums.now c.args.bits.now c.requires.0 c.in-Phich.is c.wide-from.ensures
 
 pub started-requires : goal.started-requires
-started-requires c = other-starts c.args.sums.now c.args.bits.now c.requires.0 c.in_default.keys4
+started-requires c = other-starts c.args.sums.now c.args.bits.now c.requires.0 (opened c.in_default.in_default-own.keys4)
 
 pub map-requires-in_default : goal.map-requires-in_default
-map-requires-in_default c = other-ok c.args.sums.now c.args.bits.now c.requires.0 c.in_default.keys4
+map-requires-in_default c = other-ok c.args.sums.now c.args.bits.now c.requires.0 (opened c.in_default.in_default-own.keys4)
 
 pub returns-in-Sync : goal.returns-in-Sync
 returns-in-Sync c =
-    mark-written c.args.sums.now c.args.bits.now c.requires.0 c.ch-1.given.1 c.write_mark.ensures
+    mark-written c.args.sums.now c.args.bits.now c.requires.0 c.in-Sync.is c.write_mark.ensures
 
 pub returns-in-Pcfich : goal.returns-in-Pcfich
 returns-in-Pcfich c =
-    pcfich-written c.args.sums.now c.args.bits.now c.requires.0 c.enum_told-1.given.1 c.requires.2 c.map.ensures
+    pcfich-written c.args.sums.now c.args.bits.now c.requires.0 c.in-Pcfich.is c.requires.2 c.map.ensures
 
 pub returns-in-Phich : goal.returns-in-Phich
 returns-in-Phich c =
-    unit-written c.args.sums.now c.args.bits.now c.requires.0 c.ch-in-Phich-1.given.1 c.wide-from.ensures c.requires.2 c.map-in-Phich.ensures
+    unit-written c.args.sums.now c.args.bits.now c.requires.0 c.in-Phich.is c.wide-from.ensures c.requires.2 c.map-in-Phich.ensures
 
 pub returns-in_default : goal.returns-in_default
 returns-in_default c =
-    other-written c.args.sums.now c.args.bits.now c.requires.0 c.in_default.keys4 c.started.ensures c.map-in_default.ensures
+    other-written c.args.sums.now c.args.bits.now c.requires.0 (opened c.in_default.in_default-own.keys4) c.started.ensures c.map-in_default.ensures

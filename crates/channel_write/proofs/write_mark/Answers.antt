@@ -3,8 +3,8 @@ use Rattle.channel_write.proofs.Filling.{mark-put}
 use Rattle.channel_write.proofs.write_mark.Goals as goal
 
 pub returns-in-Primary : goal.returns-in-Primary
-returns-in-Primary c = mark-put c.args.p c.enum_told-1.given.1 c.fill_pss.ensures
+returns-in-Primary c = mark-put c.args.p c.in-Primary.is c.fill_pss.ensures
 
 pub returns-in-Secondary : goal.returns-in-Secondary
 returns-in-Secondary c =
-    mark-put c.args.p c.enum_told-in-Secondary-1.given.1 c.fill_sss.ensures
+    mark-put c.args.p c.in-Secondary.is c.fill_sss.ensures

@@ -5,15 +5,12 @@ use Rattle.codeword.proofs.end.Goals as goal
 
 pub returns-then-left-lt48 : goal.returns-then-left-lt48
 returns-then-left-lt48 c =
-    
     ends-within c.args.r c.args.st.now _ c.narrow-p.ensures _ c.if-left-lt48.true c.skip.ensures
 
 pub returns-then-st-eq6 : goal.returns-then-st-eq6
 returns-then-st-eq6 c =
-    
     ends-none c.args.r c.args.st.now _ c.narrow-p.ensures (omega (arith, c.requires, c.if-left-lt48.false)) c.if-st-eq6.true
 
 pub returns : goal.returns
 returns c =
-    
     ends-whole c.args.r c.args.st.now _ c.narrow-p.ensures (omega (arith, c.requires, c.if-left-lt48.false)) c.if-st-eq6.false

@@ -17,5 +17,4 @@ joined-requires c =
 
 pub returns : goal.returns
 returns c =
-    
     takes-more c.args.st.now c.args.h c.requires (omega (arith, c.if-n-h.false)) c.next48-next.ensures c.joined.ensures

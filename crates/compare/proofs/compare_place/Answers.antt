@@ -47,7 +47,6 @@ together-requires c =
 
 pub returns : goal.returns
 returns c =
-    
     two-looks c.requires.0 c.args.pair c.args.unit c.args.odd c.args.t c.args.d c.args.e c.requires.1 c.unit_byte_on-byte.ensures c.if-ports-eq1.false
     c.partner.ensures c.element_of.ensures c.element_of-2.ensures
     (own-looked c.requires.0 c.args.pair c.args.t c.requires.1 (c.wide.ensures ∙ c.own_port.ensures) c.compare_at-seen.ensures)

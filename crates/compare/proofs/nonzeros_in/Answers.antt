@@ -1,8 +1,8 @@
 -- `compare::nonzeros_in` meets its contract: byte after byte. Assumes nothing.
-use mathlib.Core.Logic.{⊎_elim}
 use native.Mathlib.Omega.{arith}
 use Rattle.compare.proofs.Nonzeros.{count_none, count-one, count-zero, count-all}
 use Rattle.compare.proofs.nonzeros_in.Goals as goal
+use Rattle.compare.proofs.nonzeros_in.Goals.{then-part-i-ne0, else-part-i-ne0}
 
 pub loop-i-init : goal.loop-i-init
 loop-i-init c = (omega arith, count_none c.args.part.now)
@@ -20,10 +20,13 @@ pub loop-i-smaller : goal.loop-i-smaller
 loop-i-smaller c = omega arith
 
 pub loop-i-preserved : goal.loop-i-preserved
-loop-i-preserved c = let l = c.loop-i in
+loop-i-preserved c =
+    let l = c.loop-i in
     let h = c.loop-i-test.true in
-    ⊎_elim (λ x. rw x.1 (omega arith, count-one l.invariant.1 h x.0.taken)) (λ x. rw x.1 (omega arith, count-zero l.invariant.1 h x.0.left))
-    c.if-part-i-ne0.branch
+    elim c.if-part-i-ne0.branch [
+      then-part-i-ne0 w ↦ rw w.n-is (omega arith, count-one l.invariant.1 h w.if-part-i-ne0.true)
+    | else-part-i-ne0 w ↦ rw w.n-is (omega arith, count-zero l.invariant.1 h w.if-part-i-ne0.false)
+    ]
 
 pub returns : goal.returns
 returns c = count-all c.loop-i.invariant.1 c.loop-i-test.false

@@ -4,8 +4,7 @@ use Rattle.compare.proofs.Answers.{both-few, both-weights}
 use Rattle.compare.proofs.together.Goals as goal
 
 pub overflow_add-result : goal.overflow_add-result
-overflow_add-result c =
-    omega (arith, both-few c.a-1.given.1 c.b-1.given.1 c.requires.0 c.requires.1)
+overflow_add-result c = omega (arith, both-few c.in-Weight.is c.in-Weight-b.is c.requires.0 c.requires.1)
 
 pub returns-in-Weight-b : goal.returns-in-Weight-b
-returns-in-Weight-b c = both-weights c.a-1.given.1 c.b-1.given.1
+returns-in-Weight-b c = both-weights c.in-Weight.is c.in-Weight-b.is

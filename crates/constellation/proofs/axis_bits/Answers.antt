@@ -32,8 +32,6 @@ loop-k-smaller c = omega arith
 
 pub loop-k-preserved : goal.loop-k-preserved
 loop-k-preserved c =
-    
-    
     part_step c.loop-k.invariant c.loop-k-test.true c.power.ensures.0 c.size.ensures.0 c.less-z.ensures.0
 
 pub overflow_cast-result : goal.overflow_cast-result

@@ -31,8 +31,6 @@ loop-x-smaller c = omega arith
 
 pub loop-x-preserved : goal.loop-x-preserved
 loop-x-preserved c =
-    
-    
     let e = c.axis_bits.ensures ∙ ap (axis_of (c.args.q / 2)) c.byte_from.ensures.0 in
     (axis-more c.loop-x.invariant.0 c.loop-x-test.true e, omega arith)
 

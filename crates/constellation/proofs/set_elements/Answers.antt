@@ -37,7 +37,6 @@ loop-x-smaller c = omega arith
 
 pub loop-x-preserved : goal.loop-x-preserved
 loop-x-preserved c =
-    
     (entries-more c.loop-x.invariant.0 c.power-n.ensures.0 c.loop-x.invariant.1 c.loop-x-test.true, omega arith, omega arith)
 
 pub returns : goal.returns

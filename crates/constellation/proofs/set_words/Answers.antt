@@ -14,7 +14,6 @@ loop-k-init c = (entries-start c.args.t.now c.requires.0 c.word.ensures.0, omega
 
 pub widen_all-requires : goal.widen_all-requires
 widen_all-requires c =
-    
     (c.loop-k.invariant.0, c.loop-k.invariant.2, omega (arith, c.requires))
 
 pub overflow_add-k : goal.overflow_add-k

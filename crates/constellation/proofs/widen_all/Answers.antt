@@ -11,8 +11,6 @@ loop-x-init c = (widened_none c.requires.0, omega arith)
 
 pub widen-requires : goal.widen-requires
 widen-requires c =
-    
-    
     (c.loop-x.invariant.0, omega (arith, c.power-n.ensures.0), c.requires.1, c.requires.2)
 
 pub overflow_add-x : goal.overflow_add-x

@@ -16,6 +16,5 @@ quad_place-requires-2 c =
 
 pub returns : goal.returns
 returns c =
-    
     pcfich-made c.requires.0 c.requires.3 c.cfi_word.ensures c.word.ensures c.format_group-group.ensures
     c.quad_place.ensures c.quad_place-2.ensures c.qpsk.ensures c.qpsk-2.ensures

@@ -15,6 +15,5 @@ together-requires c = both-few (widest c.requires.1) c.compare_place-one.ensures
 
 pub returns : goal.returns
 returns c =
-    
     pair-done c.requires.0 (comparing c.args.grid.now) c.places-places.ensures c.compare_place-one.ensures
     (also c.compare_place.ensures c.together.ensures)

@@ -31,7 +31,6 @@ loop-n-smaller c = omega arith
 
 pub loop-n-preserved : goal.loop-n-preserved
 loop-n-preserved c =
-    
     pcfich-next (comparing c.args.grid.now) c.requires.cell c.args.cfi c.args.r c.loop-n.invariant
     c.loop-n-test.true c.pcfich_pair-x.ensures (also c.compare_pair.ensures c.together-seen.ensures)
     c.advance-s.ensures

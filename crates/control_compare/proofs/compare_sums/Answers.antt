@@ -40,7 +40,6 @@ overflow_add-n c = omega arith
 
 pub unit_pair-y-requires : goal.unit_pair-y-requires
 unit_pair-y-requires c =
-    
     unit-asked c.requires.0 c.loop-n-test.true (2 * c.loop-n.n + 1) (omega arith) c.quad_symbol-s.ensures
     c.unit_group-g.ensures
 
@@ -54,8 +53,6 @@ compare_pair-requires-in-loop-n c =
 
 pub together-seen-requires : goal.together-seen-requires
 together-seen-requires c =
-    
-    
     both-few (widest c.requires.1) (half-next (comparing c.args.grid.now) c.requires.0 c.loop-n-test.true
     c.quad_symbol-s.ensures c.unit_group-g.ensures c.loop-n.invariant c.unit_pair-x.ensures
     (also c.compare_pair.ensures c.together-one.ensures)).done c.compare_pair-in-loop-n.ensures
@@ -68,8 +65,6 @@ loop-n-smaller c = omega arith
 
 pub loop-n-preserved : goal.loop-n-preserved
 loop-n-preserved c =
-    
-    
     quad-next (comparing c.args.grid.now) c.requires.0 c.loop-n-test.true c.quad_symbol-s.ensures c.unit_group-g.ensures c.loop-n.invariant
     c.unit_pair-x.ensures (also c.compare_pair.ensures c.together-one.ensures) c.unit_pair-y.ensures
     (also c.compare_pair-in-loop-n.ensures c.together-seen.ensures)

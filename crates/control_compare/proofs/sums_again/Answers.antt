@@ -9,6 +9,5 @@ sums_again-requires c =
 
 pub returns : goal.returns
 returns c =
-    
     again c.requires.0 c.first_sums.ensures c.args.r c.word-w.result c.spread_length-l.result c.word-w.ensures
     c.spread_length-l.ensures c.sums_again.ensures

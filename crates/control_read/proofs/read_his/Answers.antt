@@ -18,13 +18,10 @@ loop-n-init c =
 
 pub bit_of-bit-requires : goal.bit_of-bit-requires
 bit_of-bit-requires c =
-    
     hi-read c.requires c.args.r c.loop-n.invariant c.loop-n-test.true c.spread_length-l.ensures c.hi_at.ensures
 
 pub push-requires : goal.push-requires
 push-requires c =
-    
-    
     push-in c.requires c.args.r c.loop-n.invariant c.loop-n-test.true c.first_sums.ensures c.word-w.ensures
     c.spread_length-l.ensures c.hi_at.ensures c.bit_of-bit.ensures
 
@@ -38,9 +35,6 @@ loop-n-smaller c =
 
 pub loop-n-preserved : goal.loop-n-preserved
 loop-n-preserved c =
-    
-    
-    
     read_next c.requires c.args.r c.loop-n.invariant c.loop-n-test.true c.first_sums.ensures c.word-w.ensures
     c.spread_length-l.ensures c.hi_at.ensures c.bit_of-bit.ensures c.push.ensures c.next_at-at.ensures
 

@@ -35,7 +35,6 @@ overflow_add-own c = let f = element-fits c.requires.0 {i = c.loop-i.i} c.loop-i
 
 pub get-e-requires : goal.get-e-requires
 get-e-requires c =
-    
     (element-fits c.requires.0 {i = c.loop-i.i} c.loop-i-test.true c.unit_group-g.ensures c.quad_place.ensures
     c.own_port-port.ensures c.wide.ensures c.places.ensures).2
 
@@ -73,7 +72,6 @@ loop-i-smaller c =
 
 pub loop-i-preserved : goal.loop-i-preserved
 loop-i-preserved c =
-    
     first_next c.requires.0 {i = c.loop-i.i} c.loop-i-test.true c.unit_group-g.ensures c.quad_place.ensures
     c.own_port-port.ensures c.wide.ensures c.places.ensures c.loop-i.invariant c.get-e.ensures
 

@@ -27,7 +27,6 @@ loop-n-smaller c = omega arith
 
 pub loop-n-preserved : goal.loop-n-preserved
 loop-n-preserved c =
-    
     pcfich-next (writing c.args.grid.now) c.requires.cell c.args.cfi c.args.r c.loop-n.invariant c.loop-n-test.true
     c.pcfich_pair.ensures c.put_pair.ensures c.advance-s.ensures
 

@@ -17,7 +17,6 @@ overflow_mul-l c =
 
 pub returns : goal.returns
 returns c =
-    
     let is = c.spread_length-l.ensures in (
       unit-done c.requires is c.word-w.result c.unit_sums.ensures c.args.r c.word-w.ensures
           (writing c.args.grid.now) c.put_unit.ensures,

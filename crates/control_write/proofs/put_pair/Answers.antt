@@ -13,5 +13,4 @@ put_place-requires-2 c =
 
 pub returns : goal.returns
 returns c =
-    
     pair-done c.requires.0 (writing c.args.grid.now) c.places-places.ensures c.put_place.ensures c.put_place-2.ensures

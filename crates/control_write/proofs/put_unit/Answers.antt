@@ -36,13 +36,11 @@ overflow_add-n c = omega arith
 
 pub unit_pair-requires-in-loop-n : goal.unit_pair-requires-in-loop-n
 unit_pair-requires-in-loop-n c =
-    
     unit-asked c.requires.0 c.loop-n-test.true (2 * c.loop-n.n + 1) (omega arith) c.quad_symbol-s.ensures
     c.unit_group-g.ensures
 
 pub put_pair-requires-in-loop-n : goal.put_pair-requires-in-loop-n
 put_pair-requires-in-loop-n c =
-    
     (
       pair-asked c.requires.0 c.loop-n-test.true (2 * c.loop-n.n + 1) (omega arith) c.quad_symbol-s.ensures
           c.unit_group-g.ensures c.unit_pair-in-loop-n.ensures,
@@ -58,8 +56,6 @@ loop-n-smaller c = omega arith
 
 pub loop-n-preserved : goal.loop-n-preserved
 loop-n-preserved c =
-    
-    
     quad-next (writing c.args.grid.now) c.requires.0 c.loop-n-test.true c.quad_symbol-s.ensures c.unit_group-g.ensures c.loop-n.invariant
     c.unit_pair.ensures c.put_pair.ensures c.unit_pair-in-loop-n.ensures c.put_pair-in-loop-n.ensures
 

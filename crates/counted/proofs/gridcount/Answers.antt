@@ -8,6 +8,4 @@ returns-then-end-lt2 c = c.refused.ensures ∙ cut_off c.args.input.now _ c.plan
 
 pub returns : goal.returns
 returns c =
-    
-    
     c.with_plan.ensures ∙ framed c.args.input.now _ c.plan_end-end.ensures c.if-end-lt2.false

@@ -17,12 +17,8 @@ overflow_add-end-2 c = omega (arith, c.wide.ensures, c.shared_slice_known-2-1.gi
 
 pub returns-then-input-end : goal.returns-then-input-end
 returns-then-input-end c =
-    
-    
     plan-short c.args.input.now _ _ c.wide.ensures c.wide-2.ensures c.if-input-lt2.false c.if-input-end.true
 
 pub returns : goal.returns
 returns c =
-    
-    
     plan-whole c.args.input.now _ _ c.wide.ensures c.wide-2.ensures c.if-input-lt2.false c.if-input-end.false

@@ -9,12 +9,10 @@ returns-then-payload-payload_length c =
 
 pub returns-then-spare_clear : goal.returns-then-spare_clear
 returns-then-spare_clear c =
-    
     taken c.args.plan.now c.args.p c.args.payload.now _ c.payload_length.ensures c.if-payload-payload_length.false _
     c.spare_clear.ensures c.if-spare_clear.true _ c.kind_counts-counts.ensures
 
 pub returns : goal.returns
 returns c =
-    
     c.refused-2.ensures ∙ spare-set c.args.plan.now c.args.p c.args.payload.now _ c.payload_length.ensures c.if-payload-payload_length.false _
     c.spare_clear.ensures c.if-spare_clear.false

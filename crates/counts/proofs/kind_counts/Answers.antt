@@ -13,7 +13,6 @@ overflow_mul-phich c =
 
 pub overflow_add-owned : goal.overflow_add-owned
 overflow_add-owned c =
-    
     omega (
       arith,
       owned-few c.args.plan.now c.args.p c.requires _ _ _ _ _ _ c.crs_count-crs.ensures c.sync_count-sync.ensures
@@ -22,7 +21,6 @@ overflow_add-owned c =
 
 pub overflow_add-owned-2 : goal.overflow_add-owned-2
 overflow_add-owned-2 c =
-    
     omega (
       arith,
       owned-few c.args.plan.now c.args.p c.requires _ _ _ _ _ _ c.crs_count-crs.ensures c.sync_count-sync.ensures
@@ -31,7 +29,6 @@ overflow_add-owned-2 c =
 
 pub overflow_add-owned-3 : goal.overflow_add-owned-3
 overflow_add-owned-3 c =
-    
     omega (
       arith,
       owned-few c.args.plan.now c.args.p c.requires _ _ _ _ _ _ c.crs_count-crs.ensures c.sync_count-sync.ensures
@@ -40,7 +37,6 @@ overflow_add-owned-3 c =
 
 pub overflow_add-owned-4 : goal.overflow_add-owned-4
 overflow_add-owned-4 c =
-    
     omega (
       arith,
       owned-few c.args.plan.now c.args.p c.requires _ _ _ _ _ _ c.crs_count-crs.ensures c.sync_count-sync.ensures
@@ -49,7 +45,6 @@ overflow_add-owned-4 c =
 
 pub overflow_add-owned-5 : goal.overflow_add-owned-5
 overflow_add-owned-5 c =
-    
     omega (
       arith,
       owned-few c.args.plan.now c.args.p c.requires _ _ _ _ _ _ c.crs_count-crs.ensures c.sync_count-sync.ensures
@@ -58,7 +53,6 @@ overflow_add-owned-5 c =
 
 pub overflow_add-owned-6 : goal.overflow_add-owned-6
 overflow_add-owned-6 c =
-    
     omega (
       arith,
       owned-few c.args.plan.now c.args.p c.requires _ _ _ _ _ _ c.crs_count-crs.ensures c.sync_count-sync.ensures
@@ -67,7 +61,6 @@ overflow_add-owned-6 c =
 
 pub overflow_add-owned-7 : goal.overflow_add-owned-7
 overflow_add-owned-7 c =
-    
     omega (
       arith,
       owned-few c.args.plan.now c.args.p c.requires _ _ _ _ _ _ c.crs_count-crs.ensures c.sync_count-sync.ensures
@@ -76,7 +69,6 @@ overflow_add-owned-7 c =
 
 pub overflow_sub-idle : goal.overflow_sub-idle
 overflow_sub-idle c =
-    
     omega (
       arith,
       c.places.ensures ∙ mul_comm _ _,
@@ -86,6 +78,5 @@ overflow_sub-idle c =
 
 pub returns : goal.returns
 returns c =
-    
     nine c.args.plan.now c.args.p c.requires _ _ _ _ _ _ c.crs_count-crs.ensures c.sync_count-sync.ensures
     c.pbch_count-pbch.ensures c.units-phich.ensures c.users_count-users.ensures c.held_count-held.ensures _ (c.places.ensures ∙ mul_comm _ _)

@@ -10,7 +10,6 @@ returns-then-s-length-2 c = let a = c.args in before-marks a.cell a.frame a.s _ 
 
 pub returns-then-s-length : goal.returns-then-s-length
 returns-then-s-length c = let a = c.args in
-    
     c.is_marked.ensures ∙ in-centre a.cell a.frame a.s _ c.slot_length-length.ensures (omega arith) (omega arith)
 
 pub overflow_add-result : goal.overflow_add-result
@@ -18,10 +17,8 @@ overflow_add-result c = omega (arith, slot-length c.args.cell, c.slot_length-len
 
 pub returns-then-frame-eq0 : goal.returns-then-frame-eq0
 returns-then-frame-eq0 c = let a = c.args in
-    
     after_first a.cell a.frame a.s _ c.slot_length-length.ensures (omega arith) c.if-frame-eq0.true
 
 pub returns : goal.returns
 returns c = let a = c.args in
-    
     after-other a.cell a.frame a.s _ c.slot_length-length.ensures (omega arith) c.if-frame-eq0.false

@@ -19,13 +19,11 @@ compare_run-bad-requires c =
 
 pub places_of-j-requires : goal.places_of-j-requires
 places_of-j-requires c =
-    
     let r = area-open c.requires c.symbols-symbols.ensures.0 c.carriers-carriers.ensures c.places-places.ensures c.loop-c.invariant.cursor c.loop-c-test.true
     c.run_at-run.ensures.0 c.run_at-run.ensures.1 in (r.single, r.short)
 
 pub overflow_add-j : goal.overflow_add-j
 overflow_add-j c =
-    
     let runs =
     area-open c.requires c.symbols-symbols.ensures.0 c.carriers-carriers.ensures c.places-places.ensures c.loop-c.invariant.cursor c.loop-c-test.true c.run_at-run.ensures.0
     c.run_at-run.ensures.1 in
@@ -40,7 +38,6 @@ loop-c-smaller c =
 
 pub loop-c-preserved : goal.loop-c-preserved
 loop-c-preserved c =
-    
     area_on c.requires c.symbols-symbols.ensures.0 c.carriers-carriers.ensures c.places-places.ensures c.loop-c.invariant c.loop-c-test.true c.run_at-run.ensures.0
     c.next-c.ensures.0 c.places_of-j.ensures c.compare_run-bad.ensures
 

@@ -12,7 +12,6 @@ sides-requires c =
 
 pub pair-requires : goal.pair-requires
 pair-requires c =
-    
     (
       sixes-last c.args.halves c.requires.0 refl c.if-halves-eq1.true,
       sixes-reading c.args.halves c.args.ports c.args.places c.args.first c.sides.ensures c.if-halves-eq1.true c.requires.1,
@@ -20,12 +19,8 @@ pair-requires c =
 
 pub returns-then-halves-eq1 : goal.returns-then-halves-eq1
 returns-then-halves-eq1 c =
-    
-    
-    
     sixes-odd c.args.halves c.args.ports c.args.places c.args.first c.sides.ensures c.if-halves-eq1.true c.pair.ensures
 
 pub returns-else-halves-eq1 : goal.returns-else-halves-eq1
 returns-else-halves-eq1 c =
-    
     sixes-even c.args.halves c.args.ports c.args.places c.args.first c.sides.ensures c.if-halves-eq1.false

@@ -24,7 +24,6 @@ overflow_mul-next c = omega (arith, offsets-small c.requires.0 c.port_offsets-p.
 
 pub loop-i-init : goal.loop-i-init
 loop-i-init c =
-    
     rounds-begin c.args.n c.requires.0 c.requires.1 c.port_offsets-p.ensures
 
 pub apart_at-x-requires : goal.apart_at-x-requires
@@ -56,11 +55,6 @@ loop-i-smaller c = omega arith
 
 pub loop-i-preserved : goal.loop-i-preserved
 loop-i-preserved c =
-    
-    
-    
-    
-    
     round-on c.loop-i.invariant c.loop-i-test.true c.apart_at-x.ensures c.apart_at-y.ensures c.four.ensures.0 c.give.ensures
 
 pub shape_of-part : goal.shape_of-part

@@ -37,9 +37,6 @@ loop-k-smaller c =
 
 pub loop-k-preserved : goal.loop-k-preserved
 loop-k-preserved c =
-    
-    
-    
     holes-on c.loop-k.invariant c.loop-k-test.true c.smaller-n.ensures c.singles.ensures
 
 pub shape_of-part : goal.shape_of-part

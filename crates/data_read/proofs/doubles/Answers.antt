@@ -21,9 +21,6 @@ two_symbols-requires c = c.requires.1.table
 
 pub give-requires : goal.give-requires
 give-requires c =
-    
-    
-    
     double-gives c.args.start c.args.n c.requires.1 c.loop-i.invariant.2 c.loop-i.invariant.0 c.loop-i-test.true c.two_symbols.ensures.1
 
 pub overflow_add-at : goal.overflow_add-at
@@ -37,10 +34,6 @@ loop-i-smaller c = omega arith
 
 pub loop-i-preserved : goal.loop-i-preserved
 loop-i-preserved c =
-    
-    
-    
-    
     (
       omega (arith, c.loop-i.invariant.0),
       omega arith,

@@ -24,14 +24,8 @@ two_symbols-requires c = c.requires.1.table
 
 pub give-requires : goal.give-requires
 give-requires c =
-    
-    
     one-gives c.requires.0 c.requires.1 c.port_offsets-p.ensures c.two_symbols.ensures.1
 
 pub returns : goal.returns
 returns c =
-    
-    
-    
-    
     one_on c.requires.0 c.requires.1 c.port_offsets-p.ensures c.six_at-x.ensures c.two_symbols.ensures.0 c.give.ensures

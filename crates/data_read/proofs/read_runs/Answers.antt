@@ -14,7 +14,6 @@ run_at-run-requires c =
 
 pub read_run-j-requires : goal.read_run-j-requires
 read_run-j-requires c =
-    
     area-run c.requires c.symbols-symbols.ensures.0 c.carriers-carriers.ensures c.places-places.ensures c.loop-c.invariant c.loop-c-test.true c.run_at-run.ensures.0
     c.run_at-run.ensures.1
 
@@ -24,12 +23,10 @@ next-c-requires c =
 
 pub loop-c-smaller : goal.loop-c-smaller
 loop-c-smaller c =
-    
     less _ c.args.rows.now c.loop-c.c c.next-c.ensures.0 c.loop-c-test.true c.next-c.ensures.1
 
 pub loop-c-preserved : goal.loop-c-preserved
 loop-c-preserved c =
-    
     area_on c.requires c.symbols-symbols.ensures.0 c.carriers-carriers.ensures c.places-places.ensures c.loop-c.invariant c.loop-c-test.true c.run_at-run.ensures.0
     c.next-c.ensures.0 c.read_run-j.ensures
 

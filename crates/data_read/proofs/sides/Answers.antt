@@ -27,7 +27,6 @@ overflow_mul-hop c = omega (arith, c.requires.0.short)
 
 pub loop-i-init : goal.loop-i-init
 loop-i-init c =
-    
     rounds-begin c.args.n c.requires.0 c.requires.1 c.port_offsets-p.ensures
 
 pub six_at-x-requires : goal.six_at-x-requires
@@ -59,11 +58,6 @@ loop-i-smaller c = omega arith
 
 pub loop-i-preserved : goal.loop-i-preserved
 loop-i-preserved c =
-    
-    
-    
-    
-    
     round-on c.loop-i.invariant c.loop-i-test.true c.six_at-x.ensures c.six_at-y.ensures c.four.ensures.0 c.give.ensures
 
 pub shape_of-part : goal.shape_of-part

@@ -16,10 +16,6 @@ three_at-x-requires c = omega arith
 
 pub give-requires : goal.give-requires
 give-requires c =
-    
-    
-    
-    
     single-gives c.args.start c.requires.1 c.loop-i.invariant.2 c.loop-i.invariant.0 c.loop-i-test.true
     (omega (arith, c.symbol_of.ensures, word-few c.requires.1.table c.three_at-x.result))
 
@@ -34,11 +30,6 @@ loop-i-smaller c = omega arith
 
 pub loop-i-preserved : goal.loop-i-preserved
 loop-i-preserved c =
-    
-    
-    
-    
-    
     let o = single-on c.args.start c.requires.1 c.loop-i.invariant.2 c.loop-i.invariant.0 c.loop-i-test.true c.three_at-x.ensures c.symbol_of.ensures c.give.ensures in
     (omega (arith, c.loop-i.invariant.0), omega arith, o)
 

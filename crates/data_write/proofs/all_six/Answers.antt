@@ -35,7 +35,6 @@ pair-requires c = (
 
 pub returns-then-halves-eq1 : goal.returns-then-halves-eq1
 returns-then-halves-eq1 c =
-    
     sixes-odd c.args.j c.args.first c.args.halves c.sixes.ensures c.if-halves-eq1.true c.pair.ensures
 
 pub returns-else-halves-eq1 : goal.returns-else-halves-eq1

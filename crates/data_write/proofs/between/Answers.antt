@@ -27,7 +27,6 @@ singles-requires c =
 
 pub overflow_add-k : goal.overflow_add-k
 overflow_add-k c =
-    
     omega (arith, c.requires.1, c.loop-k-test.true, c.smaller-n.ensures.second)
 
 pub overflow_add-at : goal.overflow_add-at
@@ -40,7 +39,6 @@ overflow_add-at-in-loop-k c =
 
 pub loop-k-smaller : goal.loop-k-smaller
 loop-k-smaller c =
-    
     omega (arith, c.loop-k-test.true, some c.loop-k.invariant.stretches c.loop-k-test.true c.smaller-n.ensures)
 
 pub loop-k-preserved : goal.loop-k-preserved

@@ -40,10 +40,8 @@ loop-i-smaller c = omega arith
 
 pub loop-i-preserved : goal.loop-i-preserved
 loop-i-preserved c =
-    
-    
     doubles-on c.requires c.loop-i.invariant c.loop-i-test.true c.take-y.ensures
-    (c.joint.ensures ∙ ap₂ joint_of c.number-a.ensures.0 c.number-b.ensures.0) c.put_six.auto.0 c.put_six.ensures
+    (c.joint.ensures ∙ ap₂ joint_of c.number-a.ensures.0 c.number-b.ensures.0) c.put_six.auto.grid c.put_six.ensures
 
 pub shape_of-grid : goal.shape_of-grid
 shape_of-grid c = c.loop-i.invariant.done.size

@@ -8,7 +8,6 @@ fill_runs-requires c =
 
 pub end-requires : goal.end-requires
 end-requires c =
-    
     (c.fill_runs.ensures.stands c.args.r (begins c.args.q c.begin-st.ensures)).most
 
 pub returns : goal.returns

@@ -23,13 +23,10 @@ doubles-requires c =
 
 pub overflow_add-result : goal.overflow_add-result
 overflow_add-result c =
-    
     omega (arith, holes-total c.args.run c.holes_of-h.ensures c.requires.0.short, c.requires.0.index)
 
 pub returns-then-h-eq0 : goal.returns-then-h-eq0
 returns-then-h-eq0 c =
-    
-    
     single-filled (six-total c.requires.0 c.holes_of-h.ensures c.if-h-eq0.true) (six-at c.requires.0 c.holes_of-h.ensures c.if-h-eq0.true)
     (holes-total c.args.run c.holes_of-h.ensures c.requires.0.short).0 c.doubles.ensures
 
@@ -43,12 +40,9 @@ between-requires c =
 
 pub overflow_add-result-2 : goal.overflow_add-result-2
 overflow_add-result-2 c =
-    
     omega (arith, holes-total c.args.run c.holes_of-h.ensures c.requires.0.short, c.requires.0.index)
 
 pub returns : goal.returns
 returns c =
-    
-    
     let e = (holes-total c.args.run c.holes_of-h.ensures c.requires.0.short).0 in
     single-filled e (holed-at c.requires.0 c.holes_of-h.ensures c.if-h-eq0.false) e c.between.ensures

@@ -41,7 +41,5 @@ put_pair-requires c =
 
 pub returns : goal.returns
 returns c =
-    
-    
     one-done c.requires.0 c.requires.1 c.port_offsets-p.ensures c.take-y.ensures
     (from-table c.number-a.ensures.0 c.number-b.ensures.0 c.joint.ensures c.partners.ensures) c.put_pair.ensures

@@ -29,9 +29,8 @@ loop-i-smaller c = omega arith
 
 pub loop-i-preserved : goal.loop-i-preserved
 loop-i-preserved c =
-    
     singles-on c.requires c.loop-i.invariant c.loop-i-test.true
-    c.take-x.ensures c.number.ensures.0 c.put_three.auto.0 c.put_three.ensures
+    c.take-x.ensures c.number.ensures.0 c.put_three.auto.grid c.put_three.ensures
 
 pub shape_of-grid : goal.shape_of-grid
 shape_of-grid c = c.loop-i.invariant.done.size

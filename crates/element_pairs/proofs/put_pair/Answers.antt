@@ -4,4 +4,4 @@ use Rattle.element_pairs.proofs.put_pair.Goals as goal
 
 pub returns : goal.returns
 returns c =
-    record { size = c.put_six-2.auto.0 ∙ c.put_six.auto.0; middle = _; own = c.put_six.ensures; other = c.put_six-2.ensures }
+    record { size = c.put_six-2.auto.grid ∙ c.put_six.auto.grid; middle = _; own = c.put_six.ensures; other = c.put_six-2.ensures }

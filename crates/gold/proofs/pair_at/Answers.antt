@@ -5,4 +5,4 @@ use Rattle.gold.proofs.pair_at.Goals as goal
 
 pub returns : goal.returns
 returns c = let a = c.args in
-    stands a.c-init 0 a.first a.first (zero-add a.first) c.start.ensures c.skip.ensures
+    stands a.c_init 0 a.first a.first (zero-add a.first) c.start.ensures c.skip.ensures

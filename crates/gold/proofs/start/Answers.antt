@@ -5,4 +5,4 @@ use Rattle.gold.proofs.start.Goals as goal
 
 pub returns : goal.returns
 returns c =
-    start_is _ c.args.c-init _ _ _ c.mirrored-b.ensures c.fed2.ensures c.windowed-z.ensures refl refl
+    start_is _ c.args.c_init _ _ _ c.mirrored-b.ensures c.fed2.ensures c.windowed-z.ensures refl refl

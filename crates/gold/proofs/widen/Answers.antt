@@ -5,5 +5,4 @@ use Rattle.gold.proofs.widen.Goals as goal
 
 pub returns : goal.returns
 returns c =
-    
     widen-is c.args.r _ _ _ _ _ c.fed1.ensures c.windowed-a.ensures refl c.fed2.ensures c.windowed-b.ensures refl

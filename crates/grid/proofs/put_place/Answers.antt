@@ -22,8 +22,6 @@ shape_of-grid-then-ports-eq1 c = c.put.ensures.size
 
 pub returns-then-ports-eq1 : goal.returns-then-ports-eq1
 returns-then-ports-eq1 c =
-    
-    
     one-put c.requires.0 c.args.pair c.args.unit c.args.odd c.args.t c.args.d c.args.e c.requires.1
     (c.wide.ensures ∙ c.own_port.ensures) c.unit_byte_on-byte.ensures c.if-ports-eq1.true c.element_of.ensures c.put.ensures
 
@@ -40,12 +38,10 @@ partner-requires c = c.requires.2
 
 pub put-requires-2 : goal.put-requires-2
 put-requires-2 c =
-    
     (other_fits c.requires.0 c.args.pair _ c.args.t (c.wide-2.ensures ∙ c.other_port.ensures) c.requires.1).2
 
 pub put-requires-3 : goal.put-requires-3
 put-requires-3 c =
-    
     (own-fits (room-kept c.requires.0 c.put-2.ensures) c.args.pair _ c.args.t (c.wide.ensures ∙ c.own_port.ensures)
     c.requires.1).2
 
@@ -54,9 +50,6 @@ shape_of-grid c = c.put-3.ensures.size ∙ c.put-2.ensures.size
 
 pub returns : goal.returns
 returns c =
-    
-    
-    
     two-puts c.requires.0 c.args.pair c.args.unit c.args.odd c.args.t c.args.d c.args.e c.requires.1
     (c.wide.ensures ∙ c.own_port.ensures) c.unit_byte_on-byte.ensures c.if-ports-eq1.false (c.wide-2.ensures ∙ c.other_port.ensures)
     c.partner.ensures c.element_of-2.ensures c.element_of-3.ensures c.put-2.ensures c.put-3.ensures

@@ -5,9 +5,9 @@ use Rattle.gridbuild.proofs.lend.Goals as goal
 
 pub slice_bounds-fill-end : goal.slice_bounds-fill-end
 slice_bounds-fill-end c =
-    omega (arith, c.requires, grid-largest c.args.plan.now c.grid_length.result c.grid_length.ensures _ c.n-1.given.1)
+    omega (arith, c.requires, grid-largest c.args.plan.now c.grid_length.result c.grid_length.ensures _ c.in-Is.is)
 
 pub slice_bounds-fill-end-in-Is : goal.slice_bounds-fill-end-in-Is
 slice_bounds-fill-end-in-Is c =
-    grid-part-length c.args.plan.now c.grid_length.result c.grid_length.ensures _ c.n-1.given.1 c.args.buffer.now
+    grid-part-length c.args.plan.now c.grid_length.result c.grid_length.ensures _ c.in-Is.is c.args.buffer.now
     c.requires

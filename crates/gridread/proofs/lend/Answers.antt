@@ -9,10 +9,10 @@ slice_bounds-fill-end c =
       arith,
       c.requires,
       payload-longest c.args.plan.now c.payload_length.result c.payload_length.ensures _
-          c.n-1.given.1,
+          c.in-Is.is,
     )
 
 pub slice_bounds-fill-end-in-Is : goal.slice_bounds-fill-end-in-Is
 slice_bounds-fill-end-in-Is c =
-    payload-part-length c.args.plan.now c.payload_length.result c.payload_length.ensures _ c.n-1.given.1
+    payload-part-length c.args.plan.now c.payload_length.result c.payload_length.ensures _ c.in-Is.is
     c.args.buffer.now c.requires

@@ -17,8 +17,6 @@ returns-then-l-eq0 c = rw (← c.in_slot-l.ensures, lt-ltb _ _ c.if-port-lt2.tru
 pub returns-else-l-eq0 : goal.returns-else-l-eq0
 unfolding crs_symbol
 returns-else-l-eq0 c =
-    
-    
     rw (← c.in_slot-l.ensures, lt-ltb _ _ c.if-port-lt2.true, ne_eqb _ _ c.if-l-eq0.false, c.slot_length.ensures) (third-is c.args.cell
     c.in_slot-l.result)
 

@@ -25,7 +25,6 @@ returns-then-t-d c =
 
 pub overflow_sub-t : goal.overflow_sub-t
 overflow_sub-t c =
-    
     counted-le c.args.cell c.args.s c.args.t (omega arith) c.format_group-a.ensures c.format_group-b.ensures
     c.format_group-c.ensures c.format_group-d.ensures c.requires.0 c.formats_below.ensures.0
 
@@ -35,8 +34,6 @@ number_at-requires-2 c =
 
 pub returns : goal.returns
 returns c =
-    
-    
     group-unit c.args.cell c.args.s c.args.t (omega arith) c.format_group-a.ensures c.format_group-b.ensures
     c.format_group-c.ensures c.format_group-d.ensures c.requires.0 c.formats_below.ensures.0
     c.if-t-a.false c.if-t-b.false c.if-t-c.false c.if-t-d.false _ c.number_at-2.ensures

@@ -46,7 +46,6 @@ quad-requires c =
 
 pub returns : goal.returns
 returns c =
-    
     quad-found c.args.cell c.args.frame c.requires.0 c.requires.1 c.requires.2 c.args.s c.args.t c.requires.3
     c.requires.4 c.group_size.ensures c.control_symbols-symbols.ensures c.vacant_before-n.ensures.0
     c.region_groups-quads.ensures.0 _

@@ -19,7 +19,6 @@ in_middle-requires c = omega arith
 
 pub returns-then-s-slot-2 : goal.returns-then-s-slot-2
 returns-then-s-slot-2 c =
-    
     area_in c.args.cell c.args.frame c.args.s c.args.k _ c.slot_length-slot.ensures c.if-frame-ne0.false c.if-s-slot.false
     c.if-s-slot-2.true _ c.in_middle.ensures
 

@@ -7,8 +7,6 @@ use Rattle.layout.proofs.in_grid.Goals as goal
 pub returns-then-k-carriers : goal.returns-then-k-carriers
 unfolding in_grid
 returns-then-k-carriers c =
-    
-    
     rw (← c.symbols.ensures.0, lt-ltb _ _ c.if-s-symbols.true, ← c.carriers.ensures, lt-ltb _ _ c.if-k-carriers.true) refl
 
 pub returns-else-k-carriers : goal.returns-else-k-carriers

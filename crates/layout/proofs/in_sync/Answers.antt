@@ -11,7 +11,6 @@ in_middle-requires c = omega arith
 
 pub returns-then-s-slot : goal.returns-then-s-slot
 returns-then-s-slot c =
-    
     sync-last c.args.cell c.args.frame c.args.s c.args.k _ c.slot_length-slot.ensures _ c.is_marked.ensures
     c.if-is_marked.true c.if-s-slot.true _ c.in_middle.ensures
 
@@ -23,13 +22,11 @@ in_middle-requires-then-s-slot-2 c = omega arith
 
 pub returns-then-s-slot-2 : goal.returns-then-s-slot-2
 returns-then-s-slot-2 c =
-    
     sync-earlier c.args.cell c.args.frame c.args.s c.args.k _ c.slot_length-slot.ensures _ c.is_marked.ensures
     c.if-is_marked.true c.if-s-slot-2.true _ c.in_middle-then-s-slot-2.ensures
 
 pub returns-else-s-slot-2 : goal.returns-else-s-slot-2
 returns-else-s-slot-2 c =
-    
     sync-no c.args.cell c.args.frame c.args.s c.args.k _ c.slot_length-slot.ensures _ c.is_marked.ensures
     c.if-is_marked.true c.if-s-slot.false c.if-s-slot-2.false
 

@@ -9,12 +9,10 @@ returns-then-s-gt0 c = later-number c.args.cell c.args.s c.args.t c.if-s-gt0.tru
 
 pub overflow_sub-result : goal.overflow_sub-result
 overflow_sub-result c =
-    
     counted-le c.args.cell c.args.s c.args.t (omega arith) c.format_group-a.ensures c.format_group-b.ensures
     c.format_group-c.ensures c.format_group-d.ensures c.requires c.formats_below.ensures.0
 
 pub returns : goal.returns
 returns c =
-    
     numbered c.args.cell c.args.s c.args.t (omega arith) c.format_group-a.ensures c.format_group-b.ensures
     c.format_group-c.ensures c.format_group-d.ensures c.requires c.formats_below.ensures.0

@@ -1,4 +1,5 @@
 -- The owner above the users, or the user that has the block.
+use borrow.Enum.Refused.{opened}
 use mathlib.Core.Path.{◌∙◌, sym}
 use Rattle.layout.proofs.OneOwner.{owner_of_lem}
 use native.Mathlib.Omega.{arith}
@@ -21,8 +22,7 @@ fixed_at-o-requires c =
 
 pub returns-then-s-control_symbols : goal.returns-then-s-control_symbols
 returns-then-s-control_symbols c =
-    
-    end-control c.args.plan.now c.args.p c.args.s c.args.k _ c.fixed_at-o.ensures c.enum_told-1.given.1
+    end-control c.args.plan.now c.args.p c.args.s c.args.k _ c.fixed_at-o.ensures c.in-Idle.is
     _ c.control_symbols.ensures c.if-s-control_symbols.true ∙ sym (owner_of_lem c.args.plan.now c.args.p c.requires.0 c.args.s c.args.k c.requires.1.0 c.requires.1.1)
 
 pub user_from-requires : goal.user_from-requires
@@ -31,12 +31,11 @@ user_from-requires c =
 
 pub returns-else-s-control_symbols : goal.returns-else-s-control_symbols
 returns-else-s-control_symbols c =
-    
-    end-user c.args.plan.now c.args.p c.args.s c.args.k _ c.fixed_at-o.ensures c.enum_told-1.given.1 _
+    end-user c.args.plan.now c.args.p c.args.s c.args.k _ c.fixed_at-o.ensures c.in-Idle.is _
     c.control_symbols.ensures c.if-s-control_symbols.false _ c.user_from.ensures
     ∙ sym (owner_of_lem c.args.plan.now c.args.p c.requires.0 c.args.s c.args.k c.requires.1.0 c.requires.1.1)
 
 pub returns-in_default : goal.returns-in_default
 returns-in_default c =
-    end-fixed c.args.plan.now c.args.p c.args.s c.args.k _ c.fixed_at-o.ensures c.in_default.keys2
+    end-fixed c.args.plan.now c.args.p c.args.s c.args.k _ c.fixed_at-o.ensures (opened c.in_default.in_default-own.keys2)
     ∙ sym (owner_of_lem c.args.plan.now c.args.p c.requires.0 c.args.s c.args.k c.requires.1.0 c.requires.1.1)

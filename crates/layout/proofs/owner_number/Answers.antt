@@ -20,7 +20,7 @@ pub overflow_add-result-in-User : goal.overflow_add-result-in-User
 overflow_add-result-in-User c = omega arith
 
 pub returns-in-Phich : goal.returns-in-Phich
-returns-in-Phich c = sym (ap owner_number c.o-in-Phich-1.given.1)
+returns-in-Phich c = sym (ap owner_number c.in-Phich.is)
 
 pub returns-in-User : goal.returns-in-User
-returns-in-User c = sym (ap owner_number c.o-in-User-1.given.1)
+returns-in-User c = sym (ap owner_number c.in-User.is)

@@ -10,8 +10,6 @@ returns-then-crs_uses c = rw (← c.crs_uses.ensures, c.if-crs_uses.true) c.pilo
 pub returns-then-crs_uses-2 : goal.returns-then-crs_uses-2
 unfolding pilot
 returns-then-crs_uses-2 c =
-    
-    
     rw (← c.crs_uses.ensures, ← c.crs_uses-2.ensures, c.if-crs_uses.false, c.if-crs_uses-2.true) c.pilot_of-then-crs_uses-2.ensures
 
 pub returns : goal.returns

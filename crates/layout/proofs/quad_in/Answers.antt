@@ -23,6 +23,5 @@ overflow_add-a c =
 
 pub returns : goal.returns
 returns c =
-    
     quad-here c.args.cell c.args.s c.args.d c.args.i c.quad_symbol.ensures c.if-quad_symbol-s.false
     c.groups_left.ensures.0 c.units.ensures _ c.within.ensures

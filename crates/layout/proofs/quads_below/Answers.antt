@@ -48,6 +48,5 @@ ring_below-requires c = (
 
 pub returns : goal.returns
 returns c =
-    
     below-here c.args.cell c.args.s c.args.n c.args.i c.quad_symbol.ensures c.if-quad_symbol-s.false
     c.groups_left-h.ensures.0 c.start_number.ensures.0 c.units.ensures _ c.ring_below.ensures

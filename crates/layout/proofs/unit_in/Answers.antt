@@ -38,7 +38,6 @@ overflow_cast-result c =
 
 pub returns-then-quad_in : goal.returns-then-quad_in
 returns-then-quad_in c =
-    
     unit-found c.args.cell c.args.s c.args.d c.groups_left-h.ensures.0 c.loop-i.i c.loop-i-test.true
     c.quad_in.ensures c.if-quad_in.true ∙ c.loop-i.invariant.1
 

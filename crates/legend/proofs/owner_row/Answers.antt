@@ -4,14 +4,13 @@ use Rattle.legend.proofs.Showing.{row-shown, row-left}
 use Rattle.legend.proofs.owner_row.Goals as goal
 
 pub fill-requires : goal.fill-requires
-fill-requires c = (sym c.check.ensures ∙ c.p-1.given.1, c.requires)
+fill-requires c = (sym c.check.ensures ∙ c.in-Plan.is, c.requires)
 
 pub returns-in-Plan : goal.returns-in-Plan
 returns-in-Plan c =
-    
-    row-shown c.args.plan.now c.args.s c.args.first c.args.row.now _ (sym c.check.ensures ∙ c.p-1.given.1) _
+    row-shown c.args.plan.now c.args.s c.args.first c.args.row.now _ (sym c.check.ensures ∙ c.in-Plan.is) _
     c.fill.ensures
 
 pub returns-in-Refused : goal.returns-in-Refused
 returns-in-Refused c =
-    row-left c.args.plan.now c.args.s c.args.first c.args.row.now _ (sym c.check.ensures ∙ c.enum_told-1.given.1)
+    row-left c.args.plan.now c.args.s c.args.first c.args.row.now _ (sym c.check.ensures ∙ c.in-Refused.is)

@@ -5,14 +5,14 @@ use mathlib.Core.Path.{sym, ◌∙◌}
 use Rattle.mapper.proofs.count.Goals as goal
 
 pub count_of-requires : goal.count_of-requires
-count_of-requires c = sym c.check.ensures ∙ c.p-1.given.1
+count_of-requires c = sym c.check.ensures ∙ c.in-Plan.is
 
 pub returns-in-Plan : goal.returns-in-Plan
 unfolding kind_count_of
 returns-in-Plan c =
-    number_is c.args.plan.now _ c.check.ensures _ c.p-1.given.1 (kind_elements c.args.plan.now c.args.kind) _ c.count_of.ensures
+    number_is c.args.plan.now _ c.check.ensures _ c.in-Plan.is (kind_elements c.args.plan.now c.args.kind) _ c.count_of.ensures
 
 pub returns-in-Refused : goal.returns-in-Refused
 unfolding kind_count_of
 returns-in-Refused c =
-    number-refused c.args.plan.now _ c.check.ensures _ c.r-1.given.1 (kind_elements c.args.plan.now c.args.kind)
+    number-refused c.args.plan.now _ c.check.ensures _ c.in-Refused.is (kind_elements c.args.plan.now c.args.kind)

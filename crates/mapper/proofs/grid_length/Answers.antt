@@ -7,8 +7,8 @@ use Rattle.mapper.proofs.grid_length.Goals as goal
 pub returns-in-Plan : goal.returns-in-Plan
 unfolding grid_length_of
 returns-in-Plan c =
-    number_is c.args.plan.now _ c.check.ensures _ c.p-1.given.1 grid_length _ c.grid_length.ensures
+    number_is c.args.plan.now _ c.check.ensures _ c.in-Plan.is grid_length _ c.grid_length.ensures
 
 pub returns-in-Refused : goal.returns-in-Refused
 unfolding grid_length_of
-returns-in-Refused c = number-refused c.args.plan.now _ c.check.ensures _ c.r-1.given.1 grid_length
+returns-in-Refused c = number-refused c.args.plan.now _ c.check.ensures _ c.in-Refused.is grid_length

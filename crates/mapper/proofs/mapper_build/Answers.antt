@@ -8,12 +8,12 @@ use Rattle.mapper.proofs.mapper_build.Goals as goal
 
 pub plus-requires : goal.plus-requires
 plus-requires c =
-    omega (arith, built-fits c.args.plan.now c.args.payload.now c.args.grid.now _ c.build.ensures.0 _ c.n-1.given.1)
+    omega (arith, built-fits c.args.plan.now c.args.payload.now c.args.grid.now _ c.build.ensures.0 _ c.in-Elements.is)
 
 pub returns-in-Elements : goal.returns-in-Elements
 returns-in-Elements c =
-    (plus-back _ _ c.plus.result c.plus.type-inv c.plus.ensures (sym c.build.ensures.0 ∙ ap built_answer c.n-1.given.1), c.build.ensures.1)
+    (plus-back _ _ c.plus.result c.plus.type-inv c.plus.ensures (sym c.build.ensures.0 ∙ ap built_answer c.in-Elements.is), c.build.ensures.1)
 
 pub returns-in-Refused : goal.returns-in-Refused
 returns-in-Refused c =
-    (minus-back _ _ c.minus.result c.minus.type-inv c.minus.ensures (sym c.build.ensures.0 ∙ ap built_answer c.r-1.given.1), c.build.ensures.1)
+    (minus-back _ _ c.minus.result c.minus.type-inv c.minus.ensures (sym c.build.ensures.0 ∙ ap built_answer c.in-Refused.is), c.build.ensures.1)

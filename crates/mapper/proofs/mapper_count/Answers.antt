@@ -7,4 +7,4 @@ pub number_in_c-requires : goal.number_in_c-requires
 number_in_c-requires c = count_fits c.args.plan.now c.count.result c.args.kind c.count.ensures
 
 pub returns : goal.returns
-returns c = number-back c.number_in_c.result c.number_in_c.type-inv c.count.result _ c.number_in_c.ensures c.count.ensures
+returns c = number-back c.number_in_c.result c.number_in_c.type_inv c.count.result _ c.number_in_c.ensures c.count.ensures

@@ -7,4 +7,4 @@ pub number_in_c-requires : goal.number_in_c-requires
 number_in_c-requires c = grid-fits c.args.plan.now c.grid_length.result c.grid_length.ensures
 
 pub returns : goal.returns
-returns c = number-back c.number_in_c.result c.number_in_c.type-inv c.grid_length.result _ c.number_in_c.ensures c.grid_length.ensures
+returns c = number-back c.number_in_c.result c.number_in_c.type_inv c.grid_length.result _ c.number_in_c.ensures c.grid_length.ensures

@@ -8,4 +8,4 @@ pub number_in_c-requires : goal.number_in_c-requires
 number_in_c-requires c = payload-fits c.args.plan.now c.payload_length.result (omega arith) c.payload_length.ensures
 
 pub returns : goal.returns
-returns c = number-back c.number_in_c.result c.number_in_c.type-inv c.payload_length.result _ c.number_in_c.ensures c.payload_length.ensures
+returns c = number-back c.number_in_c.result c.number_in_c.type_inv c.payload_length.result _ c.number_in_c.ensures c.payload_length.ensures

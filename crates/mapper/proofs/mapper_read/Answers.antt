@@ -8,12 +8,12 @@ use Rattle.mapper.proofs.mapper_read.Goals as goal
 
 pub plus-requires : goal.plus-requires
 plus-requires c = let a = c.args in
-    omega (arith, read_fits a.plan.now a.payload.now a.grid.now _ c.read.ensures.2 _ c.n-1.given.1)
+    omega (arith, read_fits a.plan.now a.payload.now a.grid.now _ c.read.ensures.2 _ c.in-Elements.is)
 
 pub returns-in-Elements : goal.returns-in-Elements
 returns-in-Elements c = let r = c.read.ensures in
-    (plus-back _ _ c.plus.result c.plus.type-inv c.plus.ensures (sym r.0 ∙ ap read_answer c.n-1.given.1), r.1, reads_of r.0 r.2)
+    (plus-back _ _ c.plus.result c.plus.type-inv c.plus.ensures (sym r.0 ∙ ap read_answer c.in-Elements.is), r.1, reads_of r.0 r.2)
 
 pub returns-in-Refused : goal.returns-in-Refused
 returns-in-Refused c = let r = c.read.ensures in
-    (minus-back _ _ c.minus.result c.minus.type-inv c.minus.ensures (sym r.0 ∙ ap read_answer c.r-1.given.1), r.1, reads_of r.0 r.2)
+    (minus-back _ _ c.minus.result c.minus.type-inv c.minus.ensures (sym r.0 ∙ ap read_answer c.in-Refused.is), r.1, reads_of r.0 r.2)

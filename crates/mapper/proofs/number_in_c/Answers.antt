@@ -5,10 +5,10 @@ use Rattle.mapper.specs.Calls.{number_answer}
 use Rattle.mapper.proofs.number_in_c.Goals as goal
 
 pub plus-requires : goal.plus-requires
-plus-requires c = small_is c.args.n _ c.n-1.given.1 c.requires
+plus-requires c = small_is c.args.n _ c.in-Is.is c.requires
 
 pub returns-in-Is : goal.returns-in-Is
-returns-in-Is c = plus-back _ (number_answer c.args.n) c.plus.result c.plus.type-inv c.plus.ensures (ap number_answer c.n-1.given.1)
+returns-in-Is c = plus-back _ (number_answer c.args.n) c.plus.result c.plus.type-inv c.plus.ensures (ap number_answer c.in-Is.is)
 
 pub returns-in-Refused : goal.returns-in-Refused
-returns-in-Refused c = minus-back _ (number_answer c.args.n) c.minus.result c.minus.type-inv c.minus.ensures (ap number_answer c.n-in-Refused-1.given.1)
+returns-in-Refused c = minus-back _ (number_answer c.args.n) c.minus.result c.minus.type-inv c.minus.ensures (ap number_answer c.in-Refused.is)

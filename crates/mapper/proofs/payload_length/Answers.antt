@@ -6,14 +6,14 @@ use mathlib.Core.Path.{sym, ◌∙◌}
 use Rattle.mapper.proofs.payload_length.Goals as goal
 
 pub payload_length-requires : goal.payload_length-requires
-payload_length-requires c = sym c.check.ensures ∙ c.p-1.given.1
+payload_length-requires c = sym c.check.ensures ∙ c.in-Plan.is
 
 pub returns-in-Plan : goal.returns-in-Plan
 unfolding payload_length_of
 returns-in-Plan c =
-    number_is c.args.plan.now _ c.check.ensures _ c.p-1.given.1 (payload_length c.args.plan.now) _ c.payload_length.ensures
+    number_is c.args.plan.now _ c.check.ensures _ c.in-Plan.is (payload_length c.args.plan.now) _ c.payload_length.ensures
 
 pub returns-in-Refused : goal.returns-in-Refused
 unfolding payload_length_of
 returns-in-Refused c =
-    number-refused c.args.plan.now _ c.check.ensures _ c.r-1.given.1 (payload_length c.args.plan.now)
+    number-refused c.args.plan.now _ c.check.ensures _ c.in-Refused.is (payload_length c.args.plan.now)

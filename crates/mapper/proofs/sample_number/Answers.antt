@@ -5,31 +5,31 @@ use Rattle.mapper.proofs.sample_number.Goals as goal
 
 pub bits-requires : goal.bits-requires
 bits-requires c = let a = c.args in
-    first-no-nan a.byte a.i a.j _ c.sample_at.ensures _ c.s-1.given.1 _ c.s-in-Is-2-1.given.1
+    first-no-nan a.byte a.i a.j _ c.sample_at.ensures _ c.in-Is.is _ c.in-At.is
 
 pub bits-requires-in-At : goal.bits-requires-in-At
 bits-requires-in-At c = let a = c.args in
     second-no-nan a.byte a.i a.j _ c.sample_at.ensures _
-    c.s-1.given.1 _ c.s-in-Is-2-1.given.1
+    c.in-Is.is _ c.in-At.is
 
 pub returns-in-Silence : goal.returns-in-Silence
 returns-in-Silence c = let a = c.args in
-    plus-is 0 _ (is-silence a.byte a.i a.j _ c.sample_at.ensures _ c.s-1.given.1 a.n c.enum_told-1.given.1)
+    plus-is 0 _ (is-silence a.byte a.i a.j _ c.sample_at.ensures _ c.in-Is.is a.n c.in-Silence.is)
 
 pub returns-in-Phase : goal.returns-in-Phase
 returns-in-Phase c = let a = c.args in
     plus-back _ _ c.plus.result c.plus.type-inv c.plus.ensures
     (is-phase a.byte a.i a.j _ c.sample_at.ensures _
-    c.s-1.given.1 a.n _ _ c.s-in-Is-1.given.1 c.nth.ensures)
+    c.in-Is.is a.n _ _ c.in-Phase.is c.nth.ensures)
 
 pub returns-in-At : goal.returns-in-At
 returns-in-At c = let a = c.args in
     plus-back _ _ c.plus-in-At.result c.plus-in-At.type-inv c.plus-in-At.ensures
     (is-pair a.byte a.i a.j _ c.sample_at.ensures _
-    c.s-1.given.1
-    _ c.s-in-Is-2-1.given.1 a.n _ _ _ c.bits.ensures c.bits-in-At.ensures c.nth-in-At.ensures)
+    c.in-Is.is
+    _ c.in-At.is a.n _ _ _ c.bits.ensures c.bits-in-At.ensures c.nth-in-At.ensures)
 
 pub returns-in-Refused : goal.returns-in-Refused
 returns-in-Refused c = let a = c.args in
     minus-back _ _ c.minus.result c.minus.type-inv c.minus.ensures
-    (is-refused a.byte a.i a.j _ c.sample_at.ensures a.n c.enum_told-in-Refused-1.given.1)
+    (is-refused a.byte a.i a.j _ c.sample_at.ensures a.n c.in-Refused.is)

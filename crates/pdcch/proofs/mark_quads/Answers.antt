@@ -86,17 +86,14 @@ group_of-requires c =
 
 pub overflow_mul-pairs : goal.overflow_mul-pairs
 overflow_mul-pairs c =
-    
     omega (arith, ring-here (ring c) c.loop-m.m c.loop-m.invariant.1 c.Group-of.ensures, ring-small (ring c) c.requires.1 c.loop-m.m)
 
 pub overflow_add-first : goal.overflow_add-first
 overflow_add-first c =
-    
     omega (arith, ring-here (ring c) c.loop-m.m c.loop-m.invariant.1 c.Group-of.ensures, ring-small (ring c) c.requires.1 c.loop-m.m)
 
 pub add-requires : goal.add-requires
 add-requires c =
-    
     omega (
       arith,
       ring-here (ring c) c.loop-m.m c.loop-m.invariant.1 c.Group-of.ensures,
@@ -111,7 +108,6 @@ around-n-requires c =
 
 pub overflow_add-m : goal.overflow_add-m
 overflow_add-m c =
-    
     omega (arith, c.loop-m-test.true, c.units-units.ensures, units-most c.args.cell c.requires.0)
 
 pub loop-m-smaller : goal.loop-m-smaller
@@ -140,6 +136,5 @@ shape_of-taken c =
 
 pub returns : goal.returns
 returns c =
-    
     marked-as c.args.taken.now c.loop-m.taken c.loop-m.invariant.0
     (omega (arith, c.loop-m.invariant.2, c.loop-m-test.false, c.units-units.ensures)) (ring-spot (ring c))

@@ -38,20 +38,16 @@ start-cursor-requires c = (
 
 pub loop-block-init : goal.loop-block-init
 loop-block-init c =
-    
     walk_start c.args.cell c.args.frame c.requires.0 c.control_symbols-symbols.ensures c.region_groups-quads.ensures.0
     c.set_starts-count.ensures c.start-cursor.ensures c.requires.1
 
 pub put_block-cursor-requires : goal.put_block-cursor-requires
 put_block-cursor-requires c =
-    
-    
     block_in c.args.cell c.args.frame c.requires.0 c.control_symbols-symbols.ensures c.region_groups-quads.ensures.0
     c.set_starts-count.ensures c.set_taken.ensures c.loop-block.invariant c.loop-block-test.true
 
 pub overflow_add-base : goal.overflow_add-base
 overflow_add-base c =
-    
     omega (arith, c.loop-block.invariant.added, c.loop-block-test.true, blocks-most c.args.cell c.requires.0.cell)
 
 pub overflow_add-block : goal.overflow_add-block
@@ -64,13 +60,10 @@ loop-block-smaller c =
 
 pub loop-block-preserved : goal.loop-block-preserved
 loop-block-preserved c =
-    
-    
     walk-next c.args.cell c.args.frame c.requires.0 c.control_symbols-symbols.ensures c.region_groups-quads.ensures.0
     c.set_starts-count.ensures c.set_taken.ensures c.loop-block.invariant c.loop-block-test.true c.put_block-cursor.ensures
 
 pub returns : goal.returns
 returns c =
-    
     walk_end c.args.cell c.args.frame c.requires.0 c.control_symbols-symbols.ensures c.region_groups-quads.ensures.0
     c.set_starts-count.ensures c.loop-block.invariant c.loop-block-test.false

@@ -16,7 +16,6 @@ put_given-s-requires c =
 
 pub overflow_add-e : goal.overflow_add-e
 overflow_add-e c =
-    
     omega (arith, in-from c.loop-e.invariant c.requires c.loop-e-test.true)
 
 pub loop-e-smaller : goal.loop-e-smaller

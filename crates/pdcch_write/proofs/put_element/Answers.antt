@@ -29,7 +29,6 @@ bounds-bits-i c =
 
 pub put_quad-requires : goal.put_quad-requires
 put_quad-requires c =
-    
     quad-in c.loop-i.invariant c.loop-i-test.true c.places-places.ensures c.gap_of-six.ensures c.pairs_of-x.ensures c.requires.0
 
 pub advance-s-requires : goal.advance-s-requires
@@ -43,8 +42,6 @@ loop-i-smaller c = omega arith
 
 pub loop-i-preserved : goal.loop-i-preserved
 loop-i-preserved c =
-    
-    
     quads-next c.loop-i.invariant c.loop-i-test.true c.places-places.ensures c.gap_of-six.ensures c.pairs_of-x.ensures
     c.scrambled.ensures c.put_quad.ensures c.advance-s.ensures
 

@@ -40,7 +40,6 @@ round_apart-requires c =
 
 pub returns-then-x-eq2 : goal.returns-then-x-eq2
 returns-then-x-eq2 c =
-    
     quad-round c.requires c.port_offsets-o.ensures c.if-ports-eq1.false c.if-x-eq2.true c.round_apart.ensures
 
 pub round-requires : goal.round-requires
@@ -49,5 +48,4 @@ round-requires c =
 
 pub returns : goal.returns
 returns c =
-    
     quad-round c.requires c.port_offsets-o.ensures c.if-ports-eq1.false (gap-one c.requires c.if-x-eq2.false) c.round.ensures

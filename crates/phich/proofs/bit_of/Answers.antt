@@ -53,7 +53,6 @@ loop-n-smaller c = omega (arith, c.loop-n-test.true)
 
 pub loop-n-preserved : goal.loop-n-preserved
 loop-n-preserved c =
-    
     next c.loop-n.invariant c.flipped_by-d.result c.loop-n-test.true c.requires.spread.1 c.flipped_by-d.ensures.1 c.wide.ensures
     (row-chip c.sequence-row.ensures c.loop-n-test.true c.plain_chip-chip.ensures) c.wide-in-loop-n.ensures c.levels_at-p.ensures
     ((product-held c.dot.result c.dot.ensures.1).0 ∙ c.dot.ensures.0) c.scrambling.ensures

@@ -13,7 +13,7 @@ returns-then-l-q c = λ e. absurd (subst (λ (b : Bool). T (cond b false true)) 
 pub overflow_mul-result : goal.overflow_mul-result
 overflow_mul-result c = omega (
       arith,
-      group-fits c.wide.result c.args.l (omega (arith, c.wide.ensures, c.wide.type-inv)) c.requires.1,
+      group-fits c.wide.result c.args.l (omega (arith, c.wide.ensures, c.wide.type_inv)) c.requires.1,
     )
 
 pub returns : goal.returns

@@ -9,8 +9,6 @@ returns-then-quad_symbol-gt0 c =
 
 pub returns : goal.returns
 returns c =
-    
-    
     unit-sum c.args.cell c.args.m c.args.i c.requires.0 c.unit_number-n.ensures.0 c.quad_symbol.ensures
     c.if-quad_symbol-gt0.false c.format_group-a.ensures c.format_group-b.ensures c.format_group-c.ensures
     c.format_group-d.ensures c.left_group.ensures

@@ -5,19 +5,13 @@ use Rattle.plan.proofs.body.Goals as goal
 
 pub users_from-requires : goal.users_from-requires
 users_from-requires c =
-    
-    
-    ((subst (HisRead c.args.plan.now c.args.cell c.args.start) c.his-1.given.1 c.his_from.ensures).0, c.requires.1)
+    ((subst (HisRead c.args.plan.now c.args.cell c.args.start) c.in-Count.is c.his_from.ensures).0, c.requires.1)
 
 pub returns-in-Count : goal.returns-in-Count
 returns-in-Count c =
-    
-    
     c.users_from.ensures
-    ∙ (subst (HisRead c.args.plan.now c.args.cell c.args.start) c.his-1.given.1 c.his_from.ensures).1 c.args.frame
+    ∙ (subst (HisRead c.args.plan.now c.args.cell c.args.start) c.in-Count.is c.his_from.ensures).1 c.args.frame
 
 pub returns-in-Refused : goal.returns-in-Refused
 returns-in-Refused c =
-    
-    
-    (subst (HisRead c.args.plan.now c.args.cell c.args.start) c.f-1.given.1 c.his_from.ensures) c.args.frame
+    (subst (HisRead c.args.plan.now c.args.cell c.args.start) c.in-Refused.is c.his_from.ensures) c.args.frame

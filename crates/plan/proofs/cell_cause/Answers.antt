@@ -4,12 +4,5 @@ use Rattle.plan.proofs.cell_cause.Goals as goal
 
 pub returns : goal.returns
 returns c =
-    
-    
-    
-    
-    
-    
-    
     cell-tests c.args.c c.demand-duration.ensures c.one_of.ensures c.demand-sixths.ensures c.one_of-2.ensures
     c.demand-ports.ensures c.demand-prefix.ensures c.one_of-3.ensures c.demand-blocks.ensures c.demand.ensures

@@ -5,16 +5,14 @@ use Rattle.plan.proofs.Opening.{cell-refused, cell-step}
 use Rattle.plan.proofs.cell_then.Goals as goal
 
 pub after_cell-requires : goal.after_cell-requires
-after_cell-requires c = cell_in _ (sym c.enum_told-1.given.1 ∙ c.cell_cause.ensures)
+after_cell-requires c = cell_in _ (sym c.in-Nothing.is ∙ c.cell_cause.ensures)
 
 pub returns-in-Nothing : goal.returns-in-Nothing
 returns-in-Nothing c =
-    
     let a = c.args in
-    c.after_cell.ensures ∙ cell-step a.plan.now a.c a.at c.cell_cause.ensures c.enum_told-1.given.1
+    c.after_cell.ensures ∙ cell-step a.plan.now a.c a.at c.cell_cause.ensures c.in-Nothing.is
 
 pub returns-in-Is : goal.returns-in-Is
 returns-in-Is c =
-    
     let a = c.args in
-    cell-refused a.plan.now a.c a.at c.cell_cause.ensures c.cause-1.given.1 c.found.ensures
+    cell-refused a.plan.now a.c a.at c.cell_cause.ensures c.in-Is.is c.found.ensures

@@ -7,13 +7,9 @@ use Rattle.plan.proofs.check.Goals as goal
 
 pub returns-in-Accepted : goal.returns-in-Accepted
 returns-in-Accepted c =
-    
-    
-    ap walk_answer (sym c.p-1.given.1) ∙ ap walk_answer c.walk.ensures ∙ walked-refusal c.args.plan.now
+    ap walk_answer (sym c.in-Accepted.is) ∙ ap walk_answer c.walk.ensures ∙ walked-refusal c.args.plan.now
 
 pub returns-in-Refused : goal.returns-in-Refused
 returns-in-Refused c =
-    
-    
     ap Refused c.refusal_of.ensures
-    ∙ ap walk_answer (sym c.s-1.given.1) ∙ ap walk_answer c.walk.ensures ∙ walked-refusal c.args.plan.now
+    ∙ ap walk_answer (sym c.in-Refused.is) ∙ ap walk_answer c.walk.ensures ∙ walked-refusal c.args.plan.now

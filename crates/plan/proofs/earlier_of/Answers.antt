@@ -9,7 +9,7 @@ use Rattle.plan.proofs.earlier_of.Goals as goal
 
 pub returns-in-Nothing : goal.returns-in-Nothing
 returns-in-Nothing c = let a = c.args in
-    clash-nothing a.plan.now a.n a.at c.enum_told-1.given.1
+    clash-nothing a.plan.now a.n a.at c.in-Nothing.is
 
 pub loop-number-init : goal.loop-number-init
 unfolding earlier_of
@@ -17,7 +17,6 @@ loop-number-init c = refl
 
 pub returns-then-byte_at-code : goal.returns-then-byte_at-code
 returns-then-byte_at-code c =
-    
     let a = c.args in
     let w = a.plan.now in
     let m = c.loop-number.number in
@@ -33,7 +32,6 @@ loop-number-smaller c = omega arith
 
 pub loop-number-preserved : goal.loop-number-preserved
 loop-number-preserved c =
-    
     let a = c.args in
     let w = a.plan.now in
     let m = c.loop-number.number in

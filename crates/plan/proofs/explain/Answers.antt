@@ -7,13 +7,11 @@ use Rattle.plan.proofs.explain.Goals as goal
 pub returns-in-Accepted : goal.returns-in-Accepted
 unfolding finding_of
 returns-in-Accepted c =
-    
     let explained = explained_by c.args.plan.now in
-    ap explained (sym c.p-1.given.1 ∙ c.walk.ensures)
+    ap explained (sym c.in-Accepted.is ∙ c.walk.ensures)
 
 pub returns-in-Refused : goal.returns-in-Refused
 unfolding finding_of
 returns-in-Refused c =
-    
     let explained = explained_by c.args.plan.now in
-    ap Refused c.finding_at.ensures ∙ ap explained (sym c.s-1.given.1 ∙ c.walk.ensures)
+    ap Refused c.finding_at.ensures ∙ ap explained (sym c.in-Refused.is ∙ c.walk.ensures)

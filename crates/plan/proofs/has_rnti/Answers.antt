@@ -17,11 +17,8 @@ loop-i-smaller c = omega arith
 
 pub loop-i-preserved : goal.loop-i-preserved
 loop-i-preserved c =
-    
-    
     looked-step c.args.rnti c.args.table.now c.loop-i.i c.loop-i.found c.loop-i-test.true c.loop-i.invariant
 
 pub returns : goal.returns
 returns c =
-    
     looked-last c.args.rnti c.args.table.now c.loop-i.i c.loop-i.found c.loop-i-test.false c.loop-i.invariant

@@ -5,5 +5,4 @@ use Rattle.plan.proofs.hi_at.Goals as goal
 
 pub returns : goal.returns
 returns c =
-    
     hi-made (drop c.args.at c.args.plan.now) _ _ c.byte_at.ensures c.byte_at-2.ensures

@@ -6,24 +6,18 @@ use Rattle.plan.specs.CommandLists.{his_from}
 use Rattle.plan.proofs.Phases.{his-first, his-done, AtHi, his-less, his-refused, his-word, his-again}
 use Rattle.plan.proofs.Reading.{stands-hi}
 use Rattle.plan.proofs.his_from.Goals as goal
+use Rattle.plan.proofs.his_from.Goals.{After-hi_cause}
 
 -- the HI at the loop's position, and its cause
-step : (c : tie.After-hi-cause invariant-loop decreases-loop) →
-    let h = c.before.before.hi_at.result in
-    let i = c.before.before.before.before.before.loop in
-    let a = c.before.before.before.before.before.before.before.args in
-    AtHi a.plan.now a.cell a.start i.count i.at i.pairs h c.hi-cause.result
+step : (c : After-hi_cause) →
+    AtHi c.args.plan.now c.args.cell c.args.start c.loop-cell.count c.loop-cell.at c.loop-cell.pairs c.hi_at-h.result c.hi_cause.result
 step c =
-    let at-hi-at = c.before.before in
-    let at-stands = at-hi-at.before.before in
-    let at-loop = at-stands.before in
-    let at-args = at-loop.before.before in
-    let w = at-args.args.plan.now in
+    let w = c.args.plan.now in
     record {
-      going = at-loop.loop.invariant;
-      ok = at-args.requires.1;
-      there = stands-hi (drop at-loop.loop.at w) at-stands.stands.ensures at-hi-at.before.if1.true at-hi-at.hi_at.ensures;
-      cause = c.hi-cause.ensures (his_from (drop at-args.args.start w) at-loop.loop.count) at-loop.loop.invariant.used;
+      going = c.loop-cell.invariant;
+      ok = c.requires.1;
+      there = stands-hi (drop c.loop-cell.at w) c.stands.ensures c.loop-cell-test.true c.hi_at-h.ensures;
+      cause = c.hi_cause.ensures (his_from (drop c.args.start w) c.loop-cell.count) c.loop-cell.invariant.used;
     }
 
 pub loop-cell-init : goal.loop-cell-init
@@ -39,26 +33,23 @@ pub slice_bounds-add-end : goal.slice_bounds-add-end
 slice_bounds-add-end c = sym c.loop-cell.invariant.words
 
 pub add-requires : goal.add-requires
-add-requires c = his-word (step c) c.enum_told-1.given.1 c.pair_of.ensures
+add-requires c = his-word (step (goal.at.add-requires c).After-hi_cause) c.in-Nothing.is c.pair_of.ensures
 
 pub overflow_add-count : goal.overflow_add-count
 overflow_add-count c = omega arith
 
 pub loop-cell-smaller : goal.loop-cell-smaller
-loop-cell-smaller c = his-less (step c) c.next_at-at.ensures
+loop-cell-smaller c = his-less (step (goal.at.loop-cell-smaller c).After-hi_cause) c.next_at-at.ensures
 
 pub loop-cell-preserved : goal.loop-cell-preserved
 loop-cell-preserved c =
-    
-    
-    
-    his-again (step c) c.enum_told-1.given.1 c.pair_of.ensures c.add.ensures c.next_at-at.ensures
+    his-again (step (goal.at.loop-cell-preserved c).After-hi_cause) c.in-Nothing.is c.pair_of.ensures c.add.ensures c.next_at-at.ensures
 
 pub overflow_add-count-in-Is : goal.overflow_add-count-in-Is
 overflow_add-count-in-Is c = omega arith
 
 pub returns-in-Is : goal.returns-in-Is
-returns-in-Is c = his-refused (step c) c.cause-1.given.1 c.found.ensures
+returns-in-Is c = his-refused (step (goal.at.returns-in-Is c).After-hi_cause) c.in-Is.is c.found.ensures
 
 pub returns : goal.returns
 returns c = his-done c.loop-cell.invariant c.stands.ensures c.loop-cell-test.false

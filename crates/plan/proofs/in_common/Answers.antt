@@ -5,21 +5,18 @@ use Rattle.plan.proofs.in_common.Goals as goal
 
 pub returns-in-Pair : goal.returns-in-Pair
 returns-in-Pair c =
-    
     let a = c.args in
     let w = a.plan.now in
-    common-pair (drop a.at w) (drop a.before w) c.hi_at.ensures c.hi_at-in-Pair.ensures c.enum_told-in-Pair-1.given.1 c.same_pair.ensures
+    common-pair (drop a.at w) (drop a.before w) c.hi_at.ensures c.hi_at-in-Pair.ensures c.in-Pair.is c.same_pair.ensures
 
 pub returns-in-Rnti : goal.returns-in-Rnti
 returns-in-Rnti c =
-    
     let a = c.args in
     let w = a.plan.now in
-    common-rnti (drop a.at w) (drop a.before w) c.user_at.ensures c.user_at-in-Rnti.ensures c.enum_told-in-Rnti-1.given.1 c.same_rnti.ensures
+    common-rnti (drop a.at w) (drop a.before w) c.user_at.ensures c.user_at-in-Rnti.ensures c.in-Rnti.is c.same_rnti.ensures
 
 pub returns-in-Block : goal.returns-in-Block
 returns-in-Block c =
-    
     let a = c.args in
     let w = a.plan.now in
-    common-block (drop a.at w) (drop a.before w) c.user_at-in-Block.ensures c.user_at-in-Block-2.ensures c.enum_told-in-Block-1.given.1 c.shares_block.ensures
+    common-block (drop a.at w) (drop a.before w) c.user_at-in-Block.ensures c.user_at-in-Block-2.ensures c.in-Block.is c.shares_block.ensures

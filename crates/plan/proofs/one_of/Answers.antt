@@ -9,8 +9,6 @@ bounds-list-i c = omega arith
 
 pub returns-then-n-list : goal.returns-then-n-list
 returns-then-n-list c =
-    
-    
     sym (one_found c.args.n c.args.list.now c.loop-i.i c.loop-i-test.true c.if-n-list.true) ∙ c.loop-i.invariant
 
 pub overflow_add-i : goal.overflow_add-i
@@ -21,11 +19,8 @@ loop-i-smaller c = omega arith
 
 pub loop-i-preserved : goal.loop-i-preserved
 loop-i-preserved c =
-    
-    
     one-passed c.args.n c.args.list.now c.loop-i.i c.loop-i-test.true c.if-n-list.false ∙ c.loop-i.invariant
 
 pub returns : goal.returns
 returns c =
-    
     sym (one_left c.args.n c.args.list.now c.loop-i.i c.loop-i-test.false) ∙ c.loop-i.invariant

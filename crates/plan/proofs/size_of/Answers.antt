@@ -19,8 +19,4 @@ returns-then-b-eq48 c = size-user c.args.b c.if-b-eq48.true
 
 pub returns : goal.returns
 returns c =
-    
-    
-    
-    
     size-other c.args.b c.if-b-eq16.false c.if-b-eq18.false c.if-b-eq17.false c.if-b-eq32.false c.if-b-eq48.false

@@ -7,25 +7,20 @@ use Rattle.plan.specs.CommandLists.{users_from}
 use Rattle.plan.proofs.Phases.{users-first, users-done, AtUser, users-less, users-refused, users-again}
 use Rattle.plan.proofs.Reading.{stands-user}
 use Rattle.plan.proofs.users_from.Goals as goal
+use Rattle.plan.proofs.users_from.Goals.{After-user_cause}
 
 -- the USER at the loop's position, and its cause
-step : (c : tie.After-user-cause invariant-loop decreases-loop) →
-    let u = c.before.before.before.user-at.result in
-    let i = c.before.before.before.before.before.before.loop in
-    let a = c.before.before.before.before.before.before.before.before.args in
-    AtUser a.plan.now a.cell a.frame a.start a.his (a.start + 3 * a.his) i.users i.at i.rntis i.blocks u c.user-cause.result
+step : (c : After-user_cause) →
+    AtUser c.args.plan.now c.args.cell c.args.frame c.args.start c.args.his (c.args.start + 3 * c.args.his) c.loop-rntis.users c.loop-rntis.at c.loop-rntis.rntis
+    c.loop-rntis.blocks c.user_at-u.result c.user_cause.result
 step c =
-    let at-user-at = c.before.before.before in
-    let at-stands = at-user-at.before.before in
-    let at-loop = at-stands.before in
-    let at-args = at-loop.before.before in
-    let w = at-args.args.plan.now in
-    let mid = at-args.args.start + 3 * at-args.args.his in
+    let w = c.args.plan.now in
+    let mid = c.args.start + 3 * c.args.his in
     record {
-      going = at-loop.loop.invariant;
-      ok = at-args.requires.1;
-      there = stands-user (drop at-loop.loop.at w) at-stands.stands.ensures at-user-at.before.if1.true at-user-at.user-at.ensures;
-      cause = c.user-cause.ensures (users_from (drop mid w) at-loop.loop.users) at-loop.loop.invariant.used;
+      going = c.loop-rntis.invariant;
+      ok = c.requires.1;
+      there = stands-user (drop c.loop-rntis.at w) c.stands.ensures c.loop-rntis-test.true c.user_at-u.ensures;
+      cause = c.user_cause.ensures (users_from (drop mid w) c.loop-rntis.users) c.loop-rntis.invariant.used;
     }
 
 pub overflow_mul-mid : goal.overflow_mul-mid
@@ -51,32 +46,25 @@ pub overflow_add-users : goal.overflow_add-users
 overflow_add-users c = omega (arith, c.loop-rntis.invariant.few)
 
 pub loop-rntis-smaller : goal.loop-rntis-smaller
-loop-rntis-smaller c = users-less (step c) c.next_at-at.ensures
+loop-rntis-smaller c = users-less (step (goal.at.loop-rntis-smaller c).After-user_cause) c.next_at-at.ensures
 
 pub loop-rntis-preserved : goal.loop-rntis-preserved
 loop-rntis-preserved c =
-    
-    
-    
-    users-again (step c) c.enum_told-1.given.1 c.blocks_of-own.ensures c.join-blocks.ensures c.next_at-at.ensures
+    users-again (step (goal.at.loop-rntis-preserved c).After-user_cause) c.in-Nothing.is c.blocks_of-own.ensures c.join-blocks.ensures c.next_at-at.ensures
 
 pub overflow_add-his : goal.overflow_add-his
 overflow_add-his c =
-    
     omega (arith, c.requires.0.room, c.loop-rntis.invariant.few)
 
 pub overflow_add-his-in-Is : goal.overflow_add-his-in-Is
 overflow_add-his-in-Is c =
-    
     omega (arith, c.requires.0.room, c.loop-rntis.invariant.few)
 
 pub returns-in-Is : goal.returns-in-Is
-returns-in-Is c = users-refused (step c) c.cause-1.given.1 c.found.ensures
+returns-in-Is c = users-refused (step (goal.at.returns-in-Is c).After-user_cause) c.in-Is.is c.found.ensures
 
 pub finish-requires : goal.finish-requires
 finish-requires c =
-    
-    
     users-done c.loop-rntis.invariant c.requires.0 c.stands.ensures c.loop-rntis-test.false
 
 pub returns : goal.returns

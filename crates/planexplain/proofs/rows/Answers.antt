@@ -14,12 +14,8 @@ overflow_add-before-in-loop-at c = omega arith
 
 pub loop-at-smaller : goal.loop-at-smaller
 loop-at-smaller c =
-    
-    
     omega (arith, next-behind c.args.plan.now c.loop-at.at c.loop-at-test.true, c.next_at-at.ensures)
 
 pub loop-at-preserved : goal.loop-at-preserved
 loop-at-preserved c =
-    
-    
     omega (arith, next-behind c.args.plan.now c.loop-at.at c.loop-at-test.true, c.next_at-at.ensures)

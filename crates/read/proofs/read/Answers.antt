@@ -1,59 +1,49 @@
 -- `read::read` meets its contract: the plan's refusal, 10, 11, 13, or the payload. Assumes nothing.
+use borrow.Enum.Refused.{opened}
 use mathlib.Core.Path.{sym, ◌∙◌}
-use borrow.Author.Tests.{not-true, not-false}
 use Rattle.read.proofs.Answers.{way-refused, way-grid, way-payload, way-given, way-none, way-readable, way-read}
 use Rattle.read.proofs.read.Goals as goal
 
 pub returns-in_default : goal.returns-in_default
 returns-in_default c =
-    way-refused c.args.plan.now c.args.grid.now c.args.payload.now _ c.check-checked.ensures c.in_default.keys2 _ c.refusal_in.ensures
+    way-refused c.args.plan.now c.args.grid.now c.args.payload.now _ c.check-checked.ensures (opened c.in_default.in_default-own.keys2) _ c.refusal_in.ensures
 
 pub returns-then-grid-grid_length : goal.returns-then-grid-grid_length
 returns-then-grid-grid_length c =
-    way-grid c.args.plan.now c.args.grid.now c.args.payload.now _ (sym c.check-checked.ensures ∙ c.checked-1.given.1) _
+    way-grid c.args.plan.now c.args.grid.now c.args.payload.now _ (sym c.check-checked.ensures ∙ c.in-Plan.is) _
     c.grid_length.ensures c.if-grid-grid_length.true
 
 pub payload_length-requires : goal.payload_length-requires
-payload_length-requires c = (sym c.check-checked.ensures ∙ c.checked-1.given.1)
+payload_length-requires c = (sym c.check-checked.ensures ∙ c.in-Plan.is)
 
 pub returns-then-payload-payload_length : goal.returns-then-payload-payload_length
 returns-then-payload-payload_length c =
-    
-    way-payload c.args.plan.now c.args.grid.now c.args.payload.now _ (sym c.check-checked.ensures ∙ c.checked-1.given.1)
+    way-payload c.args.plan.now c.args.grid.now c.args.payload.now _ (sym c.check-checked.ensures ∙ c.in-Plan.is)
     (c.if-grid-grid_length.false ∙ c.grid_length.ensures) _ c.payload_length.ensures c.if-payload-payload_length.true
 
 pub has_payload-requires : goal.has_payload-requires
 has_payload-requires c =
-    
-    way-given c.args.plan.now c.args.grid.now c.args.payload.now _ (sym c.check-checked.ensures ∙ c.checked-1.given.1)
+    way-given c.args.plan.now c.args.grid.now c.args.payload.now _ (sym c.check-checked.ensures ∙ c.in-Plan.is)
     (c.if-grid-grid_length.false ∙ c.grid_length.ensures)
 
 pub returns-then-not-has_payload : goal.returns-then-not-has_payload
 returns-then-not-has_payload c =
-    
-    
-    way-none c.args.plan.now c.args.grid.now c.args.payload.now _ (sym c.check-checked.ensures ∙ c.checked-1.given.1)
+    way-none c.args.plan.now c.args.grid.now c.args.payload.now _ (sym c.check-checked.ensures ∙ c.in-Plan.is)
     (c.if-grid-grid_length.false ∙ c.grid_length.ensures) (c.if-payload-payload_length.false ∙ c.payload_length.ensures) _ c.has_payload.ensures
-    (not-true _ c.if-not-has_payload.true)
+    c.if-not-has_payload.true
 
 pub read_sections-requires : goal.read_sections-requires
 read_sections-requires c =
-    
-    
-    way-readable c.args.plan.now c.args.grid.now c.args.payload.now _ (sym c.check-checked.ensures ∙ c.checked-1.given.1)
+    way-readable c.args.plan.now c.args.grid.now c.args.payload.now _ (sym c.check-checked.ensures ∙ c.in-Plan.is)
     (c.if-grid-grid_length.false ∙ c.grid_length.ensures) (c.if-payload-payload_length.false ∙ c.payload_length.ensures) _ c.has_payload.ensures
-    (not-false _ c.if-not-has_payload.false)
+    c.if-not-has_payload.false
 
 pub users_count-requires : goal.users_count-requires
 users_count-requires c =
-    
-    (sym c.check-checked.ensures ∙ c.checked-1.given.1)
+    (sym c.check-checked.ensures ∙ c.in-Plan.is)
 
 pub returns : goal.returns
 returns c =
-    
-    
-    
-    way-read c.args.plan.now c.args.grid.now c.args.payload.now _ (sym c.check-checked.ensures ∙ c.checked-1.given.1)
+    way-read c.args.plan.now c.args.grid.now c.args.payload.now _ (sym c.check-checked.ensures ∙ c.in-Plan.is)
     (c.if-grid-grid_length.false ∙ c.grid_length.ensures) (c.if-payload-payload_length.false ∙ c.payload_length.ensures) _ c.has_payload.ensures
-    (not-false _ c.if-not-has_payload.false) _ c.users_count.ensures _ c.read_sections.ensures
+    c.if-not-has_payload.false _ c.users_count.ensures _ c.read_sections.ensures

@@ -1,4 +1,5 @@
 -- `read::read_channel` meets its contract: PBCH, a user, or a channel with nothing to read. Assumes nothing.
+use borrow.Enum.Refused.{opened}
 use native.Mathlib.Omega.{arith}
 use Rattle.read.proofs.Channels.{absent-after, pbch-needs, pbch-after, user-needs, user-reads, user-after, kept-after}
 use Rattle.read.proofs.read_channel.Goals as goal
@@ -9,40 +10,33 @@ returns-then-not-present c =
 
 pub read_pbch-requires : goal.read_pbch-requires
 read_pbch-requires c =
-    
-    pbch-needs c.requires c.present.ensures c.if-not-present.false c.enum_told-1.given.1
+    pbch-needs c.requires c.present.ensures c.if-not-present.false c.in-Pbch.is
 
 pub axis_for-requires : goal.axis_for-requires
 axis_for-requires c =
-    
-    let o = (user-needs c.requires c.present.ensures c.if-not-present.false c.ch-1.given.1).section.area.order in
+    let o = (user-needs c.requires c.present.ensures c.if-not-present.false c.in-User.is).section.area.order in
     (c.requires.axis, omega (arith, o), omega (arith, o))
 
 pub started-requires : goal.started-requires
 started-requires c =
-    
-    (user-needs c.requires c.present.ensures c.if-not-present.false c.ch-1.given.1).begins
+    (user-needs c.requires c.present.ensures c.if-not-present.false c.in-User.is).begins
 
 pub read_area-requires : goal.read_area-requires
 read_area-requires c =
-    
-    
-    user-reads c.requires c.present.ensures c.if-not-present.false c.ch-1.given.1 _ c.user-area.ensures c.axis_for.ensures
+    user-reads c.requires c.present.ensures c.if-not-present.false c.in-User.is _ c.user-area.ensures c.axis_for.ensures
 
 pub returns-in-Pbch : goal.returns-in-Pbch
 returns-in-Pbch c =
-    
-    (c.requires.axis, pbch-after c.requires c.present.ensures c.if-not-present.false c.enum_told-1.given.1 c.read_pbch.ensures)
+    (c.requires.axis, pbch-after c.requires c.present.ensures c.if-not-present.false c.in-Pbch.is c.read_pbch.ensures)
 
 pub returns-in-User : goal.returns-in-User
 returns-in-User c =
-    
     (
       (c.axis_for.ensures.size, λ z. c.axis_for.ensures),
-      user-after c.requires c.present.ensures c.if-not-present.false c.ch-1.given.1
+      user-after c.requires c.present.ensures c.if-not-present.false c.in-User.is
           _ c.user-area.ensures _ c.started.ensures c.read_area.ensures,
     )
 
 pub returns-in_default : goal.returns-in_default
 returns-in_default c =
-    (c.requires.axis, kept-after c.requires c.present.ensures c.if-not-present.false c.in_default.keys3)
+    (c.requires.axis, kept-after c.requires c.present.ensures c.if-not-present.false (opened c.in_default.in_default-own.keys3))

@@ -14,10 +14,8 @@ started-requires c = c.requires.begins
 
 pub read_area-requires : goal.read_area-requires
 read_area-requires c =
-    
     area-reads c.args.p Pbch _ 2 c.args.grid.now _ c.pbch_area-area.ensures c.requires c.set_axis.ensures c.row_masks.ensures
 
 pub returns : goal.returns
 returns c =
-    
     area-read c.args.p Pbch _ 2 c.args.grid.now _ c.pbch_area-area.ensures _ c.started.ensures c.read_area.ensures

@@ -25,40 +25,30 @@ count-turns-requires c =
 
 pub loop-turn-init : goal.loop-turn-init
 loop-turn-init c =
-    
     let so = acks-read c.requires _ c.section_of-acks.ensures _ c.started-r.ensures _ c.read_his.ensures.0 _ c.after_signals-turn.ensures in
     (so.0, so.1, (refl, λ z. absurd (z refl)))
 
 pub channel_at-ch-requires : goal.channel_at-ch-requires
 channel_at-ch-requires c =
-    
     due c.requires c.loop-turn.invariant.0 c.count-turns.ensures c.loop-turn-test.true
 
 pub section_of-section-requires : goal.section_of-section-requires
 section_of-section-requires c =
-    
-    
     (c.shape_of-shape.ensures, start-few (due c.requires c.loop-turn.invariant.0 c.count-turns.ensures c.loop-turn-test.true) c.channel_at-ch.ensures)
 
 pub slice_bounds-read_channel-count : goal.slice_bounds-read_channel-count
 slice_bounds-read_channel-count c =
-    
-    
     (loop-room c.requires c.loop-turn.invariant.0 c.count-turns.ensures c.loop-turn-test.true
     c.channel_at-ch.ensures c.loop-turn.invariant.1 _ c.section_of-section.ensures).0
 
 pub read_channel-have-requires : goal.read_channel-have-requires
 read_channel-have-requires c =
-    
-    
     let own = loop-needs c.requires c.loop-turn.invariant.0 c.count-turns.ensures c.loop-turn-test.true
     c.channel_at-ch.ensures c.loop-turn.invariant.1 _ c.section_of-section.ensures in
     record { own = own; axis = c.loop-turn.invariant.2; rows = c.row_masks.ensures }
 
 pub next-turn-requires : goal.next-turn-requires
 next-turn-requires c =
-    
-    
     let turn = due c.requires c.loop-turn.invariant.0 c.count-turns.ensures c.loop-turn-test.true in
     (_, passing turn c.channel_at-ch.ensures c.section_of-section.ensures)
 
@@ -68,9 +58,6 @@ loop-turn-smaller c =
 
 pub loop-turn-preserved : goal.loop-turn-preserved
 loop-turn-preserved c =
-    
-    
-    
     let turn = due c.requires c.loop-turn.invariant.0 c.count-turns.ensures c.loop-turn-test.true in
     let next = after c.next-turn.ensures (passing turn c.channel_at-ch.ensures c.section_of-section.ensures) in
     let had = loop-read c.requires c.loop-turn.invariant.0 c.count-turns.ensures c.loop-turn-test.true
@@ -79,10 +66,8 @@ loop-turn-preserved c =
 
 pub shape_of-payload : goal.shape_of-payload
 shape_of-payload c =
-    
     c.loop-turn.invariant.1.size ∙ sym c.requires.size
 
 pub returns : goal.returns
 returns c =
-    
     all_read c.requires c.loop-turn.invariant.0 c.count-turns.ensures c.loop-turn-test.false c.loop-turn.invariant.1

@@ -22,7 +22,6 @@ bounds-k-k c = omega arith
 
 pub returns-then-row-byte : goal.returns-then-row-byte
 returns-then-row-byte c =
-    
     sym (c.loop-k.invariant.1 ∙ hit c.args.byte unit_rows _ c.loop-k.k c.loop-k-test.true c.if-row-byte.true)
 
 pub overflow_add-k : goal.overflow_add-k
@@ -33,7 +32,6 @@ loop-k-smaller c = omega arith
 
 pub loop-k-preserved : goal.loop-k-preserved
 loop-k-preserved c =
-    
     (omega arith, c.loop-k.invariant.1 ∙ miss c.args.byte unit_rows _ c.loop-k.k c.loop-k-test.true c.if-row-byte.false ∙ rw add-one)
 
 pub returns : goal.returns

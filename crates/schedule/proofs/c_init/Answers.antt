@@ -5,28 +5,28 @@ use Rattle.schedule.proofs.c_init.Goals as goal
 
 pub crs_init-requires : goal.crs_init-requires
 unfolding Among
-crs_init-requires c = (c.requires.0, c.requires.1, subst (Among c.args.p) c.ch-1.given.1 c.requires.2)
+crs_init-requires c = (c.requires.0, c.requires.1, subst (Among c.args.p) c.in-Crs.is c.requires.2)
 
 pub returns-in-Crs : goal.returns-in-Crs
 unfolding init_of
-returns-in-Crs c = c.crs_init.ensures ∙ sym (ap (init_of c.args.p) c.ch-1.given.1)
+returns-in-Crs c = c.crs_init.ensures ∙ sym (ap (init_of c.args.p) c.in-Crs.is)
 
 pub returns-in-Sync : goal.returns-in-Sync
 unfolding init_of
-returns-in-Sync c = sym (ap (init_of c.args.p) c.enum_told-1.given.1)
+returns-in-Sync c = sym (ap (init_of c.args.p) c.in-Sync.is)
 
 pub returns-in-Pbch : goal.returns-in-Pbch
 unfolding init_of
-returns-in-Pbch c = sym (ap (init_of c.args.p) c.enum_told-in-Pbch-1.given.1)
+returns-in-Pbch c = sym (ap (init_of c.args.p) c.in-Pbch.is)
 
 pub returns-in-Pcfich : goal.returns-in-Pcfich
 unfolding init_of
-returns-in-Pcfich c = c.control_init.ensures ∙ sym (ap (init_of c.args.p) c.enum_told-in-Pcfich-1.given.1)
+returns-in-Pcfich c = c.control_init.ensures ∙ sym (ap (init_of c.args.p) c.in-Pcfich.is)
 
 pub returns-in-Phich : goal.returns-in-Phich
 unfolding init_of
-returns-in-Phich c = c.control_init-in-Phich.ensures ∙ sym (ap (init_of c.args.p) c.enum_told-in-Phich-1.given.1)
+returns-in-Phich c = c.control_init-in-Phich.ensures ∙ sym (ap (init_of c.args.p) c.in-Phich.is)
 
 pub returns-in-User : goal.returns-in-User
 unfolding init_of
-returns-in-User c = c.user_init.ensures ∙ sym (ap (init_of c.args.p) c.ch-in-User-1.given.1)
+returns-in-User c = c.user_init.ensures ∙ sym (ap (init_of c.args.p) c.in-User.is)

@@ -11,24 +11,24 @@ overflow_sub-result c = omega (arith, c.wide.ensures, blocks-most c.args.p.cell 
 
 pub returns-in-Crs : goal.returns-in-Crs
 unfolding first_bit
-returns-in-Crs c = ap (λ (x : ℕ). 2 * (110 - x)) c.wide.ensures ∙ sym (ap (first_bit c.args.p) c.enum_told-1.given.1)
+returns-in-Crs c = ap (λ (x : ℕ). 2 * (110 - x)) c.wide.ensures ∙ sym (ap (first_bit c.args.p) c.in-Crs.is)
 
 pub returns-in-Sync : goal.returns-in-Sync
 unfolding first_bit
-returns-in-Sync c = sym (ap (first_bit c.args.p) c.enum_told-in-Sync-1.given.1)
+returns-in-Sync c = sym (ap (first_bit c.args.p) c.in-Sync.is)
 
 pub returns-in-Pbch : goal.returns-in-Pbch
 unfolding first_bit
-returns-in-Pbch c = c.pbch_first.ensures ∙ sym (ap (first_bit c.args.p) c.enum_told-in-Pbch-1.given.1)
+returns-in-Pbch c = c.pbch_first.ensures ∙ sym (ap (first_bit c.args.p) c.in-Pbch.is)
 
 pub returns-in-Pcfich : goal.returns-in-Pcfich
 unfolding first_bit
-returns-in-Pcfich c = sym (ap (first_bit c.args.p) c.enum_told-in-Pcfich-1.given.1)
+returns-in-Pcfich c = sym (ap (first_bit c.args.p) c.in-Pcfich.is)
 
 pub returns-in-Phich : goal.returns-in-Phich
 unfolding first_bit
-returns-in-Phich c = sym (ap (first_bit c.args.p) c.enum_told-in-Phich-1.given.1)
+returns-in-Phich c = sym (ap (first_bit c.args.p) c.in-Phich.is)
 
 pub returns-in-User : goal.returns-in-User
 unfolding first_bit
-returns-in-User c = sym (ap (first_bit c.args.p) c.enum_told-in-User-1.given.1)
+returns-in-User c = sym (ap (first_bit c.args.p) c.in-User.is)

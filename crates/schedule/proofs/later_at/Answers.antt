@@ -6,24 +6,24 @@ use Rattle.schedule.proofs.Steps.{unit-found, user-found}
 use Rattle.schedule.proofs.later_at.Goals as goal
 
 pub returns-then-n-units : goal.returns-then-n-units
-returns-then-n-units c = unit-found c.requires.0 c.args.n c.units.ensures (omega (arith, c.in_default.rest)) c.if-n-units.true
+returns-then-n-units c = unit-found c.requires.0 c.args.n c.units.ensures (omega (arith, c.in_default-own.rest)) c.if-n-units.true
 
 pub returns-in-0 : goal.returns-in-0
 unfolding later_at
-returns-in-0 c = sym (ap (later_at c.args.plan.now c.args.p) c.in-0.keys1)
+returns-in-0 c = sym (ap (later_at c.args.plan.now c.args.p) c.in-0.is)
 
 pub returns-in-1 : goal.returns-in-1
 unfolding later_at
-returns-in-1 c = sym (ap (later_at c.args.plan.now c.args.p) c.in-1.keys2)
+returns-in-1 c = sym (ap (later_at c.args.plan.now c.args.p) c.in-1.is)
 
 pub returns-in-2 : goal.returns-in-2
 unfolding later_at
-returns-in-2 c = sym (ap (later_at c.args.plan.now c.args.p) c.in-2.keys3)
+returns-in-2 c = sym (ap (later_at c.args.plan.now c.args.p) c.in-2.is)
 
 pub returns-in-3 : goal.returns-in-3
 unfolding later_at
-returns-in-3 c = sym (ap (later_at c.args.plan.now c.args.p) c.in-3.keys4)
+returns-in-3 c = sym (ap (later_at c.args.plan.now c.args.p) c.in-3.is)
 
 pub returns-else-n-units : goal.returns-else-n-units
 returns-else-n-units c =
-    user-found c.requires.0 c.args.n c.requires.1 _ c.units.ensures (omega (arith, c.in_default.rest)) c.if-n-units.false c.user_at.ensures
+    user-found c.requires.0 c.args.n c.requires.1 _ c.units.ensures (omega (arith, c.in_default-own.rest)) c.if-n-units.false c.user_at.ensures

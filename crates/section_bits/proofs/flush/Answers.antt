@@ -7,7 +7,4 @@ returns-then-got-eq0 c = none-held c.requires c.if-got-eq0.true
 
 pub returns : goal.returns
 returns c =
-    
-    
-    
     last-put c.requires c.word48.ensures c.power.ensures c.put_last.ensures

@@ -15,11 +15,8 @@ returns-then-got-lt48 c = given-held c.requires refl c.if-got-lt48.true
 
 pub put48-requires : goal.put48-requires
 put48-requires c =
-    
     (simp length-set c.requires.state.size, given-room c.requires refl c.if-got-lt48.false)
 
 pub returns : goal.returns
 returns c =
-    
-    
     given-put c.requires refl c.if-got-lt48.false c.put48.ensures

@@ -6,6 +6,4 @@ use Rattle.section_bits.proofs.put_four.Goals as goal
 
 pub returns : goal.returns
 returns c =
-    
-    
     c.put_two-2.ensures ∙ ap (with_two c.args.v (c.args.at + 2)) c.put_two.ensures

@@ -19,5 +19,4 @@ overflow_mul-result c = let q = c.wide.result in
 
 pub returns : goal.returns
 returns c =
-    
     row_is c.args.cell c.args.s c.args.port c.wide.ensures c.symbols.ensures.0 c.carriers.ensures

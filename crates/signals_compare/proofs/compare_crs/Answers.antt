@@ -14,7 +14,6 @@ compare_values-requires c =
 
 pub returns-then-cell-eq1 : goal.returns-then-cell-eq1
 returns-then-cell-eq1 c =
-    
     one-done c.requires c.crs_port-port.ensures c.crs_at-first.ensures c.wide-n.ensures (comparing c.args.grid.now) c.args.r c.if-cell-eq1.true
     c.compare_values.ensures
 
@@ -28,11 +27,9 @@ crs_at-second-requires c =
 
 pub compare_values_on_both-requires : goal.compare_values_on_both-requires
 compare_values_on_both-requires c =
-    
     both-inside c.requires c.crs_port-port.ensures c.crs_at-first.ensures c.wide-n.ensures c.if-cell-eq1.false c.crs_at-second.ensures
 
 pub returns : goal.returns
 returns c =
-    
     both-done c.requires c.crs_port-port.ensures c.crs_at-first.ensures c.wide-n.ensures c.if-cell-eq1.false c.crs_at-second.ensures
     (comparing c.args.grid.now) c.args.r c.compare_values_on_both.ensures

@@ -33,7 +33,6 @@ loop-i-smaller c = omega arith
 
 pub loop-i-preserved : goal.loop-i-preserved
 loop-i-preserved c =
-    
     row_step (comparing c.args.grid.now) c.loop-i.invariant c.loop-i-test.true
     (level-value c.args.d c.args.first c.loop-i.i c.level_element-el.ensures) (also
     (looked c.args.grid.now (c.args.first + c.loop-i.i) c.level_element-el.result (omega arith) c.compare_at.ensures)

@@ -47,7 +47,6 @@ loop-m-smaller c =
 
 pub loop-m-preserved : goal.loop-m-preserved
 loop-m-preserved c =
-    
     values-step (differing c.args.grid.now) c.at_once-count.result c.word-word.result c.loop-m.invariant
     (omega (arith, c.at_once-count.ensures)) c.word-word.ensures (also-differing c.compare_word-differ.ensures) c.advance-pair.ensures
 

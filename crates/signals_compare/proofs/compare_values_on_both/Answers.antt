@@ -54,7 +54,6 @@ loop-m-smaller c =
 
 pub loop-m-preserved : goal.loop-m-preserved
 loop-m-preserved c =
-    
     values-step (on_both_lem c.args.first c.args.second (differing c.args.grid.now)) c.at_once-count.result c.word-word.result
     c.loop-m.invariant (omega (arith, c.at_once-count.ensures)) c.word-word.ensures
     (also-differing (word-both c.args.first c.args.second (differing c.args.grid.now) c.loop-m.m c.at_once-count.result c.word-word.result

@@ -56,7 +56,6 @@ loop-i-smaller c = omega arith
 
 pub loop-i-preserved : goal.loop-i-preserved
 loop-i-preserved c =
-    
     word-step (on_both_lem c.args.first c.args.second (differing c.args.grid.now)) c.loop-i.invariant c.loop-i-test.true refl
     c.number_of-v.ensures.0
     (also-differing (value-both c.args.first c.args.second (differing c.args.grid.now) c.requires.1 c.loop-i-test.true

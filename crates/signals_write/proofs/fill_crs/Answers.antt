@@ -11,7 +11,6 @@ crs_at-first-requires c =
 
 pub fill_values-requires : goal.fill_values-requires
 fill_values-requires c =
-    
     one_inside c.requires c.crs_port-port.ensures c.crs_at-first.ensures c.wide-n.ensures
 
 pub returns-then-cell-eq1 : goal.returns-then-cell-eq1
@@ -32,12 +31,10 @@ crs_at-second-requires c =
 
 pub fill_values_on_both-requires : goal.fill_values_on_both-requires
 fill_values_on_both-requires c =
-    
     both-inside c.requires c.crs_port-port.ensures c.crs_at-first.ensures c.wide-n.ensures c.if-cell-eq1.false c.crs_at-second.ensures
 
 pub returns : goal.returns
 returns c =
-    
     (
       both-done c.requires c.crs_port-port.ensures c.crs_at-first.ensures c.wide-n.ensures c.if-cell-eq1.false c.crs_at-second.ensures
           (writing c.args.grid.now) c.args.r c.fill_values_on_both.ensures.0,

@@ -28,7 +28,6 @@ loop-i-smaller c = omega arith
 
 pub loop-i-preserved : goal.loop-i-preserved
 loop-i-preserved c =
-    
     row_step (writing c.args.grid.now) c.loop-i.invariant c.loop-i-test.true
     (level-value c.args.d c.args.first c.loop-i.i c.level_element.ensures) c.put.ensures
 

@@ -28,7 +28,6 @@ loop-i-smaller c = omega arith
 
 pub loop-i-preserved : goal.loop-i-preserved
 loop-i-preserved c =
-    
     row_step (writing c.args.grid.now) c.loop-i.invariant c.loop-i-test.true
     (phase-value c.args.identity c.args.first c.loop-i.i c.phase_element.ensures) c.put.ensures
 

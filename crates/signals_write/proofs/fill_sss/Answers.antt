@@ -10,6 +10,5 @@ fill_levels-requires c =
 
 pub returns : goal.returns
 returns c =
-    
     sss-done c.args.cell c.requires.cell 2 _ (omega arith, omega arith) c.mark_at.ensures (writing c.args.grid.now)
     c.args.frame _ c.sss_for-d.ensures c.fill_levels.ensures

@@ -48,7 +48,6 @@ loop-m-smaller c =
 
 pub loop-m-preserved : goal.loop-m-preserved
 loop-m-preserved c =
-    
     values-step (writing c.args.grid.now) c.at_once-count.result c.word.result c.loop-m.invariant
     (omega (arith, c.at_once-count.ensures)) c.word.ensures c.fill_word.ensures c.advance-pair.ensures
 

@@ -57,7 +57,6 @@ loop-m-smaller c =
 
 pub loop-m-preserved : goal.loop-m-preserved
 loop-m-preserved c =
-    
     values-step (on_both_lem c.args.first c.args.second (writing c.args.grid.now)) c.at_once-count.result c.word-word.result
     c.loop-m.invariant (omega (arith, c.at_once-count.ensures)) c.word-word.ensures
     (word-both c.args.first c.args.second (writing c.loop-m.grid) c.loop-m.m c.at_once-count.result c.word-word.result

@@ -45,7 +45,6 @@ loop-i-smaller c = omega arith
 
 pub loop-i-preserved : goal.loop-i-preserved
 loop-i-preserved c =
-    
     word-step (writing c.args.grid.now) c.loop-i.invariant c.loop-i-test.true c.value-d.ensures c.element_of.ensures c.put.ensures
 
 pub shape_of-grid : goal.shape_of-grid

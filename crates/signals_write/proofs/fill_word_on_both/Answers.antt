@@ -57,8 +57,6 @@ loop-i-smaller c = omega arith
 
 pub loop-i-preserved : goal.loop-i-preserved
 loop-i-preserved c =
-    
-    
     word-step (on_both_lem c.args.first c.args.second (writing c.args.grid.now)) c.loop-i.invariant c.loop-i-test.true
     c.value-d.ensures c.element_of-e.ensures
     (value-both c.args.first c.args.second (writing c.loop-i.grid) c.requires.1 c.loop-i-test.true c.put.ensures c.put-in-loop-i.ensures)

@@ -20,7 +20,6 @@ around-requires-5 c = (c.sequences-x.ensures.z-bits.small, omega arith)
 
 pub returns : goal.returns
 returns c =
-    
     let x = c.sequences-x in
     signs-are x.result c.args.a c.args.b c.args.n2 x.ensures c.requires
     c.around.ensures

@@ -20,7 +20,6 @@ count-turns-requires c =
 
 pub loop-turn-init : goal.loop-turn-init
 loop-turn-init c =
-    
     let units = sums-due c.args.plan.now c.args.p c.requires c.started-control.ensures c.sums_again.ensures in
     going-first c.args.plan.now c.args.p c.requires c.started-control.ensures units c.row_masks.ensures c.shape_of-shape.ensures
     c.count-turns.ensures c.first-turn.ensures
@@ -34,12 +33,10 @@ section_of-section-requires c = let so = c.loop-turn.invariant in
 
 pub compare_channel-requires : goal.compare_channel-requires
 compare_channel-requires c =
-    
     (_, planned c.loop-turn.invariant c.loop-turn-test.true c.channel_at-ch.ensures (sym c.present.ensures ∙ c.if-present.true), c.loop-turn.invariant.shared)
 
 pub together-seen-requires : goal.together-seen-requires
 together-seen-requires c =
-    
     few-both c.loop-turn.invariant c.loop-turn-test.true c.channel_at-ch.ensures (sym c.present.ensures ∙ c.if-present.true) _ c.compare_channel.ensures
 
 pub next-turn-requires : goal.next-turn-requires
@@ -51,7 +48,6 @@ loop-turn-smaller c = omega (arith, c.next-turn.ensures.number, c.loop-turn-test
 
 pub loop-turn-preserved : goal.loop-turn-preserved
 loop-turn-preserved c =
-    
     let so = c.loop-turn.invariant in let is = c.channel_at-ch.ensures in let has = c.present.ensures in
     let next = after c.next-turn.ensures (passing (due so c.loop-turn-test.true) is c.section_of-section.ensures) in
     ⊎_elim (λ x. rw x.5 (going_more so c.loop-turn-test.true is _ next (sym has ∙ x.0.taken) _ x.3.ensures x.4.ensures))

@@ -5,11 +5,11 @@ use Rattle.verify.proofs.Channels.{crs-starts, crs-ready, mark-ready, pcfich-rea
 use Rattle.verify.proofs.compare_channel.Goals as goal
 
 pub started-r-requires : goal.started-r-requires
-started-r-requires c = crs-starts c.requires.1 c.ch-1.given.1
+started-r-requires c = crs-starts c.requires.1 c.in-Crs.is
 
 pub compare_crs-requires : goal.compare_crs-requires
 compare_crs-requires c =
-    crs-ready c.requires.1 c.ch-1.given.1 c.wide.ensures
+    crs-ready c.requires.1 c.in-Crs.is c.wide.ensures
 
 pub compare_pss-requires : goal.compare_pss-requires
 compare_pss-requires c = mark-ready c.requires.1
@@ -18,48 +18,48 @@ pub compare_sss-requires : goal.compare_sss-requires
 compare_sss-requires c = mark-ready c.requires.1
 
 pub compare_pbch-requires : goal.compare_pbch-requires
-compare_pbch-requires c = (c.requires.0, rw c.enum_told-in-Pbch-1.given.1 at c.requires.1)
+compare_pbch-requires c = (c.requires.0, rw c.in-Pbch.is at c.requires.1)
 
 pub compare_pcfich-requires : goal.compare_pcfich-requires
 compare_pcfich-requires c = pcfich-ready c.requires.1
 
 pub compare_phich-requires : goal.compare_phich-requires
 compare_phich-requires c =
-    unit-ready c.requires.1 c.requires.2 c.ch-in-Phich-1.given.1 c.wide-unit.ensures
+    unit-ready c.requires.1 c.requires.2 c.in-Phich.is c.wide-unit.ensures
 
 pub compare_area-requires : goal.compare_area-requires
 compare_area-requires c =
-    user-ready c.requires.1 c.requires.2 c.ch-in-User-1.given.1 c.user_area-area.ensures c.unit.ensures
+    user-ready c.requires.1 c.requires.2 c.in-User.is c.user_area-area.ensures c.unit.ensures
 
 pub returns-in-Crs : goal.returns-in-Crs
 returns-in-Crs c =
-    crs-answer c.args.p c.args.sums.now c.args.grid.now _ c.ch-1.given.1 c.wide.ensures
+    crs-answer c.args.p c.args.sums.now c.args.grid.now _ c.in-Crs.is c.wide.ensures
     c.started-r.ensures c.compare_crs.ensures
 
 pub returns-in-Primary : goal.returns-in-Primary
 returns-in-Primary c =
     pss-answer c.args.p c.args.sums.now c.args.grid.now _
-    (c.ch-in-Sync-1.given.1 ∙ ap Sync c.enum_told-1.given.1) c.compare_pss.ensures
+    (c.in-Sync.is ∙ ap Sync c.in-Primary.is) c.compare_pss.ensures
 
 pub returns-in-Secondary : goal.returns-in-Secondary
 returns-in-Secondary c =
     sss-answer c.args.p c.args.sums.now c.args.grid.now _
-    (c.ch-in-Sync-1.given.1 ∙ ap Sync c.enum_told-in-Secondary-1.given.1) c.compare_sss.ensures
+    (c.in-Sync.is ∙ ap Sync c.in-Secondary.is) c.compare_sss.ensures
 
 pub returns-in-Pbch : goal.returns-in-Pbch
 returns-in-Pbch c =
-    pbch-answer c.args.p c.args.sums.now c.args.grid.now _ c.enum_told-in-Pbch-1.given.1 c.compare_pbch.ensures
+    pbch-answer c.args.p c.args.sums.now c.args.grid.now _ c.in-Pbch.is c.compare_pbch.ensures
 
 pub returns-in-Pcfich : goal.returns-in-Pcfich
 returns-in-Pcfich c =
-    pcfich-answer c.args.p c.args.sums.now c.args.grid.now _ c.enum_told-in-Pcfich-1.given.1 c.requires.2.start c.compare_pcfich.ensures
+    pcfich-answer c.args.p c.args.sums.now c.args.grid.now _ c.in-Pcfich.is c.requires.2.start c.compare_pcfich.ensures
 
 pub returns-in-Phich : goal.returns-in-Phich
 returns-in-Phich c =
-    unit-answer c.args.p c.args.sums.now c.args.grid.now _ c.ch-in-Phich-1.given.1
+    unit-answer c.args.p c.args.sums.now c.args.grid.now _ c.in-Phich.is
     c.wide-unit.ensures c.requires.2.start c.compare_phich.ensures
 
 pub returns-in-User : goal.returns-in-User
 returns-in-User c =
-    user-answer c.args.p c.args.sums.now c.args.grid.now _ c.ch-in-User-1.given.1
+    user-answer c.args.p c.args.sums.now c.args.grid.now _ c.in-User.is
     c.user_area-area.ensures c.unit.ensures c.compare_area.ensures

@@ -7,8 +7,8 @@ compare_all-requires c = c.requires
 
 pub returns-in-Weight : goal.returns-in-Weight
 returns-in-Weight c =
-    answer-weight c.args.plan.now c.args.p c.args.grid.now c.requires c.n-1.given.1 c.weight.ensures c.compare_all.ensures
+    answer-weight c.args.plan.now c.args.p c.args.grid.now c.requires c.in-Weight.is c.weight.ensures c.compare_all.ensures
 
 pub returns-in-Differs : goal.returns-in-Differs
 returns-in-Differs c =
-    answer-differs c.args.plan.now c.args.p c.args.grid.now c.requires c.enum_told-1.given.1 c.compare_all.ensures
+    answer-differs c.args.plan.now c.args.p c.args.grid.now c.requires c.in-Differs.is c.compare_all.ensures

@@ -21,8 +21,5 @@ overflow_mul-result-3 c =
 
 pub returns : goal.returns
 returns c =
-    
-    
-    
     offsets-made c.args.ports c.args.places c.args.j c.wide.result c.wide-2.result c.wide-3.result
     (c.wide.ensures ∙ c.own_port.ensures) (c.wide-2.ensures ∙ c.own_port-2.ensures) c.wide-3.ensures

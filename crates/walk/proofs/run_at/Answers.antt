@@ -8,7 +8,6 @@ overflow_mul-row c = record { fits = (row_fits c.args.c.s c.args.carriers 0 c.re
 
 pub overflow_add-result : goal.overflow_add-result
 overflow_add-result c =
-    
     record { fits = (row_fits c.args.c.s c.args.carriers c.byte-from.result c.requires.row c.requires.wide c.byte-from.ensures.1).1 }
 
 pub overflow_sub-result : goal.overflow_sub-result
@@ -16,9 +15,6 @@ overflow_sub-result c = omega (arith, c.requires.span (omega arith))
 
 pub returns-then-i-last : goal.returns-then-i-last
 returns-then-i-last c =
-    
-    
-    
     (
       span_run c.args.rows.now c.args.c c.byte-last.ensures.0 c.args.carriers c.args.spans.now c.if-i-last.true
           c.byte-mask.ensures.0 c.byte-from.ensures.0 c.byte-to.ensures.0,
@@ -27,5 +23,4 @@ returns-then-i-last c =
 
 pub returns : goal.returns
 returns c =
-    
     (no_run c.args.rows.now c.args.c c.byte-last.ensures.0 c.args.carriers c.args.spans.now c.if-i-last.false c.byte-mask.ensures.0, omega arith)
