@@ -110,6 +110,7 @@ module _ (t : Owner → Bool) (a : Owner) (only : (o : Owner) → t o ≡ true �
       by-test (t o)
       (λ x. rw (x, none (suc (code o)) os r.1 (let z : code o ≡ code a = ap code (only o x) in omega arith)) refl)
       (λ x. rw (x, once (suc (code o)) os r.1 i e) refl)
+  once b [] r x3 e = elim x3 [ ]
 
 kind-once : (o : Owner) (x : ℕ) → sum_to kinds (λ j. if eqb (kind_of o) j then x else 0) ≡ x
 unfolding sum_to

@@ -200,6 +200,7 @@ module _ (c : Cell) (f : Frame) (wide : 6 ≤ c.blocks) (ports : Among c.ports p
           by-test (eqb c.prefix 1)
           (λ x. by-test (eqb f.subframe 0) (λ y. simp (x, y, p)) (λ y. by-test (eqb f.subframe 5) (λ z. simp (x, y, z, p)) (λ z. simp (x, y, z, p))))
           (λ x. by-test (eqb f.subframe 0) (λ y. simp (x, y, p)) (λ y. by-test (eqb f.subframe 5) (λ z. simp (x, y, z, p)) (λ z. simp (x, y, z, p))))
+      by-ports (inr (inr (inr x3))) = elim x3 [ ]
 
 -- ---- the kinds
 module _ (F : Owner → ℕ) where
@@ -261,6 +262,7 @@ module _ (w : List ℕ) (p : Plan) where
         by-ports (inl z) = four-ports ∙ rw (port-count 0, port-count 1, port-count 2, port-count 3, z) (omega arith)
         by-ports (inr (inl z)) = four-ports ∙ rw (port-count 0, port-count 1, port-count 2, port-count 3, z) (omega arith)
         by-ports (inr (inr (inl z))) = four-ports ∙ rw (port-count 0, port-count 1, port-count 2, port-count 3, z) (omega arith)
+        by-ports (inr (inr (inr x3))) = elim x3 [ ]
 
     primary : count_of w p (Sync Primary) ≡ sync_elements p.frame
     unfolding count_of owns fixed_rule pss sync_elements

@@ -37,6 +37,7 @@ few-ports : (P : ℕ) → Among P port_counts → eqb P 4 ≡ false → P ≤ 2
 few-ports P (inl e) w = omega arith
 few-ports P (inr (inl e)) w = omega arith
 few-ports P (inr (inr (inl e))) w = clash (eq-eqb P 4 e) w
+few-ports P (inr (inr (inr x4))) w = elim x4 [ ]
 
 by-prefix : {X : Type 0} (c : Cell) → CellIn c → (c.prefix ≡ 0 → X) → (c.prefix ≡ 1 → X) → X
 by-prefix c ok x y =

@@ -63,6 +63,7 @@ signal-in c q s ok l h = by-test (ltb q 2) low high
     late P (inl e) k = omega arith
     late P (inr (inl e)) k = omega arith
     late P (inr (inr (inl e))) k = e
+    late P (inr (inr (inr x4))) k = elim x4 [ ]
 
     low : ltb q 2 ≡ true → signalled c s ≡ true
     low t = or_left (crs_symbol c 0 s) (eqb c.ports 4 && crs_symbol c 2 s) (rw t at h)

@@ -1,5 +1,4 @@
 -- `build::build` meets its contract: the plan's refusal, 10, 11, 12, or the grid. Assumes nothing.
-use borrow.Enum.Refused.{opened}
 use mathlib.Core.Path.{sym, ap, ◌∙◌}
 use lib.ListN.{length}
 use Rattle.subframe.proofs.Bytes.{grid-size}
@@ -8,7 +7,7 @@ use Rattle.build.proofs.build.Goals as goal
 
 pub returns-in_default : goal.returns-in_default
 returns-in_default c =
-    way-refused c.args.plan.now c.args.payload.now c.args.grid.now _ c.check-checked.ensures (opened c.in_default.in_default-own.keys2) _ c.refusal_in.ensures
+    way-refused c.args.plan.now c.args.payload.now c.args.grid.now _ c.check-checked.ensures c.in_default.in_default-own.keys2 _ c.refusal_in.ensures
 
 pub returns-then-grid-grid_length : goal.returns-then-grid-grid_length
 returns-then-grid-grid_length c =

@@ -6,14 +6,14 @@ use Rattle.build.proofs.fill_turn.Goals as goal
 
 pub returns-then-not-present : goal.returns-then-not-present
 returns-then-not-present c =
-    (turn-absent c.requires.0 (sym c.present.ensures ∙ not-true _ c.if-not-present.true), c.requires.0.having)
+    (turn-absent c.requires.0 (sym c.present.ensures ∙ c.if-not-present.true), c.requires.0.having)
 
 pub renew-requires : goal.renew-requires
 renew-requires c = (c.requires.0.having, turn-order c.requires.0 c.order_for-order.ensures)
 
 pub write-requires : goal.write-requires
 write-requires c =
-    (turn-channel c.requires.0 c.order-for.ensures (sym c.present.ensures ∙ not-false _ c.if1.false) c.renew.ensures, c.requires.0.size, c.requires.1)
+    (turn-channel c.requires.0 c.order_for-order.ensures (sym c.present.ensures ∙ c.if-not-present.false) c.renew.ensures, c.requires.0.size, c.requires.1)
 
 pub returns : goal.returns
 returns c = (c.write.ensures, c.renew.ensures)

@@ -26,6 +26,16 @@ slice_bounds-fill_turn-count c =
     (going-room c.requires.0 (c.loop-turn.invariant.1 c.requires.0) c.count-turns.ensures c.loop-turn-test.true c.channel_at-ch.ensures c.section_of-part.ensures
     ).0
 
+pub slice_bounds-fill_turn-start : goal.slice_bounds-fill_turn-start
+slice_bounds-fill_turn-start c =
+    (going-room c.requires.0 (c.loop-turn.invariant.1 c.requires.0) c.count-turns.ensures c.loop-turn-test.true c.channel_at-ch.ensures c.section_of-part.ensures
+    ).0
+
+pub slice_bounds-fill_turn-end : goal.slice_bounds-fill_turn-end
+slice_bounds-fill_turn-end c =
+    (going-room c.requires.0 (c.loop-turn.invariant.1 c.requires.0) c.count-turns.ensures c.loop-turn-test.true c.channel_at-ch.ensures c.section_of-part.ensures
+    ).1
+
 pub fill_turn-have-requires : goal.fill_turn-have-requires
 fill_turn-have-requires c =
     (

@@ -1,6 +1,6 @@
 -- `channel_write::write` meets its contract: a mark, PCFICH, a unit, or another channel. Assumes nothing.
-use borrow.Enum.Refused.{opened}
-use Rattle.channel_write.proofs.Filling.{mark-in, mark-written, unit_ok, unit-written, pcfich-ok, pcfich-written, other-ok, other-starts, other-written}
+use native.Mathlib.Omega.{arith}
+use Rattle.channel_write.proofs.Filling.{mark-in, mark-written, unit-few, unit_ok, unit-written, pcfich-ok, pcfich-written, other-ok, other-starts, other-written}
 use Rattle.channel_write.proofs.write.Goals as goal
 
 pub write_mark-requires : goal.write_mark-requires
@@ -9,15 +9,19 @@ write_mark-requires c = mark-in c.requires.0
 pub map-requires : goal.map-requires
 map-requires c = pcfich-ok c.args.sums.now c.args.bits.now c.requires.0 c.in-Pcfich.is
 
+pub slice_bounds-map-end : goal.slice_bounds-map-end
+slice_bounds-map-end c =
+    omega (arith, unit-few c.args.sums.now c.args.bits.now c.requires.0 c.in-Phich.is c.wide-from.ensures, c.requires.1)
+
 pub map-requires-in-Phich : goal.map-requires-in-Phich
 map-requires-in-Phich c =
     unit_ok c.args.sums.now c.args.bits.now c.requires.0 c.in-Phich.is c.wide-from.ensures
 
 pub started-requires : goal.started-requires
-started-requires c = other-starts c.args.sums.now c.args.bits.now c.requires.0 (opened c.in_default.in_default-own.keys4)
+started-requires c = other-starts c.args.sums.now c.args.bits.now c.requires.0 c.in_default.in_default-own.keys4
 
 pub map-requires-in_default : goal.map-requires-in_default
-map-requires-in_default c = other-ok c.args.sums.now c.args.bits.now c.requires.0 (opened c.in_default.in_default-own.keys4)
+map-requires-in_default c = other-ok c.args.sums.now c.args.bits.now c.requires.0 c.in_default.in_default-own.keys4
 
 pub returns-in-Sync : goal.returns-in-Sync
 returns-in-Sync c =
@@ -33,4 +37,4 @@ returns-in-Phich c =
 
 pub returns-in_default : goal.returns-in_default
 returns-in_default c =
-    other-written c.args.sums.now c.args.bits.now c.requires.0 (opened c.in_default.in_default-own.keys4) c.started.ensures c.map-in_default.ensures
+    other-written c.args.sums.now c.args.bits.now c.requires.0 c.in_default.in_default-own.keys4 c.started.ensures c.map-in_default.ensures

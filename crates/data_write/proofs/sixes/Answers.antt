@@ -9,7 +9,7 @@ first_round-f-requires c = pairs-fit c.requires.0
 
 pub loop-i-init : goal.loop-i-init
 loop-i-init c =
-    rounds-first c.args.n c.requires c.first_round.ensures c.rest_of-h.ensures
+    rounds-first c.args.n c.requires c.first_round-f.ensures c.rest_of-h.ensures
 
 pub overflow_mul-q : goal.overflow_mul-q
 overflow_mul-q c = omega (arith, c.loop-i.invariant.sending.order.2)

@@ -57,3 +57,12 @@ returns c =
           c.args.s c.args.t c.requires.3 c.requires.4,
     )) (omega (arith, c.region_groups-quads.ensures.1)) c.start.result
     c.start.ensures _ c.quad.ensures)
+
+pub nonzero_rem-cell : goal.nonzero_rem-cell
+nonzero_rem-cell c =
+    omega (
+      arith,
+      c.region_groups-quads.ensures.0,
+      quads-some c.args.cell c.args.frame c.requires.0 c.requires.1 c.requires.2
+          c.args.s c.args.t c.requires.3 c.requires.4,
+    )

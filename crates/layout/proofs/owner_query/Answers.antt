@@ -1,5 +1,4 @@
 -- The plan check, the grid, and the owner, in turn.
-use borrow.Enum.Refused.{opened}
 use mathlib.Core.Path.{sym, ap, ◌∙◌}
 use Rattle.layout.specs.declared.OwnerAnswer.TheVariants.{Refused}
 use Rattle.layout.proofs.Asked.{way-refused, way-place, way-owner, way-outside}
@@ -8,7 +7,7 @@ use Rattle.layout.proofs.owner_query.Goals as goal
 pub returns-in_default : goal.returns-in_default
 returns-in_default c =
     ap Refused c.refusal_in.ensures ∙ way-refused c.args.plan.now c.args.s c.args.k c.args.port _ c.check-checked.ensures
-    (opened c.in_default.in_default-own.keys2)
+    c.in_default.in_default-own.keys2
 
 pub owner_at-requires : goal.owner_at-requires
 owner_at-requires c = (

@@ -1,4 +1,5 @@
 -- At most 14 symbols of 255 blocks.
+use Prim.Native.Nat.{◌*◌}
 use native.Mathlib.Omega.{arith}
 use mathlib.Core.Path.{ap₂}
 use Prim.Native.Nat.{◌≤◌}

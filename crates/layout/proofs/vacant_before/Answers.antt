@@ -45,3 +45,7 @@ pub returns : goal.returns
 returns c =
     before-all c.args.cell c.args.symbols c.loop-n.n c.args.k c.args.s c.loop-n.sum c.loop-n.invariant.1
     c.loop-n-test.false c.requires.2 c.loop-n.invariant.0 c.loop-n.invariant.2
+
+pub nonzero_div-starts : goal.nonzero_div-starts
+nonzero_div-starts c =
+    (size-least c.args.cell c.loop-n.n c.args.k c.args.s c.group_size-size.ensures c.one_below.ensures.0).0

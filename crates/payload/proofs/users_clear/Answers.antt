@@ -33,7 +33,7 @@ returns-then-not-section_clear c = let a = c.args in
     let t = c.section_clear in
     let i = c.if-not-section_clear in
     let e = bits_are a.p.cell a.p.frame u.result _ _ x.ensures n.ensures in
-    clearing-set l.invariant (omega arith) _ u.ensures _ e _ t.ensures (not-true _ i.true)
+    clearing-set l.invariant (omega arith) _ u.ensures _ e _ t.ensures i.true
 
 pub overflow_add-byte : goal.overflow_add-byte
 overflow_add-byte c =
@@ -60,7 +60,7 @@ loop-rest-preserved c = let a = c.args in
     let s = c.section_bytes-byte in
     let to = c.next_at-at in
     let e = bits_are a.p.cell a.p.frame u.result _ _ x.ensures n.ensures in
-    clearing-next l.invariant (omega arith) _ u.ensures _ e _ t.ensures (not-false _ i.false) _ s.ensures _ to.ensures
+    clearing-next l.invariant (omega arith) _ u.ensures _ e _ t.ensures i.false _ s.ensures _ to.ensures
 
 pub returns : goal.returns
 returns c = clearing-end c.loop-rest.invariant (omega arith)

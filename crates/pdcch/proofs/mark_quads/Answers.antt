@@ -5,31 +5,26 @@ use Rattle.plan.proofs.Counts.{blocks-least, blocks-most, units-most}
 use Rattle.layout.proofs.GroupShape.{quad-low, quad-product}
 use Rattle.pdcch.proofs.Taken.{RingOf, ring-few, ring-next, ring-start, ring-below, ring-here, ring-spot, ring-small, rows-small, marked-none, marked_more, marked-as}
 use Rattle.pdcch.proofs.mark_quads.Goals as goal
+use Rattle.pdcch.proofs.mark_quads.Goals.{After-start_number}
 
 -- what is worked out before the loop
 ring :
-    (c : tie.After-start-number invariant-loop decreases-loop) →
-    let at-groups-left = c.before in let at-group-size = at-groups-left.before.before in let at_wide = at-group-size.before in let at-format4 = at_wide.before in
-    let at-format3 = at-format4.before in let at-format2 = at-format3.before in let at-format = at-format2.before in let at-quad-symbol = at-format.before in
-    let entry = at-quad-symbol.before.before in
-    RingOf entry.args.cell entry.args.i at-quad-symbol.quad-symbol.result at-format.format-group.result at-format2.format-group2.result
-    at-format3.format-group3.result at-format4.format-group4.result at_wide.wide.result at-group-size.group-size.result
-    at-groups-left.groups-left.result c.start-number.result
+    (c : After-start_number) →
+    RingOf c.args.cell c.args.i c.quad_symbol-s.result c.format_group-a.result c.format_group-b.result
+    c.format_group-d.result c.format_group-e.result c.wide.result c.group_size-pairs.result
+    c.groups_left-h.result c.start_number.result
 ring c =
-    let at-groups-left = c.before in let at-group-size = at-groups-left.before.before in let at_wide = at-group-size.before in let at-format4 = at_wide.before in
-    let at-format3 = at-format4.before in let at-format2 = at-format3.before in let at-format = at-format2.before in let at-quad-symbol = at-format.before in
-    let entry = at-quad-symbol.before.before in
     record {
-      cell = entry.requires.0;
-      symbol = at-quad-symbol.quad-symbol.ensures;
-      first = at-format.format-group.ensures;
-      second = at-format2.format-group2.ensures;
-      third = at-format3.format-group3.ensures;
-      fourth = at-format4.format-group4.ensures;
-      width = at_wide.wide.ensures;
-      size = at-group-size.group-size.ensures;
-      left = at-groups-left.groups-left.ensures.0;
-      start = c.start-number.ensures.0;
+      cell = c.requires.0;
+      symbol = c.quad_symbol-s.ensures;
+      first = c.format_group-a.ensures;
+      second = c.format_group-b.ensures;
+      third = c.format_group-d.ensures;
+      fourth = c.format_group-e.ensures;
+      width = c.wide.ensures;
+      size = c.group_size-pairs.ensures;
+      left = c.groups_left-h.ensures.0;
+      start = c.start_number.ensures.0;
     }
 
 pub format_group-a-requires : goal.format_group-a-requires
@@ -78,33 +73,33 @@ overflow_add-n c =
 
 pub loop-m-init : goal.loop-m-init
 loop-m-init c =
-    (marked-none c.args.taken.now c.requires.2, ring-start (ring c), omega arith)
+    (marked-none c.args.taken.now c.requires.2, ring-start (ring (goal.at.loop-m-init c).After-start_number), omega arith)
 
 pub group_of-requires : goal.group_of-requires
 group_of-requires c =
-    omega (arith, ring-below (ring c) c.loop-m.m c.loop-m.invariant.1, ring-few (ring (c)))
+    omega (arith, ring-below (ring (goal.at.group_of-requires c).After-start_number) c.loop-m.m c.loop-m.invariant.1, ring-few (ring (goal.at.group_of-requires c).After-start_number))
 
 pub overflow_mul-pairs : goal.overflow_mul-pairs
 overflow_mul-pairs c =
-    omega (arith, ring-here (ring c) c.loop-m.m c.loop-m.invariant.1 c.Group-of.ensures, ring-small (ring c) c.requires.1 c.loop-m.m)
+    omega (arith, ring-here (ring (goal.at.overflow_mul-pairs c).After-start_number) c.loop-m.m c.loop-m.invariant.1 c.group_of.ensures, ring-small (ring (goal.at.overflow_mul-pairs c).After-start_number) c.requires.1 c.loop-m.m)
 
 pub overflow_add-first : goal.overflow_add-first
 overflow_add-first c =
-    omega (arith, ring-here (ring c) c.loop-m.m c.loop-m.invariant.1 c.Group-of.ensures, ring-small (ring c) c.requires.1 c.loop-m.m)
+    omega (arith, ring-here (ring (goal.at.overflow_add-first c).After-start_number) c.loop-m.m c.loop-m.invariant.1 c.group_of.ensures, ring-small (ring (goal.at.overflow_add-first c).After-start_number) c.requires.1 c.loop-m.m)
 
 pub add-requires : goal.add-requires
 add-requires c =
     omega (
       arith,
-      ring-here (ring c) c.loop-m.m c.loop-m.invariant.1 c.Group-of.ensures,
-      ring-small (ring c) c.requires.1
+      ring-here (ring (goal.at.add-requires c).After-start_number) c.loop-m.m c.loop-m.invariant.1 c.group_of.ensures,
+      ring-small (ring (goal.at.add-requires c).After-start_number) c.requires.1
           c.loop-m.m,
       c.loop-m.invariant.0.size,
     )
 
 pub around-n-requires : goal.around-n-requires
 around-n-requires c =
-    ring-below (ring c) c.loop-m.m c.loop-m.invariant.1
+    ring-below (ring (goal.at.around-n-requires c).After-start_number) c.loop-m.m c.loop-m.invariant.1
 
 pub overflow_add-m : goal.overflow_add-m
 overflow_add-m c =
@@ -120,11 +115,11 @@ loop-m-preserved c =
       marked_more c.args.taken.now c.loop-m.taken _ c.loop-m.invariant.0
           (omega (
             arith,
-            ring-here (ring c) c.loop-m.m c.loop-m.invariant.1 c.Group-of.ensures,
-            ring-small (ring c)
+            ring-here (ring (goal.at.loop-m-preserved c).After-start_number) c.loop-m.m c.loop-m.invariant.1 c.group_of.ensures,
+            ring-small (ring (goal.at.loop-m-preserved c).After-start_number)
                 c.requires.1 c.loop-m.m,
           ))
-          (ring-here (ring c) c.loop-m.m c.loop-m.invariant.1 c.Group-of.ensures) c.add.ensures,
+          (ring-here (ring (goal.at.loop-m-preserved c).After-start_number) c.loop-m.m c.loop-m.invariant.1 c.group_of.ensures) c.add.ensures,
       ring-next _ c.loop-m.m
           _ c.loop-m.invariant.1 c.around-n.ensures,
       omega (arith, c.loop-m-test.true),
@@ -137,4 +132,4 @@ shape_of-taken c =
 pub returns : goal.returns
 returns c =
     marked-as c.args.taken.now c.loop-m.taken c.loop-m.invariant.0
-    (omega (arith, c.loop-m.invariant.2, c.loop-m-test.false, c.units-units.ensures)) (ring-spot (ring c))
+    (omega (arith, c.loop-m.invariant.2, c.loop-m-test.false, c.units-units.ensures)) (ring-spot (ring (goal.at.returns c).After-start_number))

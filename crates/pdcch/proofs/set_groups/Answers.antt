@@ -67,3 +67,7 @@ pub returns : goal.returns
 returns c =
     walk_end c.args.cell c.args.frame c.requires.0 c.control_symbols-symbols.ensures c.region_groups-quads.ensures.0
     c.set_starts-count.ensures c.loop-block.invariant c.loop-block-test.false
+
+pub nonzero_rem-cell : goal.nonzero_rem-cell
+nonzero_rem-cell c =
+    omega (arith, some-quads c.args.cell c.args.frame c.requires.0 c.control_symbols-symbols.ensures c.region_groups-quads.ensures.0)

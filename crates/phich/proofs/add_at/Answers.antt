@@ -14,4 +14,4 @@ returns c = let s = c.args in
     (c.byte_of-re.ensures ∙ ap byte_of (to_z-of_z {w = w8} {z = d.re}
     (fits-abs w8 d.re (omega arith))))
     (c.byte_of-im.ensures ∙ ap byte_of (to_z-of_z {w = w8} {z = d.im} (fits-abs w8 d.im (omega arith))))
-    c.wrapping_add_u8.ensures c.wrapping_add_u8-2.ensures
+    c.wrapping_add_u8.ensures.value c.wrapping_add_u8-2.ensures.value

@@ -1,12 +1,11 @@
 -- `read::read` meets its contract: the plan's refusal, 10, 11, 13, or the payload. Assumes nothing.
-use borrow.Enum.Refused.{opened}
 use mathlib.Core.Path.{sym, ◌∙◌}
 use Rattle.read.proofs.Answers.{way-refused, way-grid, way-payload, way-given, way-none, way-readable, way-read}
 use Rattle.read.proofs.read.Goals as goal
 
 pub returns-in_default : goal.returns-in_default
 returns-in_default c =
-    way-refused c.args.plan.now c.args.grid.now c.args.payload.now _ c.check-checked.ensures (opened c.in_default.in_default-own.keys2) _ c.refusal_in.ensures
+    way-refused c.args.plan.now c.args.grid.now c.args.payload.now _ c.check-checked.ensures c.in_default.in_default-own.keys2 _ c.refusal_in.ensures
 
 pub returns-then-grid-grid_length : goal.returns-then-grid-grid_length
 returns-then-grid-grid_length c =

@@ -15,6 +15,13 @@ pub slice_bounds-read_his-count : goal.slice_bounds-read_his-count
 slice_bounds-read_his-count c =
     (acks-room c.requires _ c.section_of-acks.ensures).0
 
+pub slice_bounds-read_his-start : goal.slice_bounds-read_his-start
+slice_bounds-read_his-start c = sub-read-his c
+
+pub slice_bounds-read_his-end : goal.slice_bounds-read_his-end
+slice_bounds-read_his-end c =
+    (acks-room c.requires _ c.section_of-acks.ensures).1
+
 pub read_his-requires : goal.read_his-requires
 read_his-requires c =
     acks-in c.requires _ c.section_of-acks.ensures
@@ -40,6 +47,14 @@ pub slice_bounds-read_channel-count : goal.slice_bounds-read_channel-count
 slice_bounds-read_channel-count c =
     (loop-room c.requires c.loop-turn.invariant.0 c.count-turns.ensures c.loop-turn-test.true
     c.channel_at-ch.ensures c.loop-turn.invariant.1 _ c.section_of-section.ensures).0
+
+pub slice_bounds-read_channel-start : goal.slice_bounds-read_channel-start
+slice_bounds-read_channel-start c = sub-read-channel c
+
+pub slice_bounds-read_channel-end : goal.slice_bounds-read_channel-end
+slice_bounds-read_channel-end c =
+    (loop-room c.requires c.loop-turn.invariant.0 c.count-turns.ensures c.loop-turn-test.true
+    c.channel_at-ch.ensures c.loop-turn.invariant.1 _ c.section_of-section.ensures).1
 
 pub read_channel-have-requires : goal.read_channel-have-requires
 read_channel-have-requires c =

@@ -1,4 +1,3 @@
-use borrow.Enum.Refused.{opened}
 use mathlib.Core.Path.{sym, ap, ◌∙◌}
 use lib.ListN.{length}
 use Rattle.subframe.proofs.Bytes.{grid-size}
@@ -18,7 +17,7 @@ use Rattle.two_builds.proofs.build_both.Goals as goal
 pub returns-in_default : goal.returns-in_default
 returns-in_default c =
     way-refused c.args.plan.now c.args.a.now c.args.b.now c.args.grid_a.now c.args.grid_b.now _ c.check-checked.ensures
-    (opened c.in_default.in_default-own.keys2) _ c.refusal_in.ensures
+    c.in_default.in_default-own.keys2 _ c.refusal_in.ensures
 
 -- src/lib.rt:23:9
 pub returns-then-grid_a-room : goal.returns-then-grid_a-room

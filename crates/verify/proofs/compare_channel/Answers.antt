@@ -1,7 +1,8 @@
 -- `verify::compare_channel` meets its contract: a case for each channel. Assumes nothing.
 use mathlib.Core.Path.{ap, ◌∙◌}
+use native.Mathlib.Omega.{arith}
 use Rattle.schedule.specs.declared.Channel.TheVariants.{Sync}
-use Rattle.verify.proofs.Channels.{crs-starts, crs-ready, mark-ready, pcfich-ready, unit-ready, user-ready, crs-answer, pss-answer, sss-answer, pbch-answer, pcfich-answer, unit-answer, user-answer}
+use Rattle.verify.proofs.Channels.{crs-starts, crs-ready, mark-ready, pcfich-ready, unit-few, unit-ready, user-ready, crs-answer, pss-answer, sss-answer, pbch-answer, pcfich-answer, unit-answer, user-answer}
 use Rattle.verify.proofs.compare_channel.Goals as goal
 
 pub started-r-requires : goal.started-r-requires
@@ -22,6 +23,10 @@ compare_pbch-requires c = (c.requires.0, rw c.in-Pbch.is at c.requires.1)
 
 pub compare_pcfich-requires : goal.compare_pcfich-requires
 compare_pcfich-requires c = pcfich-ready c.requires.1
+
+pub slice_bounds-compare_phich-end : goal.slice_bounds-compare_phich-end
+slice_bounds-compare_phich-end c =
+    omega (arith, unit-few c.requires.1 c.requires.2 c.in-Phich.is c.wide-unit.ensures)
 
 pub compare_phich-requires : goal.compare_phich-requires
 compare_phich-requires c =
