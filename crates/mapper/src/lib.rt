@@ -183,8 +183,7 @@ fn sample_number(byte: u8, i: u8, j: u8, n: usize) -> i64
     }
 }
 
-#[unsafe(no_mangle)]
-pub extern "C" fn mapper_check(plan: &[u8]) -> i64
+pub fn mapper_check(plan: &[u8]) -> i64
     ensures { result ≡ in_c (check_answer_of plan.now) }
 {
     match plan::check(plan) {
@@ -193,29 +192,25 @@ pub extern "C" fn mapper_check(plan: &[u8]) -> i64
     }
 }
 
-#[unsafe(no_mangle)]
-pub extern "C" fn mapper_grid_len(plan: &[u8]) -> i64
+pub fn mapper_grid_len(plan: &[u8]) -> i64
     ensures { result ≡ in_c (grid_length_of plan.now) }
 {
     number_in_c(grid_length(plan))
 }
 
-#[unsafe(no_mangle)]
-pub extern "C" fn mapper_payload_len(plan: &[u8]) -> i64
+pub fn mapper_payload_len(plan: &[u8]) -> i64
     ensures { result ≡ in_c (payload_length_of plan.now) }
 {
     number_in_c(payload_length(plan))
 }
 
-#[unsafe(no_mangle)]
-pub extern "C" fn mapper_count(plan: &[u8], kind: usize) -> i64
+pub fn mapper_count(plan: &[u8], kind: usize) -> i64
     ensures { result ≡ in_c (kind_count_of plan.now kind) }
 {
     number_in_c(count(plan, kind))
 }
 
-#[unsafe(no_mangle)]
-pub extern "C" fn mapper_build(plan: &[u8], payload: &[u8], grid: &mut [u8]) -> i64
+pub fn mapper_build(plan: &[u8], payload: &[u8], grid: &mut [u8]) -> i64
     ensures { (result ≡ in_c (built_of plan.now payload.now grid.old))
         × (grid.new ≡ grid_after plan.now payload.now grid.old) }
 {
@@ -225,8 +220,7 @@ pub extern "C" fn mapper_build(plan: &[u8], payload: &[u8], grid: &mut [u8]) -> 
     }
 }
 
-#[unsafe(no_mangle)]
-pub extern "C" fn mapper_read(plan: &[u8], grid: &[u8], payload: &mut [u8]) -> i64
+pub fn mapper_read(plan: &[u8], grid: &[u8], payload: &mut [u8]) -> i64
     ensures { (result ≡ in_c (read_of plan.now grid.now payload.old))
         × (payload.new ≡ payload_after plan.now grid.now payload.old)
         × Reads plan.now grid.now payload.old (read_of plan.now grid.now payload.old) payload.new }
@@ -237,8 +231,7 @@ pub extern "C" fn mapper_read(plan: &[u8], grid: &[u8], payload: &mut [u8]) -> i
     }
 }
 
-#[unsafe(no_mangle)]
-pub extern "C" fn mapper_owner(plan: &[u8], s: usize, k: usize, port: usize) -> i64
+pub fn mapper_owner(plan: &[u8], s: usize, k: usize, port: usize) -> i64
     ensures { result ≡ in_c (owner_answer_of plan.now s k port) }
 {
     match layout::owner_query(plan, s, k, port) {
@@ -248,24 +241,21 @@ pub extern "C" fn mapper_owner(plan: &[u8], s: usize, k: usize, port: usize) -> 
 }
 
 // The kind of an element's sample: 0 silence, 1 phase, 2 a pair of f32.
-#[unsafe(no_mangle)]
-pub extern "C" fn mapper_sample_kind(byte: u8, i: u8, j: u8) -> i64
+pub fn mapper_sample_kind(byte: u8, i: u8, j: u8) -> i64
     ensures { result ≡ in_c (sample_answer_of 0 byte i j) }
 {
     sample_number(byte, i, j, 0)
 }
 
 // The phase, or the bits of the f32 of I; 0 for silence.
-#[unsafe(no_mangle)]
-pub extern "C" fn mapper_sample_i(byte: u8, i: u8, j: u8) -> i64
+pub fn mapper_sample_i(byte: u8, i: u8, j: u8) -> i64
     ensures { result ≡ in_c (sample_answer_of 1 byte i j) }
 {
     sample_number(byte, i, j, 1)
 }
 
 // The bits of the f32 of J; 0 for silence and for a phase.
-#[unsafe(no_mangle)]
-pub extern "C" fn mapper_sample_j(byte: u8, i: u8, j: u8) -> i64
+pub fn mapper_sample_j(byte: u8, i: u8, j: u8) -> i64
     ensures { result ≡ in_c (sample_answer_of 2 byte i j) }
 {
     sample_number(byte, i, j, 2)
