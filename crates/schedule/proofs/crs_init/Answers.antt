@@ -13,12 +13,12 @@ overflow_cast-slot c = let e = c.slot_length-slot.ensures in omega (arith, e, sl
 pub c_init-requires : goal.c_init-requires
 c_init-requires c = let a = c.args in
     let h = c.requires in
-    (h.0.identity, omega (arith, h.1.subframe), omega (arith, c.if-s-slot.taken, c.slot_length-slot.ensures, slot-length a.cell))
+    (h.0.identity, omega (arith, h.1.subframe), omega (arith, c.if-s-slot.true, c.slot_length-slot.ensures, slot-length a.cell))
 
 pub returns-then-s-slot : goal.returns-then-s-slot
 returns-then-s-slot c = let a = c.args in
     let e = c.slot_length-slot.ensures in
-    c.c_init.ensures ∙ early a.cell (2 * a.frame.subframe) a.frame.subframe a.s refl (omega (arith, c.if-s-slot.taken, e))
+    c.c_init.ensures ∙ early a.cell (2 * a.frame.subframe) a.frame.subframe a.s refl (omega (arith, c.if-s-slot.true, e))
 
 pub c_init-requires-2 : goal.c_init-requires-2
 c_init-requires-2 c = let a = c.args in
@@ -29,4 +29,4 @@ pub returns : goal.returns
 returns c = let a = c.args in
     let e = c.slot_length-slot.ensures in
     c.c_init-2.ensures ∙ ap (λ (x : ℕ). crs_init a.cell.prefix a.cell.identity (2 * a.frame.subframe + 1) (a.s - x)) e
-    ∙ late a.cell (2 * a.frame.subframe) a.frame.subframe a.s refl (omega (arith, c.if-s-slot.left, e))
+    ∙ late a.cell (2 * a.frame.subframe) a.frame.subframe a.s refl (omega (arith, c.if-s-slot.false, e))
