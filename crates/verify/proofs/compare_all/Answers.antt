@@ -1,11 +1,11 @@
 -- `verify::compare_all` meets its contract: turn after turn. Assumes nothing.
 use mathlib.Core.Path.{refl, sym, ◌∙◌}
-use mathlib.Core.Logic.{⊎_elim}
 use native.Mathlib.Omega.{arith}
 use Rattle.base.specs.Tables.{table}
 use Rattle.schedule.proofs.Steps.{start-few, passing, after}
 use Rattle.verify.proofs.Channels.{control-starts, units-read, count-ready, sums-due, going-first, due, planned, few-both, going_more, going-pass, going_end}
 use Rattle.verify.proofs.compare_all.Goals as goal
+use Rattle.verify.proofs.compare_all.Goals.{then-present, else-present}
 
 pub started-control-requires : goal.started-control-requires
 started-control-requires c = control-starts c.args.plan.now c.args.p c.requires
@@ -50,8 +50,11 @@ pub loop-turn-preserved : goal.loop-turn-preserved
 loop-turn-preserved c =
     let so = c.loop-turn.invariant in let is = c.channel_at-ch.ensures in let has = c.present.ensures in
     let next = after c.next-turn.ensures (passing (due so c.loop-turn-test.true) is c.section_of-section.ensures) in
-    ⊎_elim (λ x. rw x.5 (going_more so c.loop-turn-test.true is _ next (sym has ∙ x.0.taken) _ x.3.ensures x.4.ensures))
-    (λ x. rw x.1 (going-pass so c.loop-turn-test.true is _ next (sym has ∙ x.0.left))) c.if-present.branch
+    elim c.if-present.branch [
+      then-present w ↦
+        rw w.seen-is (going_more so c.loop-turn-test.true is _ next (sym has ∙ w.if-present.true) _ w.compare_channel.ensures w.together-seen.ensures)
+    | else-present w ↦ rw w.seen-is (going-pass so c.loop-turn-test.true is _ next (sym has ∙ w.if-present.false))
+    ]
 
 pub returns : goal.returns
 returns c = going_end c.loop-turn.invariant c.loop-turn-test.false
