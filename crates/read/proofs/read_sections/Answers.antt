@@ -16,7 +16,7 @@ slice_bounds-read_his-count c =
     (acks-room c.requires _ c.section_of-acks.ensures).0
 
 pub slice_bounds-read_his-start : goal.slice_bounds-read_his-start
-slice_bounds-read_his-start c = sub-read-his c
+slice_bounds-read_his-start c = (acks-room c.requires _ c.section_of-acks.ensures).0
 
 pub slice_bounds-read_his-end : goal.slice_bounds-read_his-end
 slice_bounds-read_his-end c =
@@ -49,7 +49,9 @@ slice_bounds-read_channel-count c =
     c.channel_at-ch.ensures c.loop-turn.invariant.1 _ c.section_of-section.ensures).0
 
 pub slice_bounds-read_channel-start : goal.slice_bounds-read_channel-start
-slice_bounds-read_channel-start c = sub-read-channel c
+slice_bounds-read_channel-start c =
+    (loop-room c.requires c.loop-turn.invariant.0 c.count-turns.ensures c.loop-turn-test.true
+    c.channel_at-ch.ensures c.loop-turn.invariant.1 _ c.section_of-section.ensures).0
 
 pub slice_bounds-read_channel-end : goal.slice_bounds-read_channel-end
 slice_bounds-read_channel-end c =
