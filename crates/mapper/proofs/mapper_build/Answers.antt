@@ -12,8 +12,8 @@ plus-requires c =
 
 pub returns-in-Elements : goal.returns-in-Elements
 returns-in-Elements c =
-    (plus-back _ _ c.plus.result c.plus.type-inv c.plus.ensures (sym c.build.ensures.0 ∙ ap built_answer c.in-Elements.is), c.build.ensures.1)
+    (plus-back _ _ c.plus.result c.plus.type_inv c.plus.ensures (sym c.build.ensures.0 ∙ ap built_answer c.in-Elements.is), c.build.ensures.1)
 
 pub returns-in-Refused : goal.returns-in-Refused
 returns-in-Refused c =
-    (minus-back _ _ c.minus.result c.minus.type-inv c.minus.ensures (sym c.build.ensures.0 ∙ ap built_answer c.in-Refused.is), c.build.ensures.1)
+    (minus-back _ _ c.minus.result c.minus.type_inv c.minus.ensures (sym c.build.ensures.0 ∙ ap built_answer c.in-Refused.is), c.build.ensures.1)

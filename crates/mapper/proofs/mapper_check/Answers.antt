@@ -8,5 +8,5 @@ pub returns-in-Plan : goal.returns-in-Plan
 returns-in-Plan c = plus-is 0 _ (sym (check-numbers c.args.plan.now _ c.check.ensures) ∙ ap checked_answer c.in-Plan.is)
 
 pub returns-in-Refused : goal.returns-in-Refused
-returns-in-Refused c = minus-back _ _ c.minus.result c.minus.type-inv c.minus.ensures
+returns-in-Refused c = minus-back _ _ c.minus.result c.minus.type_inv c.minus.ensures
     (sym (check-numbers c.args.plan.now _ c.check.ensures) ∙ ap checked_answer c.in-Refused.is)

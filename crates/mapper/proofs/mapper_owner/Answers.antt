@@ -7,11 +7,11 @@ use Rattle.mapper.proofs.mapper_owner.Goals as goal
 
 pub returns-in-Is : goal.returns-in-Is
 returns-in-Is c = let a = c.args in
-    plus-back _ _ c.plus.result c.plus.type-inv c.plus.ensures
+    plus-back _ _ c.plus.result c.plus.type_inv c.plus.ensures
     (sym (owner-numbers a.plan.now a.s a.k a.port _ c.owner_query.ensures) ∙ ap owner_answer c.in-Is.is
     ∙ ap given (sym c.owner_number.ensures))
 
 pub returns-in-Refused : goal.returns-in-Refused
 returns-in-Refused c = let a = c.args in
-    minus-back _ _ c.minus.result c.minus.type-inv c.minus.ensures
+    minus-back _ _ c.minus.result c.minus.type_inv c.minus.ensures
     (sym (owner-numbers a.plan.now a.s a.k a.port _ c.owner_query.ensures) ∙ ap owner_answer c.in-Refused.is)

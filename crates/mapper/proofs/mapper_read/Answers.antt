@@ -12,8 +12,8 @@ plus-requires c = let a = c.args in
 
 pub returns-in-Elements : goal.returns-in-Elements
 returns-in-Elements c = let r = c.read.ensures in
-    (plus-back _ _ c.plus.result c.plus.type-inv c.plus.ensures (sym r.0 ∙ ap read_answer c.in-Elements.is), r.1, reads_of r.0 r.2)
+    (plus-back _ _ c.plus.result c.plus.type_inv c.plus.ensures (sym r.0 ∙ ap read_answer c.in-Elements.is), r.1, reads_of r.0 r.2)
 
 pub returns-in-Refused : goal.returns-in-Refused
 returns-in-Refused c = let r = c.read.ensures in
-    (minus-back _ _ c.minus.result c.minus.type-inv c.minus.ensures (sym r.0 ∙ ap read_answer c.in-Refused.is), r.1, reads_of r.0 r.2)
+    (minus-back _ _ c.minus.result c.minus.type_inv c.minus.ensures (sym r.0 ∙ ap read_answer c.in-Refused.is), r.1, reads_of r.0 r.2)

@@ -18,18 +18,18 @@ returns-in-Silence c = let a = c.args in
 
 pub returns-in-Phase : goal.returns-in-Phase
 returns-in-Phase c = let a = c.args in
-    plus-back _ _ c.plus.result c.plus.type-inv c.plus.ensures
+    plus-back _ _ c.plus.result c.plus.type_inv c.plus.ensures
     (is-phase a.byte a.i a.j _ c.sample_at.ensures _
     c.in-Is.is a.n _ _ c.in-Phase.is c.nth.ensures)
 
 pub returns-in-At : goal.returns-in-At
 returns-in-At c = let a = c.args in
-    plus-back _ _ c.plus-in-At.result c.plus-in-At.type-inv c.plus-in-At.ensures
+    plus-back _ _ c.plus-in-At.result c.plus-in-At.type_inv c.plus-in-At.ensures
     (is-pair a.byte a.i a.j _ c.sample_at.ensures _
     c.in-Is.is
     _ c.in-At.is a.n _ _ _ c.bits.ensures c.bits-in-At.ensures c.nth-in-At.ensures)
 
 pub returns-in-Refused : goal.returns-in-Refused
 returns-in-Refused c = let a = c.args in
-    minus-back _ _ c.minus.result c.minus.type-inv c.minus.ensures
+    minus-back _ _ c.minus.result c.minus.type_inv c.minus.ensures
     (is-refused a.byte a.i a.j _ c.sample_at.ensures a.n c.in-Refused.is)

@@ -92,9 +92,7 @@ fill-requires-2 c =
 
 -- src/lib.rt:43:21
 pub users_count-requires : goal.users_count-requires
-users_count-requires c = let at-checked =
-    c in let at-check = at-checked.before.before in
-    (sym at-check.check.ensures ∙ at-checked.checked.given.1)
+users_count-requires c = sym c.check-checked.ensures ∙ c.in-Plan.is
 
 -- src/lib.rt:9:1
 pub shape_of-grid_a : goal.shape_of-grid_a
