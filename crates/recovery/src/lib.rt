@@ -1,3 +1,2 @@
 // The payload that a grid was built from: definitions and their laws. No code.
 #![tactic(auto)]
-

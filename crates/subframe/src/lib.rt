@@ -1,3 +1,2 @@
 // What a subframe sends: definitions and their laws. No code.
 #![tactic(auto)]
-

@@ -16,15 +16,14 @@ pub bounds-masks-s : goal.bounds-masks-s
 bounds-masks-s c = omega arith
 
 pub put_row-requires-in-loop-s : goal.put_row-requires-in-loop-s
-put_row-requires-in-loop-s c =
-    (
-      c.loop-s.invariant.size,
-      omega (arith, c.loop-s-test.true),
-      (spans-few c.args.first c.args.last c.args.lists c.loop-s.s (get_or c.args.masks.now c.loop-s.s 0)
-          c.row_spans-r.ensures c.requires.1 c.requires.2 c.requires.3).0,
-      (spans-few c.args.first c.args.last c.args.lists c.loop-s.s (get_or c.args.masks.now c.loop-s.s 0)
-          c.row_spans-r.ensures c.requires.1 c.requires.2 c.requires.3).1,
-    )
+put_row-requires-in-loop-s c = (
+  c.loop-s.invariant.size,
+  omega (arith, c.loop-s-test.true),
+  (spans-few c.args.first c.args.last c.args.lists c.loop-s.s (get_or c.args.masks.now c.loop-s.s 0)
+      c.row_spans-r.ensures c.requires.1 c.requires.2 c.requires.3).0,
+  (spans-few c.args.first c.args.last c.args.lists c.loop-s.s (get_or c.args.masks.now c.loop-s.s 0)
+      c.row_spans-r.ensures c.requires.1 c.requires.2 c.requires.3).1,
+)
 
 pub overflow_add-s : goal.overflow_add-s
 overflow_add-s c = omega arith

@@ -19,17 +19,15 @@ pub overflow_add-blocks : goal.overflow_add-blocks
 overflow_add-blocks c = omega (arith, c.requires)
 
 pub put_span-end-requires : goal.put_span-end-requires
-put_span-end-requires c =
-    (
-      c.put_span-left.ensures.size ∙ c.put_span-whole.ensures.size ∙ c.requires.0,
-      omega (arith, c.requires, put-few c.put_span-whole.ensures, put-few c.put_span-left.ensures),
-      omega (arith, c.requires),
-    )
+put_span-end-requires c = (
+  c.put_span-left.ensures.size ∙ c.put_span-whole.ensures.size ∙ c.requires.0,
+  omega (arith, c.requires, put-few c.put_span-whole.ensures, put-few c.put_span-left.ensures),
+  omega (arith, c.requires),
+)
 
 pub returns : goal.returns
-returns c =
-    (
-      lists-made c.args.blocks c.args.from c.args.to c.requires.2 c.smaller.ensures c.greater.ensures c.requires.0
-          c.requires.4 c.put_span-whole.ensures c.put_span-left.ensures c.put_span-end.ensures,
-      refl,
-    )
+returns c = (
+  lists-made c.args.blocks c.args.from c.args.to c.requires.2 c.smaller.ensures c.greater.ensures c.requires.0
+      c.requires.4 c.put_span-whole.ensures c.put_span-left.ensures c.put_span-end.ensures,
+  refl,
+)

@@ -37,12 +37,11 @@ slice_bounds-fill_turn-end c =
     ).1
 
 pub fill_turn-have-requires : goal.fill_turn-have-requires
-fill_turn-have-requires c =
-    (
-      going-in c.requires.0 (c.loop-turn.invariant.1 c.requires.0) c.count-turns.ensures c.loop-turn-test.true c.channel_at-ch.ensures c.section_of-part.ensures c.requires.1
-          c.loop-turn.invariant.0,
-      c.started-control.ensures,
-    )
+fill_turn-have-requires c = (
+  going-in c.requires.0 (c.loop-turn.invariant.1 c.requires.0) c.count-turns.ensures c.loop-turn-test.true c.channel_at-ch.ensures c.section_of-part.ensures c.requires.1
+      c.loop-turn.invariant.0,
+  c.started-control.ensures,
+)
 
 pub next-turn-requires : goal.next-turn-requires
 next-turn-requires c =
@@ -52,14 +51,13 @@ pub loop-turn-smaller : goal.loop-turn-smaller
 loop-turn-smaller c = omega (arith, c.loop-turn-test.true, c.next-turn.ensures.number)
 
 pub loop-turn-preserved : goal.loop-turn-preserved
-loop-turn-preserved c =
-    (
-      c.fill_turn-have.ensures.1,
-      λ r.
-          let due = going-due r (c.loop-turn.invariant.1 r) c.count-turns.ensures c.loop-turn-test.true in
-          going_next r (c.loop-turn.invariant.1 r) c.count-turns.ensures c.loop-turn-test.true c.channel_at-ch.ensures c.section_of-part.ensures c.requires.1 c.fill_turn-have.ensures.0
-          (after c.next-turn.ensures (passing due c.channel_at-ch.ensures c.section_of-part.ensures)),
-    )
+loop-turn-preserved c = (
+  c.fill_turn-have.ensures.1,
+  λ r.
+      let due = going-due r (c.loop-turn.invariant.1 r) c.count-turns.ensures c.loop-turn-test.true in
+      going_next r (c.loop-turn.invariant.1 r) c.count-turns.ensures c.loop-turn-test.true c.channel_at-ch.ensures c.section_of-part.ensures c.requires.1 c.fill_turn-have.ensures.0
+      (after c.next-turn.ensures (passing due c.channel_at-ch.ensures c.section_of-part.ensures)),
+)
 
 pub shape_of-grid : goal.shape_of-grid
 shape_of-grid c =

@@ -18,7 +18,7 @@ returns-then-a-b-3 c =
 pub returns : goal.returns
 returns c =
     elim c.else-a-b.branch [
-      else-a-b-via-then-a-b+then-a-b-2+else-a-b-3 w ↦ other-j c.args.a c.args.b w.if-a-b.true w.if-a-b-2.true w.if-a-b-3.false
-    | else-a-b-via-then-a-b+else-a-b-2 w ↦ other-i c.args.a c.args.b w.if-a-b.true w.if-a-b-2.false
-    | else-a-b-via-else-a-b w ↦ other_byte c.args.a c.args.b w.if-a-b.false
+      | else-a-b-via-then-a-b+then-a-b-2+else-a-b-3 w ↦ other-j c.args.a c.args.b w.if-a-b.true w.if-a-b-2.true w.if-a-b-3.false
+      | else-a-b-via-then-a-b+else-a-b-2 w ↦ other-i c.args.a c.args.b w.if-a-b.true w.if-a-b-2.false
+      | else-a-b-via-else-a-b w ↦ other_byte c.args.a c.args.b w.if-a-b.false
     ]

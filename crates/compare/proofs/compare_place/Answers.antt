@@ -39,11 +39,10 @@ compare_at-requires c =
     (other_fits c.requires.0 c.args.pair _ c.args.t (c.wide-2.ensures ∙ c.other_port.ensures) c.requires.1).2
 
 pub together-requires : goal.together-requires
-together-requires c =
-    (
-      few c.requires.0 (own-looked c.requires.0 c.args.pair c.args.t c.requires.1 (c.wide.ensures ∙ c.own_port.ensures) c.compare_at-seen.ensures),
-      few c.requires.0 (other-looked c.requires.0 c.args.pair c.args.t c.requires.1 (c.wide-2.ensures ∙ c.other_port.ensures) c.compare_at.ensures),
-    )
+together-requires c = (
+  few c.requires.0 (own-looked c.requires.0 c.args.pair c.args.t c.requires.1 (c.wide.ensures ∙ c.own_port.ensures) c.compare_at-seen.ensures),
+  few c.requires.0 (other-looked c.requires.0 c.args.pair c.args.t c.requires.1 (c.wide-2.ensures ∙ c.other_port.ensures) c.compare_at.ensures),
+)
 
 pub returns : goal.returns
 returns c =

@@ -24,8 +24,8 @@ loop-i-preserved c =
     let l = c.loop-i in
     let h = c.loop-i-test.true in
     elim c.if-part-i-ne0.branch [
-      then-part-i-ne0 w ↦ rw w.n-is (omega arith, count-one l.invariant.1 h w.if-part-i-ne0.true)
-    | else-part-i-ne0 w ↦ rw w.n-is (omega arith, count-zero l.invariant.1 h w.if-part-i-ne0.false)
+      | then-part-i-ne0 w ↦ rw w.n-is (omega arith, count-one l.invariant.1 h w.if-part-i-ne0.true)
+      | else-part-i-ne0 w ↦ rw w.n-is (omega arith, count-zero l.invariant.1 h w.if-part-i-ne0.false)
     ]
 
 pub returns : goal.returns

@@ -21,12 +21,11 @@ unit_pair-x-requires c =
     unit-asked c.requires.0 c.loop-n-test.true (2 * c.loop-n.n) (omega arith) c.quad_symbol-s.ensures c.unit_group-g.ensures
 
 pub compare_pair-requires : goal.compare_pair-requires
-compare_pair-requires c =
-    (
-      pair-asked c.requires.0 c.loop-n-test.true (2 * c.loop-n.n) (omega arith) c.quad_symbol-s.ensures
-          c.unit_group-g.ensures c.unit_pair-x.ensures,
-      c.requires.1,
-    )
+compare_pair-requires c = (
+  pair-asked c.requires.0 c.loop-n-test.true (2 * c.loop-n.n) (omega arith) c.quad_symbol-s.ensures
+      c.unit_group-g.ensures c.unit_pair-x.ensures,
+  c.requires.1,
+)
 
 pub together-one-requires : goal.together-one-requires
 together-one-requires c =
@@ -44,12 +43,11 @@ unit_pair-y-requires c =
     c.unit_group-g.ensures
 
 pub compare_pair-requires-in-loop-n : goal.compare_pair-requires-in-loop-n
-compare_pair-requires-in-loop-n c =
-    (
-      pair-asked c.requires.0 c.loop-n-test.true (2 * c.loop-n.n + 1) (omega arith) c.quad_symbol-s.ensures
-          c.unit_group-g.ensures c.unit_pair-y.ensures,
-      c.requires.1,
-    )
+compare_pair-requires-in-loop-n c = (
+  pair-asked c.requires.0 c.loop-n-test.true (2 * c.loop-n.n + 1) (omega arith) c.quad_symbol-s.ensures
+      c.unit_group-g.ensures c.unit_pair-y.ensures,
+  c.requires.1,
+)
 
 pub together-seen-requires : goal.together-seen-requires
 together-seen-requires c =

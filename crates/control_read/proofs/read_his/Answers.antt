@@ -47,9 +47,8 @@ shape_of-part c =
     c.loop-n.invariant.size ∙ sym c.requires.size
 
 pub returns : goal.returns
-returns c =
-    (
-      read-finish c.requires c.args.r c.loop-n.invariant c.loop-n-test.false,
-      after-three c.args.cell c.args.r
-          c.spread_length.ensures c.skip.ensures,
-    )
+returns c = (
+  read-finish c.requires c.args.r c.loop-n.invariant c.loop-n-test.false,
+  after-three c.args.cell c.args.r
+      c.spread_length.ensures c.skip.ensures,
+)

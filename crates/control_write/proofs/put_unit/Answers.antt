@@ -21,12 +21,11 @@ unit_pair-requires c =
     unit-asked c.requires.0 c.loop-n-test.true (2 * c.loop-n.n) (omega arith) c.quad_symbol-s.ensures c.unit_group-g.ensures
 
 pub put_pair-requires : goal.put_pair-requires
-put_pair-requires c =
-    (
-      pair-asked c.requires.0 c.loop-n-test.true (2 * c.loop-n.n) (omega arith) c.quad_symbol-s.ensures
-          c.unit_group-g.ensures c.unit_pair.ensures,
-      room-kept c.requires.1 c.loop-n.invariant.done,
-    )
+put_pair-requires c = (
+  pair-asked c.requires.0 c.loop-n-test.true (2 * c.loop-n.n) (omega arith) c.quad_symbol-s.ensures
+      c.unit_group-g.ensures c.unit_pair.ensures,
+  room-kept c.requires.1 c.loop-n.invariant.done,
+)
 
 pub overflow_mul-n-in-loop-n : goal.overflow_mul-n-in-loop-n
 overflow_mul-n-in-loop-n c = omega arith
@@ -40,13 +39,12 @@ unit_pair-requires-in-loop-n c =
     c.unit_group-g.ensures
 
 pub put_pair-requires-in-loop-n : goal.put_pair-requires-in-loop-n
-put_pair-requires-in-loop-n c =
-    (
-      pair-asked c.requires.0 c.loop-n-test.true (2 * c.loop-n.n + 1) (omega arith) c.quad_symbol-s.ensures
-          c.unit_group-g.ensures c.unit_pair-in-loop-n.ensures,
-      room-kept (room-kept c.requires.1 c.loop-n.invariant.done)
-          c.put_pair.ensures,
-    )
+put_pair-requires-in-loop-n c = (
+  pair-asked c.requires.0 c.loop-n-test.true (2 * c.loop-n.n + 1) (omega arith) c.quad_symbol-s.ensures
+      c.unit_group-g.ensures c.unit_pair-in-loop-n.ensures,
+  room-kept (room-kept c.requires.1 c.loop-n.invariant.done)
+      c.put_pair.ensures,
+)
 
 pub overflow_add-n-in-loop-n : goal.overflow_add-n-in-loop-n
 overflow_add-n-in-loop-n c = omega arith

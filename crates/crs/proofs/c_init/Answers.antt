@@ -14,13 +14,13 @@ overflow_add-result-5 c = record { fits = omega (arith, init-fits c.args.cell c.
 
 pub overflow_add-result-6 : goal.overflow_add-result-6
 overflow_add-result-6 c = record {
-      fits = omega (
-        arith,
-        init-fits c.args.cell c.args.slot c.args.l c.requires.0 c.requires.1 c.requires.2,
-        c.n_cp.ensures,
-        prefix-le c.args.prefix,
-      );
-    }
+  fits = omega (
+    arith,
+    init-fits c.args.cell c.args.slot c.args.l c.requires.0 c.requires.1 c.requires.2,
+    c.n_cp.ensures,
+    prefix-le c.args.prefix,
+  );
+}
 
 pub returns : goal.returns
 unfolding crs_init

@@ -11,11 +11,10 @@ sides-requires c =
     (sixes-rounds c.args.halves c.requires.0, read-fewer c.requires.1 (omega arith))
 
 pub pair-requires : goal.pair-requires
-pair-requires c =
-    (
-      sixes-last c.args.halves c.requires.0 refl c.if-halves-eq1.true,
-      sixes-reading c.args.halves c.args.ports c.args.places c.args.first c.sides.ensures c.if-halves-eq1.true c.requires.1,
-    )
+pair-requires c = (
+  sixes-last c.args.halves c.requires.0 refl c.if-halves-eq1.true,
+  sixes-reading c.args.halves c.args.ports c.args.places c.args.first c.sides.ensures c.if-halves-eq1.true c.requires.1,
+)
 
 pub returns-then-halves-eq1 : goal.returns-then-halves-eq1
 returns-then-halves-eq1 c =

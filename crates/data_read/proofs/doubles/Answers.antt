@@ -33,12 +33,11 @@ pub loop-i-smaller : goal.loop-i-smaller
 loop-i-smaller c = omega arith
 
 pub loop-i-preserved : goal.loop-i-preserved
-loop-i-preserved c =
-    (
-      omega (arith, c.loop-i.invariant.0),
-      omega arith,
-      double-on c.args.start c.args.n c.requires.1 c.loop-i.invariant.2 c.loop-i.invariant.0 c.loop-i-test.true c.six_at-x.ensures c.two_symbols.ensures.0 c.give.ensures,
-    )
+loop-i-preserved c = (
+  omega (arith, c.loop-i.invariant.0),
+  omega arith,
+  double-on c.args.start c.args.n c.requires.1 c.loop-i.invariant.2 c.loop-i.invariant.0 c.loop-i-test.true c.six_at-x.ensures c.two_symbols.ensures.0 c.give.ensures,
+)
 
 pub shape_of-part : goal.shape_of-part
 shape_of-part c = c.loop-i.invariant.2.size

@@ -28,10 +28,10 @@ overflow_add-first c =
 
 pub pair-requires : goal.pair-requires
 pair-requires c = (
-      sixes-last c.args.halves c.requires.0 c.sixes.ensures.size c.if-halves-eq1.true,
-      sixes-sending c.args.j
-          c.args.first c.args.halves c.sixes.ensures c.requires.1,
-    )
+  sixes-last c.args.halves c.requires.0 c.sixes.ensures.size c.if-halves-eq1.true,
+  sixes-sending c.args.j
+      c.args.first c.args.halves c.sixes.ensures c.requires.1,
+)
 
 pub returns-then-halves-eq1 : goal.returns-then-halves-eq1
 returns-then-halves-eq1 c =

@@ -18,12 +18,11 @@ pub overflow_add-j : goal.overflow_add-j
 overflow_add-j c = omega (arith, c.requires.1, c.loop-k-test.true)
 
 pub singles-requires : goal.singles-requires
-singles-requires c =
-    (
-      holes-next c.requires.0 c.loop-k.invariant c.loop-k-test.true c.smaller-n.ensures,
-      omega (arith, c.requires.1, c.loop-k-test.true, c.smaller-n.ensures.second),
-      later-sending c.requires.2 c.loop-k.invariant.done.stands,
-    )
+singles-requires c = (
+  holes-next c.requires.0 c.loop-k.invariant c.loop-k-test.true c.smaller-n.ensures,
+  omega (arith, c.requires.1, c.loop-k-test.true, c.smaller-n.ensures.second),
+  later-sending c.requires.2 c.loop-k.invariant.done.stands,
+)
 
 pub overflow_add-k : goal.overflow_add-k
 overflow_add-k c =

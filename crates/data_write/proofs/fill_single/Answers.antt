@@ -14,12 +14,11 @@ pub overflow_mul-halves : goal.overflow_mul-halves
 overflow_mul-halves c = omega (arith, c.requires.0.short)
 
 pub doubles-requires : goal.doubles-requires
-doubles-requires c =
-    (
-      doubles-in c.requires.0 c.holes_of-h.ensures,
-      omega (arith, six-total c.requires.0 c.holes_of-h.ensures c.if-h-eq0.true, c.requires.0.index),
-      c.requires.1,
-    )
+doubles-requires c = (
+  doubles-in c.requires.0 c.holes_of-h.ensures,
+  omega (arith, six-total c.requires.0 c.holes_of-h.ensures c.if-h-eq0.true, c.requires.0.index),
+  c.requires.1,
+)
 
 pub overflow_add-result : goal.overflow_add-result
 overflow_add-result c =
@@ -31,12 +30,11 @@ returns-then-h-eq0 c =
     (holes-total c.args.run c.holes_of-h.ensures c.requires.0.short).0 c.doubles.ensures
 
 pub between-requires : goal.between-requires
-between-requires c =
-    (
-      holes_in c.requires.0 c.holes_of-h.ensures c.if-h-eq0.false,
-      omega (arith, holes-total c.args.run c.holes_of-h.ensures c.requires.0.short, c.requires.0.index),
-      c.requires.1,
-    )
+between-requires c = (
+  holes_in c.requires.0 c.holes_of-h.ensures c.if-h-eq0.false,
+  omega (arith, holes-total c.args.run c.holes_of-h.ensures c.requires.0.short, c.requires.0.index),
+  c.requires.1,
+)
 
 pub overflow_add-result-2 : goal.overflow_add-result-2
 overflow_add-result-2 c =

@@ -21,11 +21,11 @@ loop-i-smaller c = omega (arith, c.loop-i.invariant.1)
 
 pub loop-i-preserved : goal.loop-i-preserved
 loop-i-preserved c = let l = c.loop-i in (
-      omega (arith, l.invariant.1),
-      length-set l.grid l.i 0 ∙ l.invariant.1,
-      set_more 0 (λ (j : ℕ). 0) l.grid l.i 0 (omega (arith, l.invariant.1)) refl
-          l.invariant.2,
-    )
+  omega (arith, l.invariant.1),
+  length-set l.grid l.i 0 ∙ l.invariant.1,
+  set_more 0 (λ (j : ℕ). 0) l.grid l.i 0 (omega (arith, l.invariant.1)) refl
+      l.invariant.2,
+)
 
 pub shape_of-grid : goal.shape_of-grid
 shape_of-grid c = c.loop-i.invariant.1

@@ -24,14 +24,14 @@ vacant_before-n-requires c =
 
 pub start-requires : goal.start-requires
 start-requires c = (
-      mod-lt _ (omega (
-        arith,
-        c.region_groups-quads.ensures.0,
-        quads-some c.args.cell c.args.frame c.requires.0 c.requires.1
-            c.requires.2 c.args.s c.args.t c.requires.3 c.requires.4,
-      )),
-      omega (arith, c.region_groups-quads.ensures.1),
-    )
+  mod-lt _ (omega (
+    arith,
+    c.region_groups-quads.ensures.0,
+    quads-some c.args.cell c.args.frame c.requires.0 c.requires.1
+        c.requires.2 c.args.s c.args.t c.requires.3 c.requires.4,
+  )),
+  omega (arith, c.region_groups-quads.ensures.1),
+)
 
 pub quad-requires : goal.quad-requires
 quad-requires c =

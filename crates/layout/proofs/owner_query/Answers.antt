@@ -11,10 +11,10 @@ returns-in_default c =
 
 pub owner_at-requires : goal.owner_at-requires
 owner_at-requires c = (
-      (sym c.check-checked.ensures ∙ c.in-Plan.is),
-      way-place c.args.plan.now c.args.s c.args.k c.args.port _
-          (sym c.check-checked.ensures ∙ c.in-Plan.is) _ c.in_grid.ensures c.if-in_grid.true,
-    )
+  (sym c.check-checked.ensures ∙ c.in-Plan.is),
+  way-place c.args.plan.now c.args.s c.args.k c.args.port _
+      (sym c.check-checked.ensures ∙ c.in-Plan.is) _ c.in_grid.ensures c.if-in_grid.true,
+)
 
 pub returns-then-in_grid : goal.returns-then-in_grid
 returns-then-in_grid c =

@@ -34,17 +34,17 @@ overflow_add-from c =
 
 pub ring_below-requires : goal.ring_below-requires
 ring_below-requires c = (
-      omega (
-        arith,
-        mod-lt c.start_number.result c.groups_left-h.ensures.1,
-        c.groups_left-h.ensures.2,
-        quad-product
-            c.args.i c.groups_left-h.result c.requires.3 c.groups_left-h.ensures.2,
-      ),
-      omega
-          (arith, c.units.ensures, units-few c.args.cell (omega arith) (omega arith)),
-      omega arith,
-    )
+  omega (
+    arith,
+    mod-lt c.start_number.result c.groups_left-h.ensures.1,
+    c.groups_left-h.ensures.2,
+    quad-product
+        c.args.i c.groups_left-h.result c.requires.3 c.groups_left-h.ensures.2,
+  ),
+  omega
+      (arith, c.units.ensures, units-few c.args.cell (omega arith) (omega arith)),
+  omega arith,
+)
 
 pub returns : goal.returns
 returns c =

@@ -46,10 +46,10 @@ loop-i-smaller c = omega arith
 
 pub loop-i-preserved : goal.loop-i-preserved
 loop-i-preserved c = (
-      omega (arith, c.loop-i.invariant.0),
-      sym
-          (unit-passed c.args.cell c.args.s c.args.d c.loop-i.i c.loop-i-test.true c.quad_in.ensures c.if-quad_in.false) ∙ c.loop-i.invariant.1,
-    )
+  omega (arith, c.loop-i.invariant.0),
+  sym
+      (unit-passed c.args.cell c.args.s c.args.d c.loop-i.i c.loop-i-test.true c.quad_in.ensures c.if-quad_in.false) ∙ c.loop-i.invariant.1,
+)
 
 pub returns : goal.returns
 returns c = unit-none c.args.cell c.args.s c.args.d (omega arith) ∙ c.loop-i.invariant.1

@@ -26,13 +26,12 @@ pub loop-left-smaller : goal.loop-left-smaller
 loop-left-smaller c = omega arith
 
 pub loop-left-preserved : goal.loop-left-preserved
-loop-left-preserved c =
-    (
-      omega arith,
-      λ n. user-passed c.args.plan.now c.loop-left.at c.args.k (c.args.count - c.loop-left.left) _ c.user_at.ensures _
-          c.blocks_have.ensures c.loop-left.left (omega arith) c.if-blocks_have.false _ c.next_at-at.ensures (c.args.count - (c.loop-left.left - 1))
-          (omega arith) n ∙ c.loop-left.invariant.1 n,
-    )
+loop-left-preserved c = (
+  omega arith,
+  λ n. user-passed c.args.plan.now c.loop-left.at c.args.k (c.args.count - c.loop-left.left) _ c.user_at.ensures _
+      c.blocks_have.ensures c.loop-left.left (omega arith) c.if-blocks_have.false _ c.next_at-at.ensures (c.args.count - (c.loop-left.left - 1))
+      (omega arith) n ∙ c.loop-left.invariant.1 n,
+)
 
 pub returns : goal.returns
 returns c =

@@ -32,14 +32,13 @@ loop-n-smaller c =
     omega (arith, c.loop-n-test.true)
 
 pub loop-n-preserved : goal.loop-n-preserved
-loop-n-preserved c =
-    (
-      before-next c.args.cell c.loop-n.n c.args.k c.args.s c.group_size-size.ensures c.one_below.ensures.0
-          c.vacant_below-sum.ensures.0 c.loop-n.invariant.0,
-      omega (arith, c.loop-n-test.true),
-      omega
-          (arith, c.vacant_below-sum.ensures.1, c.loop-n.invariant.2),
-    )
+loop-n-preserved c = (
+  before-next c.args.cell c.loop-n.n c.args.k c.args.s c.group_size-size.ensures c.one_below.ensures.0
+      c.vacant_below-sum.ensures.0 c.loop-n.invariant.0,
+  omega (arith, c.loop-n-test.true),
+  omega
+      (arith, c.vacant_below-sum.ensures.1, c.loop-n.invariant.2),
+)
 
 pub returns : goal.returns
 returns c =

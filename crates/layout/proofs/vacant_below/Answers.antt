@@ -6,21 +6,21 @@ use Rattle.layout.proofs.vacant_below.Goals as goal
 
 pub quads_below-first-requires : goal.quads_below-first-requires
 quads_below-first-requires c = (
-      c.requires.0,
-      c.requires.1,
-      number-few c.args.cell c.requires.0 c.requires.1 c.args.s c.args.t c.requires.2 c.requires.3
-          c.left_below-n.ensures,
-      omega arith,
-    )
+  c.requires.0,
+  c.requires.1,
+  number-few c.args.cell c.requires.0 c.requires.1 c.args.s c.args.t c.requires.2 c.requires.3
+      c.left_below-n.ensures,
+  omega arith,
+)
 
 pub quads_below-second-requires : goal.quads_below-second-requires
 quads_below-second-requires c = (
-      c.requires.0,
-      c.requires.1,
-      number-few c.args.cell c.requires.0 c.requires.1 c.args.s c.args.t c.requires.2 c.requires.3
-          c.left_below-n.ensures,
-      omega arith,
-    )
+  c.requires.0,
+  c.requires.1,
+  number-few c.args.cell c.requires.0 c.requires.1 c.args.s c.args.t c.requires.2 c.requires.3
+      c.left_below-n.ensures,
+  omega arith,
+)
 
 pub overflow_add-result : goal.overflow_add-result
 overflow_add-result c =
@@ -34,12 +34,12 @@ overflow_add-result c =
 
 pub quads_below-requires : goal.quads_below-requires
 quads_below-requires c = (
-      c.requires.0,
-      c.requires.1,
-      number-few c.args.cell c.requires.0 c.requires.1 c.args.s c.args.t c.requires.2 c.requires.3
-          c.left_below-n.ensures,
-      omega arith,
-    )
+  c.requires.0,
+  c.requires.1,
+  number-few c.args.cell c.requires.0 c.requires.1 c.args.s c.args.t c.requires.2 c.requires.3
+      c.left_below-n.ensures,
+  omega arith,
+)
 
 pub overflow_add-result-2 : goal.overflow_add-result-2
 overflow_add-result-2 c =

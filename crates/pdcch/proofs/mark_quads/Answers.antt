@@ -110,20 +110,19 @@ loop-m-smaller c =
     omega (arith, c.loop-m-test.true)
 
 pub loop-m-preserved : goal.loop-m-preserved
-loop-m-preserved c =
-    (
-      marked_more c.args.taken.now c.loop-m.taken _ c.loop-m.invariant.0
-          (omega (
-            arith,
-            ring-here (ring (goal.at.loop-m-preserved c).After-start_number) c.loop-m.m c.loop-m.invariant.1 c.group_of.ensures,
-            ring-small (ring (goal.at.loop-m-preserved c).After-start_number)
-                c.requires.1 c.loop-m.m,
-          ))
-          (ring-here (ring (goal.at.loop-m-preserved c).After-start_number) c.loop-m.m c.loop-m.invariant.1 c.group_of.ensures) c.add.ensures,
-      ring-next _ c.loop-m.m
-          _ c.loop-m.invariant.1 c.around-n.ensures,
-      omega (arith, c.loop-m-test.true),
-    )
+loop-m-preserved c = (
+  marked_more c.args.taken.now c.loop-m.taken _ c.loop-m.invariant.0
+      (omega (
+        arith,
+        ring-here (ring (goal.at.loop-m-preserved c).After-start_number) c.loop-m.m c.loop-m.invariant.1 c.group_of.ensures,
+        ring-small (ring (goal.at.loop-m-preserved c).After-start_number)
+            c.requires.1 c.loop-m.m,
+      ))
+      (ring-here (ring (goal.at.loop-m-preserved c).After-start_number) c.loop-m.m c.loop-m.invariant.1 c.group_of.ensures) c.add.ensures,
+  ring-next _ c.loop-m.m
+      _ c.loop-m.invariant.1 c.around-n.ensures,
+  omega (arith, c.loop-m-test.true),
+)
 
 pub shape_of-taken : goal.shape_of-taken
 shape_of-taken c =

@@ -34,10 +34,10 @@ loop-i-smaller c =
 
 pub loop-i-preserved : goal.loop-i-preserved
 loop-i-preserved c = (
-      block_more c.args.taken.now c.args.starts.now c.args.base c.args.c c.args.groups.now c.loop-i.invariant.0
-          c.put_group-cursor.ensures.0 c.put_group-cursor.ensures.1,
-      omega (arith, c.loop-i-test.true),
-    )
+  block_more c.args.taken.now c.args.starts.now c.args.base c.args.c c.args.groups.now c.loop-i.invariant.0
+      c.put_group-cursor.ensures.0 c.put_group-cursor.ensures.1,
+  omega (arith, c.loop-i-test.true),
+)
 
 pub returns : goal.returns
 returns c =

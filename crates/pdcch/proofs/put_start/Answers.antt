@@ -13,11 +13,11 @@ returns-then-k-ne0 c =
 
 pub quad_place-requires : goal.quad_place-requires
 quad_place-requires c = (
-      c.requires.2,
-      group-of-four c.args.cell c.requires.0 c.args.k c.args.s c.requires.1 c.group_size.ensures
-          c.if-group_size-eq4.true,
-      omega arith,
-    )
+  c.requires.2,
+  group-of-four c.args.cell c.requires.0 c.args.k c.args.s c.requires.1 c.group_size.ensures
+      c.if-group_size-eq4.true,
+  omega arith,
+)
 
 pub overflow_mul-starts : goal.overflow_mul-starts
 overflow_mul-starts c =

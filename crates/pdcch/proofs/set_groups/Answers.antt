@@ -17,24 +17,24 @@ set_taken-requires c =
 
 pub set_starts-count-requires : goal.set_starts-count-requires
 set_starts-count-requires c = (
-      c.requires.0.cell,
-      some-symbols c.args.cell c.args.frame c.requires.0 c.control_symbols-symbols.ensures
-          c.region_groups-quads.ensures.0,
-      few-symbols c.args.cell c.args.frame c.requires.0 c.control_symbols-symbols.ensures
-          c.region_groups-quads.ensures.0,
-      refl,
-    )
+  c.requires.0.cell,
+  some-symbols c.args.cell c.args.frame c.requires.0 c.control_symbols-symbols.ensures
+      c.region_groups-quads.ensures.0,
+  few-symbols c.args.cell c.args.frame c.requires.0 c.control_symbols-symbols.ensures
+      c.region_groups-quads.ensures.0,
+  refl,
+)
 
 pub start-cursor-requires : goal.start-cursor-requires
 start-cursor-requires c = (
-      mod-lt _
-          (some-quads c.args.cell c.args.frame c.requires.0 c.control_symbols-symbols.ensures c.region_groups-quads.ensures.0),
-      omega (
-        arith,
-        few-quads c.args.cell c.args.frame c.requires.0 c.control_symbols-symbols.ensures
-            c.region_groups-quads.ensures.0,
-      ),
-    )
+  mod-lt _
+      (some-quads c.args.cell c.args.frame c.requires.0 c.control_symbols-symbols.ensures c.region_groups-quads.ensures.0),
+  omega (
+    arith,
+    few-quads c.args.cell c.args.frame c.requires.0 c.control_symbols-symbols.ensures
+        c.region_groups-quads.ensures.0,
+  ),
+)
 
 pub loop-block-init : goal.loop-block-init
 loop-block-init c =

@@ -9,13 +9,13 @@ loop-k-init c = (starts_none c.args.cell c.args.symbols (omega arith) c.requires
 
 pub put_start-n-requires : goal.put_start-n-requires
 put_start-n-requires c = (
-      c.requires.0,
-      c.loop-k-test.true,
-      omega (arith, c.loop-k.invariant.1, c.requires.2),
-      starts-room c.args.cell c.args.symbols
-          c.requires.2 c.loop-k.k c.loop-k.s c.loop-k.n c.loop-k.starts c.loop-k.invariant c.loop-k-test.true,
-      c.loop-k.invariant.0.size,
-    )
+  c.requires.0,
+  c.loop-k-test.true,
+  omega (arith, c.loop-k.invariant.1, c.requires.2),
+  starts-room c.args.cell c.args.symbols
+      c.requires.2 c.loop-k.k c.loop-k.s c.loop-k.n c.loop-k.starts c.loop-k.invariant c.loop-k-test.true,
+  c.loop-k.invariant.0.size,
+)
 
 pub overflow_add-s : goal.overflow_add-s
 overflow_add-s c =

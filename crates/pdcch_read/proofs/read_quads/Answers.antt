@@ -30,10 +30,10 @@ unscrambled-requires c = c.read_entry-w.ensures.few
 
 pub overflow_add-part : goal.overflow_add-part
 overflow_add-part c = omega (
-      arith,
-      quads-room c.loop-i.invariant c.requires.1
-          c.loop-i-test.true,
-    )
+  arith,
+  quads-room c.loop-i.invariant c.requires.1
+      c.loop-i-test.true,
+)
 
 pub bounds-part-at : goal.bounds-part-at
 bounds-part-at c =

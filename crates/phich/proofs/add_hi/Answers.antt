@@ -33,12 +33,11 @@ flipped-requires c =
     chip-flips _ _ _ (row-chip c.sequence-row.ensures c.loop-n-test.true c.plain_chip-chip.ensures)
 
 pub add_at-requires : goal.add_at-requires
-add_at-requires c =
-    (
-      c.loop-n.invariant.added.size ∙ c.loop-n.invariant.size,
-      (place-fits c.requires.1 c.wide-in-loop-n.ensures c.loop-n-test.true).2,
-      flipped-chip _ _ _ c.args.b (row-chip c.sequence-row.ensures c.loop-n-test.true c.plain_chip-chip.ensures) c.flipped.ensures,
-    )
+add_at-requires c = (
+  c.loop-n.invariant.added.size ∙ c.loop-n.invariant.size,
+  (place-fits c.requires.1 c.wide-in-loop-n.ensures c.loop-n-test.true).2,
+  flipped-chip _ _ _ c.args.b (row-chip c.sequence-row.ensures c.loop-n-test.true c.plain_chip-chip.ensures) c.flipped.ensures,
+)
 
 pub overflow_add-n : goal.overflow_add-n
 overflow_add-n c =

@@ -23,10 +23,10 @@ add_hi-requires c = (
 
 pub overflow_add-k : goal.overflow_add-k
 overflow_add-k c = omega (
-      arith,
-      c.loop-k-test.true,
-      c.ranges.count,
-    )
+  arith,
+  c.loop-k-test.true,
+  c.ranges.count,
+)
 
 pub loop-k-smaller : goal.loop-k-smaller
 loop-k-smaller c = omega (arith, c.loop-k-test.true)

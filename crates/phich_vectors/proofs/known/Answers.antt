@@ -12,9 +12,9 @@ returns-then-l-q c = λ e. absurd (subst (λ (b : Bool). T (cond b false true)) 
 
 pub overflow_mul-result : goal.overflow_mul-result
 overflow_mul-result c = omega (
-      arith,
-      group-fits c.wide.result c.args.l (omega (arith, c.wide.ensures, c.wide.type_inv)) c.requires.1,
-    )
+  arith,
+  group-fits c.wide.result c.args.l (omega (arith, c.wide.ensures, c.wide.type_inv)) c.requires.1,
+)
 
 pub returns : goal.returns
 returns c = λ e. hi-known c.requires c.wide-q.ensures c.wide.ensures (omega (arith, c.if-l-q.false))

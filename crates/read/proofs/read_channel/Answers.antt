@@ -32,12 +32,11 @@ returns-in-Pbch c =
     (c.requires.axis, pbch-after c.requires c.present.ensures (ap not c.if-not-present.false) c.in-Pbch.is c.read_pbch.ensures)
 
 pub returns-in-User : goal.returns-in-User
-returns-in-User c =
-    (
-      (c.axis_for.ensures.size, λ z. c.axis_for.ensures),
-      user-after c.requires c.present.ensures (ap not c.if-not-present.false) c.in-User.is
-          _ c.user_area-area.ensures _ c.started.ensures c.read_area.ensures,
-    )
+returns-in-User c = (
+  (c.axis_for.ensures.size, λ z. c.axis_for.ensures),
+  user-after c.requires c.present.ensures (ap not c.if-not-present.false) c.in-User.is
+      _ c.user_area-area.ensures _ c.started.ensures c.read_area.ensures,
+)
 
 pub returns-in_default : goal.returns-in_default
 returns-in_default c =

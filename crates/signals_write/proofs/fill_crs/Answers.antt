@@ -14,12 +14,11 @@ fill_values-requires c =
     one_inside c.requires c.crs_port-port.ensures c.crs_at-first.ensures c.wide-n.ensures
 
 pub returns-then-cell-eq1 : goal.returns-then-cell-eq1
-returns-then-cell-eq1 c =
-    (
-      one-done c.requires c.crs_port-port.ensures c.crs_at-first.ensures c.wide-n.ensures (writing c.args.grid.now) c.args.r c.if-cell-eq1.true
-          c.fill_values.ensures.0,
-      crs-given c.wide-n.ensures c.args.r c.fill_values.ensures.1,
-    )
+returns-then-cell-eq1 c = (
+  one-done c.requires c.crs_port-port.ensures c.crs_at-first.ensures c.wide-n.ensures (writing c.args.grid.now) c.args.r c.if-cell-eq1.true
+      c.fill_values.ensures.0,
+  crs-given c.wide-n.ensures c.args.r c.fill_values.ensures.1,
+)
 
 pub overflow_add-port : goal.overflow_add-port
 overflow_add-port c =
@@ -34,9 +33,8 @@ fill_values_on_both-requires c =
     both-inside c.requires c.crs_port-port.ensures c.crs_at-first.ensures c.wide-n.ensures c.if-cell-eq1.false c.crs_at-second.ensures
 
 pub returns : goal.returns
-returns c =
-    (
-      both-done c.requires c.crs_port-port.ensures c.crs_at-first.ensures c.wide-n.ensures c.if-cell-eq1.false c.crs_at-second.ensures
-          (writing c.args.grid.now) c.args.r c.fill_values_on_both.ensures.0,
-      crs-given c.wide-n.ensures c.args.r c.fill_values_on_both.ensures.1,
-    )
+returns c = (
+  both-done c.requires c.crs_port-port.ensures c.crs_at-first.ensures c.wide-n.ensures c.if-cell-eq1.false c.crs_at-second.ensures
+      (writing c.args.grid.now) c.args.r c.fill_values_on_both.ensures.0,
+  crs-given c.wide-n.ensures c.args.r c.fill_values_on_both.ensures.1,
+)

@@ -51,9 +51,9 @@ loop-turn-preserved c =
     let so = c.loop-turn.invariant in let is = c.channel_at-ch.ensures in let has = c.present.ensures in
     let next = after c.next-turn.ensures (passing (due so c.loop-turn-test.true) is c.section_of-section.ensures) in
     elim c.if-present.branch [
-      then-present w ↦
-        rw w.seen-is (going_more so c.loop-turn-test.true is _ next (sym has ∙ w.if-present.true) _ w.compare_channel.ensures w.together-seen.ensures)
-    | else-present w ↦ rw w.seen-is (going-pass so c.loop-turn-test.true is _ next (sym has ∙ w.if-present.false))
+      | then-present w ↦
+          rw w.seen-is (going_more so c.loop-turn-test.true is _ next (sym has ∙ w.if-present.true) _ w.compare_channel.ensures w.together-seen.ensures)
+      | else-present w ↦ rw w.seen-is (going-pass so c.loop-turn-test.true is _ next (sym has ∙ w.if-present.false))
     ]
 
 pub returns : goal.returns

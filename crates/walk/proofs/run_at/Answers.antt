@@ -14,12 +14,11 @@ pub overflow_sub-result : goal.overflow_sub-result
 overflow_sub-result c = omega (arith, c.requires.span (omega arith))
 
 pub returns-then-i-last : goal.returns-then-i-last
-returns-then-i-last c =
-    (
-      span_run c.args.rows.now c.args.c c.byte-last.ensures.0 c.args.carriers c.args.spans.now c.if-i-last.true
-          c.byte-mask.ensures.0 c.byte-from.ensures.0 c.byte-to.ensures.0,
-      omega (arith, c.byte-to.ensures.1),
-    )
+returns-then-i-last c = (
+  span_run c.args.rows.now c.args.c c.byte-last.ensures.0 c.args.carriers c.args.spans.now c.if-i-last.true
+      c.byte-mask.ensures.0 c.byte-from.ensures.0 c.byte-to.ensures.0,
+  omega (arith, c.byte-to.ensures.1),
+)
 
 pub returns : goal.returns
 returns c =
