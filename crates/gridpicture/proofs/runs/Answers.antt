@@ -3,13 +3,13 @@ use native.Mathlib.Omega.{arith}
 use Rattle.gridpicture.proofs.runs.Goals as goal
 
 pub loop-at-init : goal.loop-at-init
-loop-at-init c = omega arith
+loop-at-init g c = omega arith
 
 pub overflow_sub-end : goal.overflow_sub-end
-overflow_sub-end c = omega arith
+overflow_sub-end g c = omega arith
 
 pub loop-at-smaller : goal.loop-at-smaller
-loop-at-smaller c = omega arith
+loop-at-smaller g c = omega arith
 
 pub loop-at-preserved : goal.loop-at-preserved
-loop-at-preserved c = omega arith
+loop-at-preserved g c = omega arith

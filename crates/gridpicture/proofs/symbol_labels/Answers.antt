@@ -3,19 +3,19 @@ use native.Mathlib.Omega.{arith}
 use Rattle.gridpicture.proofs.symbol_labels.Goals as goal
 
 pub loop-s-init : goal.loop-s-init
-loop-s-init c = omega arith
+loop-s-init g c = omega arith
 
 pub overflow_add-row_top : goal.overflow_add-row_top
-overflow_add-row_top c = omega arith
+overflow_add-row_top g c = omega arith
 
 pub overflow_add-s : goal.overflow_add-s
-overflow_add-s c = omega arith
+overflow_add-s g c = omega arith
 
 pub loop-s-smaller : goal.loop-s-smaller
-loop-s-smaller c = omega arith
+loop-s-smaller g c = omega arith
 
 pub loop-s-preserved : goal.loop-s-preserved
-loop-s-preserved c = omega arith
+loop-s-preserved g c = omega arith
 
 pub text-requires-2 : goal.text-requires-2
-text-requires-2 c = omega arith
+text-requires-2 g c = omega arith

@@ -3,13 +3,13 @@ use native.Mathlib.Omega.{arith}
 use Rattle.gridtext.proofs.band.Goals as goal
 
 pub loop-s-init : goal.loop-s-init
-loop-s-init c = omega arith
+loop-s-init g c = omega arith
 
 pub overflow_add-s : goal.overflow_add-s
-overflow_add-s c = omega arith
+overflow_add-s g c = omega arith
 
 pub loop-s-smaller : goal.loop-s-smaller
-loop-s-smaller c = omega arith
+loop-s-smaller g c = omega arith
 
 pub loop-s-preserved : goal.loop-s-preserved
-loop-s-preserved c = omega arith
+loop-s-preserved g c = omega arith

@@ -3,13 +3,13 @@ use native.Mathlib.Omega.{arith}
 use Rattle.gridtext.proofs.print_marks.Goals as goal
 
 pub loop-i-init : goal.loop-i-init
-loop-i-init c = omega arith
+loop-i-init g c = omega arith
 
 pub overflow_add-i : goal.overflow_add-i
-overflow_add-i c = omega arith
+overflow_add-i g c = omega arith
 
 pub loop-i-smaller : goal.loop-i-smaller
-loop-i-smaller c = omega arith
+loop-i-smaller g c = omega arith
 
 pub loop-i-preserved : goal.loop-i-preserved
-loop-i-preserved c = omega arith
+loop-i-preserved g c = omega arith
