@@ -156,9 +156,9 @@ fn cell_words(rt: &impl Print, c: Cell) -> io::Result<()> {
     numbered(rt, b"Cell ", c.identity)?;
     numbered(rt, b", ", c.blocks as u16)?;
     if c.prefix == 1 {
-        print::text(rt, b" blocks, extended prefix")
+        print::text(rt, b" blocks, extended prefix")?;
     } else {
-        print::text(rt, b" blocks, normal prefix")
+        print::text(rt, b" blocks, normal prefix")?;
     }
     numbered(rt, b", ", c.ports as u16)?;
     if c.ports == 1 {
