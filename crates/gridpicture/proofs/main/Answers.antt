@@ -9,7 +9,7 @@ pub slice_bounds-read_full-end : goal.slice_bounds-read_full-end
 slice_bounds-read_full-end c = sym (length-replicate {0} {A = ℕ} 65537 0)
 
 pub slice_bounds-buffer-end : goal.slice_bounds-buffer-end
-slice_bounds-buffer-end c = c.in_ok-n.ensures
+slice_bounds-buffer-end c = c.in_ok-n.ensures.within
 
 pub slice_bounds-start-end : goal.slice_bounds-start-end
-slice_bounds-start-end c = sym (length-take-le c.in_ok-n.n c.read_full.new.buffer c.in_ok-n.ensures)
+slice_bounds-start-end c = sym (length-take-le c.in_ok-n.n c.read_full.new.buffer c.in_ok-n.ensures.within)
