@@ -4,67 +4,90 @@
 
 use build::Built;
 use records::value;
+use std::io;
 
-fn answer(b: Built) {
+fn answer(rt: &impl Print, b: Built) -> io::Result<()> {
     match b {
-        Built::Elements(n) => print::number(n as u64),
+        Built::Elements(n) => print::number(rt, n as u64),
         Built::Refused(r) => {
-            print::text(b"refused ");
-            print::number(plan::number(r) as u64);
+            print::text(rt, b"refused ")?;
+            print::number(rt, plan::number(r) as u64)
         }
     }
 }
 
-fn call(number: usize, plan: &[u8], payload: &[u8], grid: &mut [u8]) {
+fn call(
+    rt: &impl Print,
+    number: usize,
+    plan: &[u8],
+    payload: &[u8],
+    grid: &mut [u8],
+) -> io::Result<()> {
     records::fill(grid);
     let b = build::build(plan, payload, grid);
-    print::number(number as u64);
-    print::space();
-    answer(b);
-    print::space();
-    records::show(records::added(records::empty(), grid));
-    print::line();
+    print::number(rt, number as u64)?;
+    print::space(rt)?;
+    answer(rt, b)?;
+    print::space(rt)?;
+    records::show(rt, records::added(records::empty(), grid))?;
+    print::line(rt)
 }
 
 // One call, on the first n bytes of a buffer.
-fn lend(number: usize, plan: &[u8], payload: &[u8], n: usize, buffer: &mut [u8]) {
+fn lend(
+    rt: &impl Print,
+    number: usize,
+    plan: &[u8],
+    payload: &[u8],
+    n: usize,
+    buffer: &mut [u8],
+) -> io::Result<()> {
     if n <= buffer.len() {
-        call(number, plan, payload, &mut buffer[..n]);
+        call(rt, number, plan, payload, &mut buffer[..n])?;
     }
+    Ok(())
 }
 
 // The record that the bytes start with: a byte for the length to lend, the plan's length in two bytes, the plan, the payload's
 // length in four bytes, the payload. Answers with the record's length, 0 for one that is cut off.
-fn record(number: usize, bytes: &[u8]) -> usize {
+fn record(rt: &impl Print, number: usize, bytes: &[u8]) -> io::Result<usize> {
     if bytes.len() < 3 {
-        return 0;
+        return Ok(0);
     }
     let end = 3 + value(&bytes[1..3]);
     let start = end + 4;
     if bytes.len() < start {
-        return 0;
+        return Ok(0);
     }
     let last = start + value(&bytes[end..start]);
     if bytes.len() < last {
-        return 0;
+        return Ok(0);
     }
     let mut buffer = [0u8; 201601];
     let n = records::lent(records::wanted(&bytes[3..end]), bytes[0]);
-    lend(number, &bytes[3..end], &bytes[start..last], n, &mut buffer);
-    last
+    lend(
+        rt,
+        number,
+        &bytes[3..end],
+        &bytes[start..last],
+        n,
+        &mut buffer,
+    )?;
+    Ok(last)
 }
 
-fn walk(input: &[u8]) {
+fn walk(rt: &impl Print, input: &[u8]) -> io::Result<()> {
     let mut number = 0;
     let mut at = 0;
     while at < input.len() {
         number += 1;
-        at = records::next_at(input, at, record(number, &input[at..]));
+        at = records::next_at(input, at, record(rt, number, &input[at..])?);
     }
+    Ok(())
 }
 
-fn main() {
+fn main(rt: HostRuntime) -> io::Result<()> {
     let mut buffer = [0u8; 400000];
-    let n = io::read_full(0, &mut buffer);
-    walk(&buffer[..n]);
+    let n = input::read_full(&mut rt.stdin(), &mut buffer)?;
+    walk(&rt, &buffer[..n])
 }

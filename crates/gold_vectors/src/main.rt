@@ -4,68 +4,70 @@
 ghost use Rattle.std.specs.Prelude.{◌≤◌};
 
 use gold::Registers;
+use std::io;
 
 // x1(1600), .., x1(1630): the register of x1 at c(0).
-fn first_register() {
+fn first_register(rt: &impl Print) -> io::Result<()> {
     let r = gold::pair_at(0, 0);
-    print::text(b"x1 ");
-    show::bits(r.x1, 31);
-    print::line();
+    print::text(rt, b"x1 ")?;
+    show::bits(rt, r.x1, 31)?;
+    print::line(rt)
 }
 
 // c(first), .., c(first+27) of a c_init, from the pair at c(first).
-fn part(c_init: u32, first: usize, r: Registers) {
-    print::text(b"c ");
-    print::number(c_init as u64);
-    print::space();
-    print::number(first as u64);
-    print::space();
-    show::bits(gold::word(r, 28), 28);
-    print::line();
+fn part(rt: &impl Print, c_init: u32, first: usize, r: Registers) -> io::Result<()> {
+    print::text(rt, b"c ")?;
+    print::number(rt, c_init as u64)?;
+    print::space(rt)?;
+    print::number(rt, first as u64)?;
+    print::space(rt)?;
+    show::bits(rt, gold::word(r, 28), 28)?;
+    print::line(rt)
 }
 
 // The first four parts one after the other, then two further on.
-fn parts(c_init: u32) {
+fn parts(rt: &impl Print, c_init: u32) -> io::Result<()> {
     let mut r = gold::pair_at(c_init, 0);
     let mut first: usize = 0;
     while first < 112 {
-        part(c_init, first, r);
+        part(rt, c_init, first, r)?;
         r = gold::advance(r, 28);
         first += 28;
     }
-    part(c_init, 5000, gold::pair_at(c_init, 5000));
-    part(c_init, 20001, gold::pair_at(c_init, 20001));
+    part(rt, c_init, 5000, gold::pair_at(c_init, 5000))?;
+    part(rt, c_init, 20001, gold::pair_at(c_init, 20001))
 }
 
 // The word c(7), .., c(7+n-1). The loop of `words` goes from 1 to 28.
-fn word(n: u32)
+fn word(rt: &impl Print, n: u32) -> io::Result<()>
     requires { (1 ≤ n) × (n ≤ 28) }
 {
-    print::text(b"n ");
-    print::number(n as u64);
-    print::space();
-    print::number(gold::word(gold::pair_at(1000000, 7), n) as u64);
-    print::line();
+    print::text(rt, b"n ")?;
+    print::number(rt, n as u64)?;
+    print::space(rt)?;
+    print::number(rt, gold::word(gold::pair_at(1000000, 7), n) as u64)?;
+    print::line(rt)
 }
 
-fn words() {
+fn words(rt: &impl Print) -> io::Result<()> {
     let mut n: u32 = 1;
     while n <= 28 {
-        word(n);
+        word(rt, n)?;
         n += 1;
     }
+    Ok(())
 }
 
-fn main() {
-    first_register();
-    parts(0);
-    parts(1);
-    parts(2);
-    parts(503);
-    parts(16384);
-    parts(123456789);
-    parts(1431655765);
-    parts(1610612736);
-    parts(2147483647);
-    words();
+fn main(rt: HostRuntime) -> io::Result<()> {
+    first_register(&rt)?;
+    parts(&rt, 0)?;
+    parts(&rt, 1)?;
+    parts(&rt, 2)?;
+    parts(&rt, 503)?;
+    parts(&rt, 16384)?;
+    parts(&rt, 123456789)?;
+    parts(&rt, 1431655765)?;
+    parts(&rt, 1610612736)?;
+    parts(&rt, 2147483647)?;
+    words(&rt)
 }

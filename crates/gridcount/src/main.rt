@@ -3,38 +3,39 @@
 #![tactic(auto)]
 
 use counted::Counted;
+use std::io;
 
-fn entry(name: &[u8], count: usize) {
-    print::text(name);
-    print::number(count as u64);
-    print::line();
+fn entry(rt: &impl Print, name: &[u8], count: usize) -> io::Result<()> {
+    print::text(rt, name)?;
+    print::number(rt, count as u64)?;
+    print::line(rt)
 }
 
-fn lines(c: [usize; 9]) {
-    entry(b"CRS ", c[0]);
-    entry(b"PSS ", c[1]);
-    entry(b"SSS ", c[2]);
-    entry(b"PBCH ", c[3]);
-    entry(b"PCFICH ", c[4]);
-    entry(b"PHICH ", c[5]);
-    entry(b"PDSCH ", c[6]);
-    entry(b"held ", c[7]);
-    entry(b"idle ", c[8]);
+fn lines(rt: &impl Print, c: [usize; 9]) -> io::Result<()> {
+    entry(rt, b"CRS ", c[0])?;
+    entry(rt, b"PSS ", c[1])?;
+    entry(rt, b"SSS ", c[2])?;
+    entry(rt, b"PBCH ", c[3])?;
+    entry(rt, b"PCFICH ", c[4])?;
+    entry(rt, b"PHICH ", c[5])?;
+    entry(rt, b"PDSCH ", c[6])?;
+    entry(rt, b"held ", c[7])?;
+    entry(rt, b"idle ", c[8])
 }
 
-fn answer(a: Counted) {
+fn answer(rt: &impl Print, a: Counted) -> io::Result<()> {
     if a.refusal == 0 {
         let c = a.counts;
-        lines(c);
+        lines(rt, c)
     } else {
-        entry(b"refused ", a.refusal as usize);
+        entry(rt, b"refused ", a.refusal as usize)
     }
 }
 
 // Two length bytes, the longest plan (65,535 bytes) and the longest payload (below 17,000 bytes) leave bytes over, so a full
 // buffer is an input with more payload than any plan asks for.
-fn main() {
+fn main(rt: HostRuntime) -> io::Result<()> {
     let mut buffer = [0u8; 90000];
-    let n = io::read_full(0, &mut buffer);
-    answer(mapper::gridcount(&buffer[..n]));
+    let n = input::read_full(&mut rt.stdin(), &mut buffer)?;
+    answer(&rt, mapper::gridcount(&buffer[..n]))
 }

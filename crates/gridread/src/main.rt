@@ -6,39 +6,45 @@ ghost use Rattle.std.specs.Prelude.{◌≤◌, length};
 
 use mapper::Number;
 use read::ReadBack;
+use std::io;
 
-fn fill(plan: &[u8], grid: &[u8], payload: &mut [u8]) {
+fn fill(
+    rt: &(impl Print + Eprint),
+    plan: &[u8],
+    grid: &[u8],
+    payload: &mut [u8],
+) -> io::Result<()> {
     match mapper::read_grid(plan, grid, payload) {
-        ReadBack::Elements(_) => words::output(payload),
-        ReadBack::Refused(r) => words::refused(plan::number(r)),
+        ReadBack::Elements(_) => words::output(rt, payload),
+        ReadBack::Refused(r) => words::refused(rt, plan::number(r)),
     }
 }
 
 // Lends as many bytes as the plan's payload has.
-fn lend(plan: &[u8], grid: &[u8], buffer: &mut [u8])
+fn lend(rt: &(impl Print + Eprint), plan: &[u8], grid: &[u8], buffer: &mut [u8]) -> io::Result<()>
     requires { 17000 ≤ length buffer.old }
 {
     match mapper::payload_length(plan) {
-        Number::Is(n) => fill(plan, grid, &mut buffer[..n]),
-        Number::Refused(r) => words::refused(plan::number(r)),
+        Number::Is(n) => fill(rt, plan, grid, &mut buffer[..n]),
+        Number::Refused(r) => words::refused(rt, plan::number(r)),
     }
 }
 
-fn answer(input: &[u8]) {
+fn answer(rt: &(impl Print + Eprint), input: &[u8]) -> io::Result<()> {
     let end = counted::plan_end(input);
     if end < 2 {
-        words::refused(1);
-        return;
+        words::refused(rt, 1)?;
+        return Ok(());
     }
     // No plan has a longer payload: 16,800 places of eight bits, PBCH, 200 HIs, and the spare bits of 100 users.
     let mut buffer = [0u8; 17000];
-    lend(&input[2..end], &input[end..], &mut buffer);
+    lend(rt, &input[2..end], &input[end..], &mut buffer)
 }
 
 // Two length bytes, the longest plan (65,535 bytes) and the largest grid (201,600 bytes) leave bytes over, so a full buffer is an
 // input with a longer grid than any plan has.
-fn main() {
+fn main(rt: HostRuntime) -> io::Result<()> {
     let mut buffer = [0u8; 270000];
-    let n = io::read_full(0, &mut buffer);
-    answer(&buffer[..n]);
+    let n = input::read_full(&mut rt.stdin(), &mut buffer)?;
+    answer(&rt, &buffer[..n])
 }

@@ -5,6 +5,7 @@
 ghost use Rattle.std.specs.Prelude.{◌≤◌};
 
 use plan::{Cell, Checked, Plan};
+use std::io;
 
 // An owner's two characters.
 #[derive(Clone, Copy)]
@@ -55,92 +56,99 @@ fn mark_of(n: u16) -> Mark {
     two(b' ', b'.')
 }
 
-fn print_mark(m: Mark) {
+fn print_mark(rt: &impl Print, m: Mark) -> io::Result<()> {
     let both = [m.first, m.second];
-    print::text(&both);
+    print::text(rt, &both)
 }
 
 // The marks of the first n places of a row.
-fn print_marks(row: &[u16; 36], n: usize)
+fn print_marks(rt: &impl Print, row: &[u16; 36], n: usize) -> io::Result<()>
     requires { n ≤ 36 }
 {
     let mut i = 0;
     while i < n {
-        print_mark(mark_of(row[i]));
+        print_mark(rt, mark_of(row[i]))?;
         i += 1;
     }
+    Ok(())
 }
 
 // A symbol's number in four columns.
-fn symbol_label(s: usize) {
+fn symbol_label(rt: &impl Print, s: usize) -> io::Result<()> {
     if s < 10 {
-        print::space();
+        print::space(rt)?;
     }
-    print::number(s as u64);
-    print::text(b" |");
+    print::number(rt, s as u64)?;
+    print::text(rt, b" |")
 }
 
 // Symbol s of a band.
-fn symbol_line(plan: &[u8], s: usize, first: usize, places: usize)
+fn symbol_line(
+    rt: &impl Print,
+    plan: &[u8],
+    s: usize,
+    first: usize,
+    places: usize,
+) -> io::Result<()>
     requires { (first ≤ 4000) × (places ≤ 36) }
 {
     let mut row = [513u16; 36];
     legend::owner_row(plan, s, first, &mut row);
-    symbol_label(s);
-    print_marks(&row, places);
-    print::line();
+    symbol_label(rt, s)?;
+    print_marks(rt, &row, places)?;
+    print::line(rt)
 }
 
 // A subcarrier's number in the 24 columns of its block.
-fn block_label(k: usize) {
-    print::number(k as u64);
+fn block_label(rt: &impl Print, k: usize) -> io::Result<()> {
+    print::number(rt, k as u64)?;
     if k < 10 {
-        return print::text(b"                       ");
+        return print::text(rt, b"                       ");
     }
     if k < 100 {
-        return print::text(b"                      ");
+        return print::text(rt, b"                      ");
     }
     if k < 1000 {
-        return print::text(b"                     ");
+        return print::text(rt, b"                     ");
     }
-    print::text(b"                    ");
+    print::text(rt, b"                    ")
 }
 
 // The numbers of the subcarriers that the band's blocks start with.
-fn header(first: usize, places: usize)
+fn header(rt: &impl Print, first: usize, places: usize) -> io::Result<()>
     requires { first ≤ 4000 }
 {
-    print::text(b"  k ");
+    print::text(rt, b"  k ")?;
     if places <= 12 {
-        print::number(first as u64);
-        return print::line();
+        print::number(rt, first as u64)?;
+        return print::line(rt);
     }
-    block_label(first);
+    block_label(rt, first)?;
     if places <= 24 {
-        print::number((first + 12) as u64);
-        return print::line();
+        print::number(rt, (first + 12) as u64)?;
+        return print::line(rt);
     }
-    block_label(first + 12);
-    print::number((first + 24) as u64);
-    print::line();
+    block_label(rt, first + 12)?;
+    print::number(rt, (first + 24) as u64)?;
+    print::line(rt)
 }
 
 // Three blocks, or those that are left.
-fn band(plan: &[u8], cell: Cell, first: usize, places: usize)
+fn band(rt: &impl Print, plan: &[u8], cell: Cell, first: usize, places: usize) -> io::Result<()>
     requires { (first ≤ 4000) × (places ≤ 36) }
 {
-    header(first, places);
+    header(rt, first, places)?;
     let slot = legend::slot_symbols(cell);
     let end = 2 * slot;
     let mut s = 0;
     while s < end {
         if s == slot {
-            print::text(b"   +\n");
+            print::text(rt, b"   +\n")?;
         }
-        symbol_line(plan, s, first, places);
+        symbol_line(rt, plan, s, first, places)?;
         s += 1;
     }
-    print::line();
+    print::line(rt)
 }
 
 fn at_most_36(n: usize) -> usize
@@ -149,58 +157,60 @@ fn at_most_36(n: usize) -> usize
     if n < 36 { n } else { 36 }
 }
 
-fn bands(plan: &[u8], cell: Cell) {
+fn bands(rt: &impl Print, plan: &[u8], cell: Cell) -> io::Result<()> {
     let end = 12 * (cell.blocks as usize);
     let mut first = 0;
     while first < end {
-        band(plan, cell, first, at_most_36(end - first));
+        band(rt, plan, cell, first, at_most_36(end - first))?;
         first += 36;
     }
+    Ok(())
 }
 
-fn entry(plan: &[u8], p: Plan, n: u16) {
-    print_mark(mark_of(n));
-    print::space();
-    legend::name(plan, p, n);
-    print::line();
+fn entry(rt: &impl Print, plan: &[u8], p: Plan, n: u16) -> io::Result<()> {
+    print_mark(rt, mark_of(n))?;
+    print::space(rt)?;
+    legend::name(rt, plan, p, n)?;
+    print::line(rt)
 }
 
 // The marks that occur, with their owners' names.
-fn entries(plan: &[u8], p: Plan) {
+fn entries(rt: &impl Print, plan: &[u8], p: Plan) -> io::Result<()> {
     let mut n = 0;
     while n < legend::NUMBERS {
         if legend::has(plan, p, n) {
-            entry(plan, p, n);
+            entry(rt, plan, p, n)?;
         }
         n += 1;
     }
+    Ok(())
 }
 
-fn show(plan: &[u8], p: Plan) {
-    legend::title(p);
-    print::text(b"\n\n");
-    bands(plan, p.cell);
-    entries(plan, p);
+fn show(rt: &impl Print, plan: &[u8], p: Plan) -> io::Result<()> {
+    legend::title(rt, p)?;
+    print::text(rt, b"\n\n")?;
+    bands(rt, plan, p.cell)?;
+    entries(rt, plan, p)
 }
 
-fn answer(plan: &[u8]) {
+fn answer(rt: &(impl Print + Eprint), plan: &[u8]) -> io::Result<()> {
     match mapper::check(plan) {
-        Checked::Plan(p) => show(plan, p),
-        Checked::Refused(r) => words::refused(plan::number(r)),
+        Checked::Plan(p) => show(rt, plan, p),
+        Checked::Refused(r) => words::refused(rt, plan::number(r)),
     }
 }
 
-fn start(input: &[u8]) {
+fn start(rt: &(impl Print + Eprint), input: &[u8]) -> io::Result<()> {
     let end = counted::plan_end(input);
     if end < 2 {
-        return words::refused(1);
+        return words::refused(rt, 1);
     }
-    answer(&input[2..end]);
+    answer(rt, &input[2..end])
 }
 
 // The buffer holds two length bytes and the longest plan; what follows the plan is not looked at.
-fn main() {
+fn main(rt: HostRuntime) -> io::Result<()> {
     let mut buffer = [0u8; 65537];
-    let n = io::read_full(0, &mut buffer);
-    start(&buffer[..n]);
+    let n = input::read_full(&mut rt.stdin(), &mut buffer)?;
+    start(&rt, &buffer[..n])
 }

@@ -4,65 +4,68 @@
 
 ghost use Rattle.std.specs.Prelude.{◌≤◌};
 
+use std::io;
+
 // The start of a line: how many quads, the cell, and how many were sent before.
-fn heading(quads: usize, cell: usize, n: usize) {
-    print::text(b"sent ");
-    print::number(quads as u64);
-    print::space();
-    print::number(cell as u64);
-    print::space();
-    print::number(n as u64);
+fn heading(rt: &impl Print, quads: usize, cell: usize, n: usize) -> io::Result<()> {
+    print::text(rt, b"sent ")?;
+    print::number(rt, quads as u64)?;
+    print::space(rt)?;
+    print::number(rt, cell as u64)?;
+    print::space(rt)?;
+    print::number(rt, n as u64)
 }
 
-fn break_line(quads: usize, cell: usize, n: usize) {
+fn break_line(rt: &impl Print, quads: usize, cell: usize, n: usize) -> io::Result<()> {
     if n % 32 == 0 {
         if 0 < n {
-            print::line();
+            print::line(rt)?;
         }
-        heading(quads, cell, n);
+        heading(rt, quads, cell, n)?;
     }
+    Ok(())
 }
 
-fn sent(quads: usize, cell: usize)
+fn sent(rt: &impl Print, quads: usize, cell: usize) -> io::Result<()>
     requires { (1 ≤ quads) × (quads ≤ 1024) }
 {
     let mut c = interleaver::start(quads, cell % quads);
     let mut n: usize = 0;
     while n < quads {
-        break_line(quads, cell, n);
-        print::space();
-        print::number(interleaver::quad(c) as u64);
+        break_line(rt, quads, cell, n)?;
+        print::space(rt)?;
+        print::number(rt, interleaver::quad(c) as u64)?;
         c = interleaver::step(c);
         n += 1;
     }
-    print::line();
+    print::line(rt)
 }
 
-fn cells(quads: usize)
+fn cells(rt: &impl Print, quads: usize) -> io::Result<()>
     requires { (1 ≤ quads) × (quads ≤ 1024) }
 {
-    sent(quads, 0);
-    sent(quads, 1);
-    sent(quads, 17);
-    sent(quads, 503);
+    sent(rt, quads, 0)?;
+    sent(rt, quads, 1)?;
+    sent(rt, quads, 17)?;
+    sent(rt, quads, 503)
 }
 
-fn main() {
-    cells(1);
-    cells(2);
-    cells(9);
-    cells(14);
-    cells(31);
-    cells(32);
-    cells(33);
-    cells(40);
-    cells(63);
-    cells(64);
-    cells(65);
-    cells(100);
-    cells(250);
-    cells(333);
-    cells(512);
-    cells(700);
-    cells(787);
+fn main(rt: HostRuntime) -> io::Result<()> {
+    cells(&rt, 1)?;
+    cells(&rt, 2)?;
+    cells(&rt, 9)?;
+    cells(&rt, 14)?;
+    cells(&rt, 31)?;
+    cells(&rt, 32)?;
+    cells(&rt, 33)?;
+    cells(&rt, 40)?;
+    cells(&rt, 63)?;
+    cells(&rt, 64)?;
+    cells(&rt, 65)?;
+    cells(&rt, 100)?;
+    cells(&rt, 250)?;
+    cells(&rt, 333)?;
+    cells(&rt, 512)?;
+    cells(&rt, 700)?;
+    cells(&rt, 787)
 }

@@ -8,6 +8,7 @@ ghost use Rattle.legend.specs.Shown.{shown_at, shown_from, row_after};
 
 use mapper::Number;
 use plan::{Cell, Checked, Frame, Plan, User};
+use std::io;
 
 // The number of owners' numbers: idle's is the last.
 pub const NUMBERS: u16 = 514;
@@ -102,79 +103,79 @@ fn user_position(plan: &[u8], first: usize, i: u16) -> usize {
     at
 }
 
-fn modulation(order: u8) {
+fn modulation(rt: &impl Print, order: u8) -> io::Result<()> {
     match order {
-        2 => print::text(b"QPSK"),
-        4 => print::text(b"16QAM"),
-        6 => print::text(b"64QAM"),
-        _ => print::text(b"256QAM"),
+        2 => print::text(rt, b"QPSK"),
+        4 => print::text(rt, b"16QAM"),
+        6 => print::text(rt, b"64QAM"),
+        _ => print::text(rt, b"256QAM"),
     }
 }
 
-fn user(i: u16, u: User) {
-    print::text(b"user ");
-    print::number(i as u64);
-    print::text(b", RNTI ");
-    print::number(u.rnti as u64);
-    print::text(b", ");
-    modulation(u.order);
+fn user(rt: &impl Print, i: u16, u: User) -> io::Result<()> {
+    print::text(rt, b"user ")?;
+    print::number(rt, i as u64)?;
+    print::text(rt, b", RNTI ")?;
+    print::number(rt, u.rnti as u64)?;
+    print::text(rt, b", ")?;
+    modulation(rt, u.order)
 }
 
-fn numbered(kind: &[u8], i: u16) {
-    print::text(kind);
-    print::number(i as u64);
+fn numbered(rt: &impl Print, kind: &[u8], i: u16) -> io::Result<()> {
+    print::text(rt, kind)?;
+    print::number(rt, i as u64)
 }
 
 // Prints the name of the owner with this number.
-pub fn name(plan: &[u8], p: Plan, n: u16) {
+pub fn name(rt: &impl Print, plan: &[u8], p: Plan, n: u16) -> io::Result<()> {
     if n < 16 {
-        return numbered(b"CRS port ", n);
+        return numbered(rt, b"CRS port ", n);
     }
     if n < 64 {
         return match n {
-            16 => print::text(b"PSS"),
-            17 => print::text(b"SSS"),
-            32 => print::text(b"PBCH"),
-            _ => print::text(b"PCFICH"),
+            16 => print::text(rt, b"PSS"),
+            17 => print::text(rt, b"SSS"),
+            32 => print::text(rt, b"PBCH"),
+            _ => print::text(rt, b"PCFICH"),
         };
     }
     if n < 256 {
-        return numbered(b"PHICH unit ", n - 64);
+        return numbered(rt, b"PHICH unit ", n - 64);
     }
     if n < 512 {
         let at = user_position(plan, p.users.at, n - 256);
-        return user(n - 256, plan::user_at(plan, at));
+        return user(rt, n - 256, plan::user_at(plan, at));
     }
     if n == 512 {
-        return print::text(b"held");
+        return print::text(rt, b"held");
     }
-    print::text(b"idle");
+    print::text(rt, b"idle")
 }
 
-fn cell_words(c: Cell) {
-    numbered(b"Cell ", c.identity);
-    numbered(b", ", c.blocks as u16);
+fn cell_words(rt: &impl Print, c: Cell) -> io::Result<()> {
+    numbered(rt, b"Cell ", c.identity)?;
+    numbered(rt, b", ", c.blocks as u16)?;
     if c.prefix == 1 {
-        print::text(b" blocks, extended prefix");
+        print::text(rt, b" blocks, extended prefix")?;
     } else {
-        print::text(b" blocks, normal prefix");
+        print::text(rt, b" blocks, normal prefix")?;
     }
-    numbered(b", ", c.ports as u16);
+    numbered(rt, b", ", c.ports as u16)?;
     if c.ports == 1 {
-        print::text(b" port");
+        print::text(rt, b" port")
     } else {
-        print::text(b" ports");
+        print::text(rt, b" ports")
     }
 }
 
-fn frame_words(f: Frame) {
-    numbered(b", frame ", f.number);
-    numbered(b", subframe ", f.subframe as u16);
-    numbered(b", CFI ", f.cfi as u16);
+fn frame_words(rt: &impl Print, f: Frame) -> io::Result<()> {
+    numbered(rt, b", frame ", f.number)?;
+    numbered(rt, b", subframe ", f.subframe as u16)?;
+    numbered(rt, b", CFI ", f.cfi as u16)
 }
 
 // Prints what the plan says of cell and frame, in words.
-pub fn title(p: Plan) {
-    cell_words(p.cell);
-    frame_words(p.frame);
+pub fn title(rt: &impl Print, p: Plan) -> io::Result<()> {
+    cell_words(rt, p.cell)?;
+    frame_words(rt, p.frame)
 }

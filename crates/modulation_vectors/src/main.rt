@@ -4,6 +4,7 @@
 ghost use Rattle.modulation.specs.Symbols.{Order};
 
 use base::Pair;
+use std::io;
 
 // The byte of an order's unit on one port.
 fn unit_byte(q: u32) -> u8 {
@@ -11,53 +12,57 @@ fn unit_byte(q: u32) -> u8 {
 }
 
 // A line: what is printed, and the order.
-fn start(name: &[u8], q: u32) {
-    print::text(name);
-    print::space();
-    print::number(q as u64);
-    print::space();
+fn start(rt: &impl Print, name: &[u8], q: u32) -> io::Result<()> {
+    print::text(rt, name)?;
+    print::space(rt)?;
+    print::number(rt, q as u64)?;
+    print::space(rt)
 }
 
 // The levels of an element that is a number.
-fn levels(v: u64) {
-    show::pair(Pair {
-        re: base::signed((v / 256 % 256) as u8),
-        im: base::signed((v / 65536 % 256) as u8),
-    });
-    print::space();
+fn levels(rt: &impl Print, v: u64) -> io::Result<()> {
+    show::pair(
+        rt,
+        Pair {
+            re: base::signed((v / 256 % 256) as u8),
+            im: base::signed((v / 65536 % 256) as u8),
+        },
+    )?;
+    print::space(rt)
 }
 
-fn map_line(q: u32, t: &[u32; 256], w: u32) {
+fn map_line(rt: &impl Print, q: u32, t: &[u32; 256], w: u32) -> io::Result<()> {
     let v = constellation::number(t, w as u64);
-    start(b"map", q);
-    print::number(w as u64);
-    print::space();
-    levels(v);
-    print::number(v % 256);
-    print::line();
+    start(rt, b"map", q)?;
+    print::number(rt, w as u64)?;
+    print::space(rt)?;
+    levels(rt, v)?;
+    print::number(rt, v % 256)?;
+    print::line(rt)
 }
 
-fn map_lines(q: u32, words: u32)
+fn map_lines(rt: &impl Print, q: u32, words: u32) -> io::Result<()>
     requires { Order q }
 {
     let mut t: [u32; 256] = [0; 256];
     constellation::set_elements(&mut t, q, unit_byte(q));
     for w in 0..words {
-        map_line(q, &t, w);
+        map_line(rt, q, &t, w)?;
     }
+    Ok(())
 }
 
 // The word of an element's levels, where that word's element is this one.
-fn back_line(q: u32, t: &[u32; 256], d: &[u8; 32], v: u64) {
-    start(b"back", q);
-    levels(v);
+fn back_line(rt: &impl Print, q: u32, t: &[u32; 256], d: &[u8; 32], v: u64) -> io::Result<()> {
+    start(rt, b"back", q)?;
+    levels(rt, v)?;
     let w = constellation::symbol_of(d, v);
     if constellation::number(t, w) == v {
-        print::number(w);
+        print::number(rt, w)?;
     } else {
-        print::text(b"none");
+        print::text(rt, b"none")?;
     }
-    print::line();
+    print::line(rt)
 }
 
 // The byte of the levels -16, .., 16 for n = 0, .., 32.
@@ -65,18 +70,20 @@ fn level(n: u64) -> u64 {
     (n % 256 + 240) % 256
 }
 
-fn back_row(q: u32, t: &[u32; 256], d: &[u8; 32], i: u64) {
+fn back_row(rt: &impl Print, q: u32, t: &[u32; 256], d: &[u8; 32], i: u64) -> io::Result<()> {
     for n in 0..33 {
         back_line(
+            rt,
             q,
             t,
             d,
             (unit_byte(q) as u64) + i % 256 * 256 + level(n) % 256 * 65536,
-        );
+        )?;
     }
+    Ok(())
 }
 
-fn back_lines(q: u32)
+fn back_lines(rt: &impl Print, q: u32) -> io::Result<()>
     requires { Order q }
 {
     let mut t: [u32; 256] = [0; 256];
@@ -84,17 +91,18 @@ fn back_lines(q: u32)
     let mut d: [u8; 32] = [0; 32];
     constellation::set_axis(&mut d, q);
     for n in 0..33 {
-        back_row(q, &t, &d, level(n));
+        back_row(rt, q, &t, &d, level(n))?;
     }
+    Ok(())
 }
 
-fn main() {
-    map_lines(2, 4);
-    map_lines(4, 16);
-    map_lines(6, 64);
-    map_lines(8, 256);
-    back_lines(2);
-    back_lines(4);
-    back_lines(6);
-    back_lines(8);
+fn main(rt: HostRuntime) -> io::Result<()> {
+    map_lines(&rt, 2, 4)?;
+    map_lines(&rt, 4, 16)?;
+    map_lines(&rt, 6, 64)?;
+    map_lines(&rt, 8, 256)?;
+    back_lines(&rt, 2)?;
+    back_lines(&rt, 4)?;
+    back_lines(&rt, 6)?;
+    back_lines(&rt, 8)
 }

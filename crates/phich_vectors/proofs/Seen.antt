@@ -30,10 +30,6 @@ pub group-fits : (g l : ℕ) → g < 256 → l ≤ 4 → g * l ≤ 1020
 group-fits g l a b = mul-le-mul {n₁ = g} {m₁ = l} {n₂ = 255} {m₂ = 4} (omega arith) b
 
 -- ---- `ready`: k HIs are known
-pub not-not : (b : Bool) → not b ≡ false → b ≡ true
-not-not true e = refl
-not-not false e = sym e
-
 pub record Known (l : ℕ) (plan : List ℕ) (count from k : ℕ) : Type 0 where
   pub where-at : At plan 0 count from k
   pub each : (n : ℕ) → n < k → HiIn l (hi_number (his_from (drop 0 plan) count) n)

@@ -9,6 +9,7 @@ ghost use Rattle.phich.specs.Loops.{HiIn, HisIn, Levels};
 
 use base::Pair;
 use plan::Hi;
+use std::io;
 
 // The generator's next state.
 fn next(x: u64) -> u64 {
@@ -172,15 +173,15 @@ fn put_quad(first: &mut [u8; 200], m: usize, sums: [Pair; 12])
     }
 }
 
-fn print_sums(sums: [Pair; 12]) {
+fn print_sums(rt: &impl Print, sums: [Pair; 12]) -> io::Result<()> {
     let mut i: usize = 0;
     while i < 12 {
         let d = sums[i];
-        print::space();
-        show::pair(d);
+        print::space(rt)?;
+        show::pair(rt, d)?;
         i += 1;
     }
-    print::line();
+    print::line(rt)
 }
 
 fn bit(l: usize, w: u32, h: Hi, first: &[u8; 200]) -> u8
@@ -192,51 +193,65 @@ fn bit(l: usize, w: u32, h: Hi, first: &[u8; 200]) -> u8
     2
 }
 
-fn print_bits(l: usize, w: u32, plan: &[u8], count: usize, first: &[u8; 200])
+fn print_bits(
+    rt: &impl Print,
+    l: usize,
+    w: u32,
+    plan: &[u8],
+    count: usize,
+    first: &[u8; 200],
+) -> io::Result<()>
     requires { Length l }
 {
-    print::text(b"bits");
+    print::text(rt, b"bits")?;
     let mut from: usize = 0;
     let mut k: usize = 0;
     while k < count {
         let h = plan::hi_at(plan, from);
-        print::space();
-        print::number(bit(l, w, h, first) as u64);
+        print::space(rt)?;
+        print::number(rt, bit(l, w, h, first) as u64)?;
         from = plan::next_at(plan, from);
         k += 1;
     }
-    print::line();
+    print::line(rt)
 }
 
-fn print_head(prefix: u64, k: u64, w: u32) {
-    print::text(b"set ");
-    print::number(prefix);
-    print::space();
-    print::number(k);
-    print::space();
-    show::bits(w, 12);
-    print::line();
+fn print_head(rt: &impl Print, prefix: u64, k: u64, w: u32) -> io::Result<()> {
+    print::text(rt, b"set ")?;
+    print::number(rt, prefix)?;
+    print::space(rt)?;
+    print::number(rt, k)?;
+    print::space(rt)?;
+    show::bits(rt, w, 12)?;
+    print::line(rt)
 }
 
-fn print_set(l: usize, w: u32, plan: &[u8; 48], count: usize, bits: &[u8; 2])
+fn print_set(
+    rt: &impl Print,
+    l: usize,
+    w: u32,
+    plan: &[u8; 48],
+    count: usize,
+    bits: &[u8; 2],
+) -> io::Result<()>
     requires { Length l × (count ≤ 16) }
 {
     let mut sums = [0; 200];
     sum(l, plan, count, bits, &mut sums);
     let mut first = [0; 200];
     let a = unit(l, w, &sums[0..8]);
-    print::text(b"unit 0");
-    print_sums(a);
+    print::text(rt, b"unit 0")?;
+    print_sums(rt, a)?;
     put_quad(&mut first, 0, a);
     let b = unit(l, w, &sums[8..16]);
-    print::text(b"unit 1");
-    print_sums(b);
+    print::text(rt, b"unit 1")?;
+    print_sums(rt, b)?;
     put_quad(&mut first, 1, b);
-    print_bits(l, w, plan, count, &first);
+    print_bits(rt, l, w, plan, count, &first)
 }
 
 // One set, drawn from the state x on. Answers the state after it.
-fn set(prefix: u64, l: usize, k: u64, x: u64) -> u64
+fn set(rt: &impl Print, prefix: u64, l: usize, k: u64, x: u64) -> io::Result<u64>
     requires { Length l }
 {
     let s = next(x);
@@ -246,24 +261,25 @@ fn set(prefix: u64, l: usize, k: u64, x: u64) -> u64
     let count = drawn.count;
     let d = draw_bits(drawn.x, count);
     let bits = [(d.word / 256 % 256) as u8, (d.word % 256) as u8];
-    print_head(prefix, k, w);
-    print_set(l, w, &plan, count, &bits);
-    d.x
+    print_head(rt, prefix, k, w)?;
+    print_set(rt, l, w, &plan, count, &bits)?;
+    Ok(d.x)
 }
 
-fn sets(prefix: u64, l: usize, x: u64) -> u64
+fn sets(rt: &impl Print, prefix: u64, l: usize, x: u64) -> io::Result<u64>
     requires { Length l }
 {
     let mut s = x;
     let mut k: u64 = 0;
     while k < 24 {
-        s = set(prefix, l, k, s);
+        s = set(rt, prefix, l, k, s)?;
         k += 1;
     }
-    s
+    Ok(s)
 }
 
-fn main() {
-    let s = sets(0, 4, 1);
-    sets(1, 2, s);
+fn main(rt: HostRuntime) -> io::Result<()> {
+    let s = sets(&rt, 0, 4, 1)?;
+    sets(&rt, 1, 2, s)?;
+    Ok(())
 }

@@ -3,107 +3,115 @@
 #![tactic(auto)]
 
 use plan::{Cell, Checked, CommandList, Frame, Hi, Plan, User};
+use std::io;
 
-fn field(n: u64) {
-    print::space();
-    print::number(n);
+fn field(rt: &impl Print, n: u64) -> io::Result<()> {
+    print::space(rt)?;
+    print::number(rt, n)
 }
 
-fn cell(c: Cell) {
-    print::text(b" cell");
-    field(c.identity as u64);
-    field(c.blocks as u64);
-    field(c.prefix as u64);
-    field(c.ports as u64);
-    field(c.sixths as u64);
-    field(c.duration as u64);
+fn cell(rt: &impl Print, c: Cell) -> io::Result<()> {
+    print::text(rt, b" cell")?;
+    field(rt, c.identity as u64)?;
+    field(rt, c.blocks as u64)?;
+    field(rt, c.prefix as u64)?;
+    field(rt, c.ports as u64)?;
+    field(rt, c.sixths as u64)?;
+    field(rt, c.duration as u64)
 }
 
-fn frame(f: Frame) {
-    print::text(b" frame");
-    field(f.number as u64);
-    field(f.subframe as u64);
-    field(f.cfi as u64);
+fn frame(rt: &impl Print, f: Frame) -> io::Result<()> {
+    print::text(rt, b" frame")?;
+    field(rt, f.number as u64)?;
+    field(rt, f.subframe as u64)?;
+    field(rt, f.cfi as u64)
 }
 
-fn hi(h: Hi) {
-    print::text(b" hi");
-    field(h.group as u64);
-    field(h.sequence as u64);
+fn hi(rt: &impl Print, h: Hi) -> io::Result<()> {
+    print::text(rt, b" hi")?;
+    field(rt, h.group as u64)?;
+    field(rt, h.sequence as u64)
 }
 
-fn user(u: User) {
-    print::text(b" user");
-    field(u.rnti as u64);
-    field(u.order as u64);
-    field(u.first as u64);
-    field(u.count as u64);
+fn user(rt: &impl Print, u: User) -> io::Result<()> {
+    print::text(rt, b" user")?;
+    field(rt, u.rnti as u64)?;
+    field(rt, u.order as u64)?;
+    field(rt, u.first as u64)?;
+    field(rt, u.count as u64)
 }
 
-fn his(plan: &[u8], row: CommandList) {
+fn his(rt: &impl Print, plan: &[u8], row: CommandList) -> io::Result<()> {
     let mut at = row.at;
     let mut left = row.count;
     while 0 < left {
-        hi(plan::hi_at(plan, at));
+        hi(rt, plan::hi_at(plan, at))?;
         at = plan::next_at(plan, at);
         left -= 1;
     }
+    Ok(())
 }
 
-fn users(plan: &[u8], row: CommandList) {
+fn users(rt: &impl Print, plan: &[u8], row: CommandList) -> io::Result<()> {
     let mut at = row.at;
     let mut left = row.count;
     while 0 < left {
-        user(plan::user_at(plan, at));
+        user(rt, plan::user_at(plan, at))?;
         at = plan::next_at(plan, at);
         left -= 1;
     }
+    Ok(())
 }
 
-fn accepted(plan: &[u8], p: Plan) {
-    print::text(b"0");
-    cell(p.cell);
-    frame(p.frame);
-    his(plan, p.his);
-    users(plan, p.users);
+fn accepted(rt: &impl Print, plan: &[u8], p: Plan) -> io::Result<()> {
+    print::text(rt, b"0")?;
+    cell(rt, p.cell)?;
+    frame(rt, p.frame)?;
+    his(rt, plan, p.his)?;
+    users(rt, plan, p.users)
 }
 
-fn answer(number: usize, plan: &[u8]) {
-    print::text(b"plan ");
-    print::number(number as u64);
-    print::space();
+fn verdict(rt: &impl Print, plan: &[u8]) -> io::Result<()> {
     match plan::check(plan) {
-        Checked::Plan(p) => accepted(plan, p),
-        Checked::Refused(r) => print::number(plan::number(r) as u64),
+        Checked::Plan(p) => accepted(rt, plan, p),
+        Checked::Refused(r) => print::number(rt, plan::number(r) as u64),
     }
-    print::line();
+}
+
+fn answer(rt: &impl Print, number: usize, plan: &[u8]) -> io::Result<()> {
+    print::text(rt, b"plan ")?;
+    print::number(rt, number as u64)?;
+    print::space(rt)?;
+    verdict(rt, plan)?;
+    print::line(rt)
 }
 
 // The record that the bytes start with: the plan's length in four bytes, the plan. Answers with the record's length, 0 for one that is cut
 // off.
-fn record(number: usize, bytes: &[u8]) -> usize {
+fn record(rt: &impl Print, number: usize, bytes: &[u8]) -> io::Result<usize> {
     if bytes.len() < 4 {
-        return 0;
+        return Ok(0);
     }
     let end = 4 + records::value(&bytes[0..4]);
     if bytes.len() < end {
-        return 0;
+        return Ok(0);
     }
-    answer(number, &bytes[4..end]);
-    end
+    answer(rt, number, &bytes[4..end])?;
+    Ok(end)
 }
 
-fn walk(input: &[u8]) {
+fn walk(rt: &impl Print, input: &[u8]) -> io::Result<()> {
     let mut number = 0;
     let mut at = 0;
     while at < input.len() {
         number += 1;
-        at = records::next_at(input, at, record(number, &input[at..]));
+        at = records::next_at(input, at, record(rt, number, &input[at..])?);
     }
+    Ok(())
 }
 
-fn main() {
+fn main(rt: HostRuntime) -> io::Result<()> {
     let mut buffer = [0u8; 600000];
-    let n = io::read_full(0, &mut buffer);
-    walk(&buffer[..n]);
+    let n = input::read_full(&mut rt.stdin(), &mut buffer)?;
+    walk(&rt, &buffer[..n])
 }

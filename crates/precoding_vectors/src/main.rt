@@ -7,6 +7,7 @@ ghost use Rattle.base.specs.Pairs.{Small};
 ghost use Rattle.grid.specs.Writing.{Room};
 
 use base::{Element, Pair};
+use std::io;
 
 // n mod 15 as a level from -7 to 7.
 fn level(n: usize) -> i8
@@ -60,90 +61,110 @@ fn fill(phich: bool, ports: u8, places: usize, m: usize, unit: u8, grid: &mut [u
     }
 }
 
-fn field(n: usize) {
-    print::space();
-    print::number(n as u64);
+fn field(rt: &impl Print, n: usize) -> io::Result<()> {
+    print::space(rt)?;
+    print::number(rt, n as u64)
 }
 
-fn element(e: Element) {
-    field(base::wide(e.byte));
-    print::space();
-    show::pair(Pair {
-        re: base::signed(e.i),
-        im: base::signed(e.j),
-    });
-    print::line();
+fn element(rt: &impl Print, e: Element) -> io::Result<()> {
+    field(rt, base::wide(e.byte))?;
+    print::space(rt)?;
+    show::pair(
+        rt,
+        Pair {
+            re: base::signed(e.i),
+            im: base::signed(e.j),
+        },
+    )?;
+    print::line(rt)
 }
 
 // The start of a line: place j of a channel of m, or of PHICH unit m, where it is place j mod 4 of a quad.
-fn name(phich: bool, ports: u8, m: usize, j: usize) {
+fn name(rt: &impl Print, phich: bool, ports: u8, m: usize, j: usize) -> io::Result<()> {
     if phich {
-        print::text(b"phich");
-        field(base::wide(ports));
-        field(m);
-        field(j / 4);
-        field(j % 4);
-        return;
+        print::text(rt, b"phich")?;
+        field(rt, base::wide(ports))?;
+        field(rt, m)?;
+        field(rt, j / 4)?;
+        field(rt, j % 4)?;
+        return Ok(());
     }
-    print::text(b"td");
-    field(base::wide(ports));
-    field(m);
-    field(j);
+    print::text(rt, b"td")?;
+    field(rt, base::wide(ports))?;
+    field(rt, m)?;
+    field(rt, j)
 }
 
 // A line for each port.
-fn place(phich: bool, ports: u8, places: usize, m: usize, j: usize, grid: &[u8])
+fn place(
+    rt: &impl Print,
+    phich: bool,
+    ports: u8,
+    places: usize,
+    m: usize,
+    j: usize,
+    grid: &[u8],
+) -> io::Result<()>
     requires { Room ports places grid.now × (j < places) }
 {
     let mut port: u8 = 0;
     while port < ports {
-        name(phich, ports, m, j);
-        field(base::wide(port));
-        element(grid::get(grid, base::wide(port) * places + j));
+        name(rt, phich, ports, m, j)?;
+        field(rt, base::wide(port))?;
+        element(rt, grid::get(grid, base::wide(port) * places + j))?;
         port += 1;
     }
+    Ok(())
 }
 
-fn lines(phich: bool, ports: u8, places: usize, m: usize, grid: &[u8])
+fn lines(
+    rt: &impl Print,
+    phich: bool,
+    ports: u8,
+    places: usize,
+    m: usize,
+    grid: &[u8],
+) -> io::Result<()>
     requires { Room ports places grid.now }
 {
     let mut j: usize = 0;
     while j < places {
-        place(phich, ports, places, m, j, grid);
+        place(rt, phich, ports, places, m, j, grid)?;
         j += 1;
     }
+    Ok(())
 }
 
 // A channel of m places in unit 170.
-fn td(ports: u8, m: usize, grid: &mut [u8])
+fn td(rt: &impl Print, ports: u8, m: usize, grid: &mut [u8]) -> io::Result<()>
     requires { Room ports m grid.old × (m ≤ 12) }
 {
     fill(false, ports, m, m, 170, grid);
-    lines(false, ports, m, m, grid);
+    lines(rt, false, ports, m, m, grid)
 }
 
 // PHICH unit m: twelve places in unit 2.
-fn unit(ports: u8, m: usize, grid: &mut [u8])
+fn unit(rt: &impl Print, ports: u8, m: usize, grid: &mut [u8]) -> io::Result<()>
     requires { Room ports 12 grid.old × (m ≤ 2) }
 {
     fill(true, ports, 12, m, 2, grid);
-    lines(true, ports, 12, m, grid);
+    lines(rt, true, ports, 12, m, grid)
 }
 
-fn phich(ports: u8, grid: &mut [u8])
+fn phich(rt: &impl Print, ports: u8, grid: &mut [u8]) -> io::Result<()>
     requires { Room ports 12 grid.old }
 {
-    unit(ports, 0, grid);
-    unit(ports, 1, grid);
-    unit(ports, 2, grid);
+    unit(rt, ports, 0, grid)?;
+    unit(rt, ports, 1, grid)?;
+    unit(rt, ports, 2, grid)
 }
 
-fn main() {
-    td(1, 5, &mut [0; 15]);
-    td(2, 6, &mut [0; 36]);
-    td(4, 8, &mut [0; 96]);
-    td(4, 6, &mut [0; 72]);
-    phich(1, &mut [0; 36]);
-    phich(2, &mut [0; 72]);
-    phich(4, &mut [0; 144]);
+fn main(rt: HostRuntime) -> io::Result<()> {
+    td(&rt, 1, 5, &mut [0; 15])?;
+    td(&rt, 2, 6, &mut [0; 36])?;
+    td(&rt, 4, 8, &mut [0; 96])?;
+    td(&rt, 4, 6, &mut [0; 72])?;
+    phich(&rt, 1, &mut [0; 36])?;
+    phich(&rt, 2, &mut [0; 72])?;
+    phich(&rt, 4, &mut [0; 144])
 }

@@ -7,6 +7,7 @@ use base::wide;
 use build::Built;
 use read::ReadBack;
 use records::{Digest, value};
+use std::io;
 
 // What a sweep has seen.
 #[derive(Clone, Copy)]
@@ -17,12 +18,12 @@ struct Tally {
     digest: Digest,
 }
 
-fn answer(r: ReadBack) {
+fn answer(rt: &impl Print, r: ReadBack) -> io::Result<()> {
     match r {
-        ReadBack::Elements(n) => print::number(n as u64),
+        ReadBack::Elements(n) => print::number(rt, n as u64),
         ReadBack::Refused(why) => {
-            print::text(b"refused ");
-            print::number(plan::number(why) as u64);
+            print::text(rt, b"refused ")?;
+            print::number(rt, plan::number(why) as u64)
         }
     }
 }
@@ -47,15 +48,21 @@ fn change(changes: &[u8], grid: &mut [u8]) {
 }
 
 // One call, on a grid that was built and changed.
-fn call(number: usize, plan: &[u8], grid: &[u8], out: &mut [u8]) {
+fn call(
+    rt: &impl Print,
+    number: usize,
+    plan: &[u8],
+    grid: &[u8],
+    out: &mut [u8],
+) -> io::Result<()> {
     records::fill(out);
     let r = read::read(plan, grid, out);
-    print::number(number as u64);
-    print::space();
-    answer(r);
-    print::space();
-    records::show(records::added(records::empty(), out));
-    print::line();
+    print::number(rt, number as u64)?;
+    print::space(rt)?;
+    answer(rt, r)?;
+    print::space(rt)?;
+    records::show(rt, records::added(records::empty(), out))?;
+    print::line(rt)
 }
 
 // The unit byte after this one, of those that elements have.
@@ -206,17 +213,17 @@ fn sweep(plan: &[u8], grid: &mut [u8], again: &mut [u8], out: &mut [u8]) -> Tall
     t
 }
 
-fn tell(number: usize, t: Tally) {
-    print::number(number as u64);
-    print::text(b" refused ");
-    print::number(t.refused as u64);
-    print::text(b" read ");
-    print::number(t.read as u64);
-    print::text(b" built ");
-    print::number(t.built as u64);
-    print::space();
-    records::show(t.digest);
-    print::line();
+fn tell(rt: &impl Print, number: usize, t: Tally) -> io::Result<()> {
+    print::number(rt, number as u64)?;
+    print::text(rt, b" refused ")?;
+    print::number(rt, t.refused as u64)?;
+    print::text(rt, b" read ")?;
+    print::number(rt, t.read as u64)?;
+    print::text(rt, b" built ")?;
+    print::number(rt, t.built as u64)?;
+    print::space(rt)?;
+    records::show(rt, t.digest)?;
+    print::line(rt)
 }
 
 // A grid built in the first `whole` bytes of a buffer.
@@ -227,14 +234,23 @@ fn build_in(plan: &[u8], payload: &[u8], whole: usize, grid: &mut [u8]) {
 }
 
 // One call on the first n bytes of a buffer.
-fn call_on(number: usize, plan: &[u8], n: usize, grid: &[u8], out: &mut [u8]) {
+fn call_on(
+    rt: &impl Print,
+    number: usize,
+    plan: &[u8],
+    n: usize,
+    grid: &[u8],
+    out: &mut [u8],
+) -> io::Result<()> {
     if n <= grid.len() {
-        call(number, plan, &grid[..n], out);
+        call(rt, number, plan, &grid[..n], out)?;
     }
+    Ok(())
 }
 
 // One call on the first n bytes of a buffer whose first `whole` bytes are the grid, with some changes.
 fn once(
+    rt: &impl Print,
     number: usize,
     plan: &[u8],
     payload: &[u8],
@@ -243,15 +259,16 @@ fn once(
     n: usize,
     grid: &mut [u8],
     out: &mut [u8],
-) {
+) -> io::Result<()> {
     records::fill(grid);
     build_in(plan, payload, whole, grid);
     change(changes, grid);
-    call_on(number, plan, n, grid, out);
+    call_on(rt, number, plan, n, grid, out)
 }
 
 // A call for each list of changes: the number of its changes, then the changes.
 fn calls(
+    rt: &impl Print,
     number: usize,
     plan: &[u8],
     payload: &[u8],
@@ -260,14 +277,15 @@ fn calls(
     n: usize,
     grid: &mut [u8],
     out: &mut [u8],
-) {
+) -> io::Result<()> {
     let mut at: usize = 0;
     while at < lists.len() {
         let end = at + 1 + 5 * wide(lists[at]);
         if lists.len() < end {
-            return;
+            return Ok(());
         }
         once(
+            rt,
             number,
             plan,
             payload,
@@ -276,32 +294,35 @@ fn calls(
             n,
             grid,
             out,
-        );
+        )?;
         at = end;
     }
+    Ok(())
 }
 
 // A sweep of the grid in the first `whole` bytes of a buffer.
 fn sweep_in(
+    rt: &impl Print,
     number: usize,
     plan: &[u8],
     whole: usize,
     grid: &mut [u8],
     again: &mut [u8],
     out: &mut [u8],
-) {
+) -> io::Result<()> {
     if grid.len() < whole {
-        return;
+        return Ok(());
     }
     if again.len() < whole {
-        return;
+        return Ok(());
     }
     let t = sweep(plan, &mut grid[..whole], &mut again[..whole], out);
-    tell(number, t);
+    tell(rt, number, t)
 }
 
 // What a record asks for: a sweep for kind 1, calls for any other. The two bytes say what is lent of the grid and of the payload.
 fn perform(
+    rt: &impl Print,
     number: usize,
     kind: u8,
     of_grid: u8,
@@ -310,21 +331,30 @@ fn perform(
     payload: &[u8],
     lists: &[u8],
     out: &mut [u8],
-) {
+) -> io::Result<()> {
     let whole = records::wanted(plan);
     let n = records::lent(whole, of_grid);
     let size = records::lent(payload.len(), of_payload);
     if out.len() < size {
-        return;
+        return Ok(());
     }
     let mut grid = [0u8; 201601];
     if kind == 1 {
         let mut again = [0u8; 201600];
         build_in(plan, payload, whole, &mut grid);
-        sweep_in(number, plan, whole, &mut grid, &mut again, &mut out[..size]);
-        return;
+        sweep_in(
+            rt,
+            number,
+            plan,
+            whole,
+            &mut grid,
+            &mut again,
+            &mut out[..size],
+        )?;
+        return Ok(());
     }
     calls(
+        rt,
         number,
         plan,
         payload,
@@ -333,32 +363,33 @@ fn perform(
         n,
         &mut grid,
         &mut out[..size],
-    );
+    )
 }
 
 // The record that the bytes start with: a byte for the kind, one for the grid's length and one for the payload's, the plan's length
 // in two bytes, the plan, the payload's length in four bytes, the payload, the length of the lists of changes in two bytes, the lists.
 // Answers with the record's length, 0 for one that is cut off.
-fn record(number: usize, bytes: &[u8]) -> usize {
+fn record(rt: &impl Print, number: usize, bytes: &[u8]) -> io::Result<usize> {
     if bytes.len() < 5 {
-        return 0;
+        return Ok(0);
     }
     let end = 5 + value(&bytes[3..5]);
     let start = end + 4;
     if bytes.len() < start {
-        return 0;
+        return Ok(0);
     }
     let last = start + value(&bytes[end..start]);
     let first = last + 2;
     if bytes.len() < first {
-        return 0;
+        return Ok(0);
     }
     let finish = first + value(&bytes[last..first]);
     if bytes.len() < finish {
-        return 0;
+        return Ok(0);
     }
     let mut out = [0u8; 20000];
     perform(
+        rt,
         number,
         bytes[0],
         bytes[1],
@@ -367,21 +398,22 @@ fn record(number: usize, bytes: &[u8]) -> usize {
         &bytes[start..last],
         &bytes[first..finish],
         &mut out,
-    );
-    finish
+    )?;
+    Ok(finish)
 }
 
-fn walk(input: &[u8]) {
+fn walk(rt: &impl Print, input: &[u8]) -> io::Result<()> {
     let mut number = 0;
     let mut at = 0;
     while at < input.len() {
         number += 1;
-        at = records::next_at(input, at, record(number, &input[at..]));
+        at = records::next_at(input, at, record(rt, number, &input[at..])?);
     }
+    Ok(())
 }
 
-fn main() {
+fn main(rt: HostRuntime) -> io::Result<()> {
     let mut buffer = [0u8; 500000];
-    let n = io::read_full(0, &mut buffer);
-    walk(&buffer[..n]);
+    let n = input::read_full(&mut rt.stdin(), &mut buffer)?;
+    walk(&rt, &buffer[..n])
 }

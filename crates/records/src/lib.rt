@@ -5,6 +5,7 @@ ghost use Rattle.std.specs.Prelude.{◌≤◌, ◌<◌, length};
 
 use base::wide;
 use plan::Checked;
+use std::io;
 
 // Two numbers that depend on every byte and its position.
 #[derive(Clone, Copy)]
@@ -30,10 +31,10 @@ pub fn added(d: Digest, bytes: &[u8]) -> Digest {
     Digest { a: a, b: b }
 }
 
-pub fn show(d: Digest) {
-    print::number(d.a);
-    print::space();
-    print::number(d.b);
+pub fn show(rt: &impl Print, d: Digest) -> io::Result<()> {
+    print::number(rt, d.a)?;
+    print::space(rt)?;
+    print::number(rt, d.b)
 }
 
 // Every byte 165, so that a refusal shows that no byte changed.

@@ -2,6 +2,7 @@
 #![tactic(auto)]
 
 use sample::{Sample, SampleAnswer};
+use std::io;
 
 // The bytes of the units of levels.
 const BYTES: [u8; 9] = [1, 2, 4, 10, 20, 42, 84, 170, 255];
@@ -21,41 +22,42 @@ fn bits(x: f32) -> u32 {
 }
 
 // The sample of a level, and the line's end.
-fn level_bits(byte: u8, i: u8) {
+fn level_bits(rt: &impl Print, byte: u8, i: u8) -> io::Result<()> {
     match sample::sample_at(byte, i, 0) {
         SampleAnswer::Is(s) => {
             if let Sample::At(p) = s {
-                show::hex(bits(p.re));
+                show::hex(rt, bits(p.re))?;
             }
         }
-        SampleAnswer::Refused => print::text(b"refused"),
+        SampleAnswer::Refused => print::text(rt, b"refused")?,
     }
-    print::line();
+    print::line(rt)
 }
 
 // The gain is the sample of level 1.
-fn gain_line(byte: u8) {
-    print::text(b"gain ");
-    print::number(byte as u64);
-    print::space();
-    level_bits(byte, 1);
+fn gain_line(rt: &impl Print, byte: u8) -> io::Result<()> {
+    print::text(rt, b"gain ")?;
+    print::number(rt, byte as u64)?;
+    print::space(rt)?;
+    level_bits(rt, byte, 1)
 }
 
-fn level_line(byte: u8, i: u8) {
-    print::text(b"level ");
-    print::number(byte as u64);
-    print::space();
-    show::level(base::signed(i));
-    print::space();
-    level_bits(byte, i);
+fn level_line(rt: &impl Print, byte: u8, i: u8) -> io::Result<()> {
+    print::text(rt, b"level ")?;
+    print::number(rt, byte as u64)?;
+    print::space(rt)?;
+    show::level(rt, base::signed(i))?;
+    print::space(rt)?;
+    level_bits(rt, byte, i)
 }
 
-fn gains() {
+fn gains(rt: &impl Print) -> io::Result<()> {
     let mut k = 0;
     while k < 9 {
-        gain_line(BYTES[k]);
+        gain_line(rt, BYTES[k])?;
         k += 1;
     }
+    Ok(())
 }
 
 // The byte of the level n % 33 - 16.
@@ -68,12 +70,13 @@ fn byte_at(n: usize) -> u8 {
     }
 }
 
-fn levels() {
+fn levels(rt: &impl Print) -> io::Result<()> {
     let mut k = 0;
     while k < 297 {
-        level_line(BYTES[k / 33], byte_at(k));
+        level_line(rt, BYTES[k / 33], byte_at(k))?;
         k += 1;
     }
+    Ok(())
 }
 
 fn counted(c: Counts, a: SampleAnswer) -> Counts {
@@ -105,31 +108,32 @@ fn tally(byte: u8) -> Counts {
     c
 }
 
-fn unit_line(byte: u8) {
+fn unit_line(rt: &impl Print, byte: u8) -> io::Result<()> {
     let c = tally(byte);
-    print::text(b"unit ");
-    print::number(byte as u64);
-    print::space();
-    print::number(c.silence as u64);
-    print::space();
-    print::number(c.phase as u64);
-    print::space();
-    print::number(c.point as u64);
-    print::space();
-    print::number(c.refused as u64);
-    print::line();
+    print::text(rt, b"unit ")?;
+    print::number(rt, byte as u64)?;
+    print::space(rt)?;
+    print::number(rt, c.silence as u64)?;
+    print::space(rt)?;
+    print::number(rt, c.phase as u64)?;
+    print::space(rt)?;
+    print::number(rt, c.point as u64)?;
+    print::space(rt)?;
+    print::number(rt, c.refused as u64)?;
+    print::line(rt)
 }
 
-fn units() {
+fn units(rt: &impl Print) -> io::Result<()> {
     let mut u: u32 = 0;
     while u < 256 {
-        unit_line(u as u8);
+        unit_line(rt, u as u8)?;
         u += 1;
     }
+    Ok(())
 }
 
-fn main() {
-    gains();
-    levels();
-    units();
+fn main(rt: HostRuntime) -> io::Result<()> {
+    gains(&rt)?;
+    levels(&rt)?;
+    units(&rt)
 }

@@ -1,85 +1,91 @@
 // Prints the synchronisation signals: the primary's phase numbers, the index pairs of the 168 groups, the secondary's signs.
 #![tactic(auto)]
 
-fn phases(r: u16) {
+use std::io;
+
+fn phases(rt: &impl Print, r: u16) -> io::Result<()> {
     let mut i: usize = 0;
     while i < 62 {
-        print::space();
-        print::number(sync::pss_phase(r, i) as u64);
+        print::space(rt)?;
+        print::number(rt, sync::pss_phase(r, i) as u64)?;
         i += 1;
     }
+    Ok(())
 }
 
-fn primary(r: u16) {
-    print::text(b"pss ");
-    print::number(r as u64);
-    phases(r);
-    print::line();
+fn primary(rt: &impl Print, r: u16) -> io::Result<()> {
+    print::text(rt, b"pss ")?;
+    print::number(rt, r as u64)?;
+    phases(rt, r)?;
+    print::line(rt)
 }
 
-fn pair(d: u16) {
+fn pair(rt: &impl Print, d: u16) -> io::Result<()> {
     let p = sync::sss_pair(d);
-    print::text(b"pair ");
-    print::number(d as u64);
-    print::space();
-    print::number(p.m0 as u64);
-    print::space();
-    print::number(p.m1 as u64);
-    print::line();
+    print::text(rt, b"pair ")?;
+    print::number(rt, d as u64)?;
+    print::space(rt)?;
+    print::number(rt, p.m0 as u64)?;
+    print::space(rt)?;
+    print::number(rt, p.m1 as u64)?;
+    print::line(rt)
 }
 
-fn pairs() {
+fn pairs(rt: &impl Print) -> io::Result<()> {
     let mut d: u16 = 0;
     while d < 168 {
-        pair(d);
+        pair(rt, d)?;
         d += 1;
     }
+    Ok(())
 }
 
-fn sign(z: i8) {
+fn sign(rt: &impl Print, z: i8) -> io::Result<()> {
     if z == 1 {
-        print::text(b"+");
+        print::text(rt, b"+")
     } else {
-        print::text(b"-");
+        print::text(rt, b"-")
     }
 }
 
-fn signs(s: sync::Sss) {
+fn signs(rt: &impl Print, s: sync::Sss) -> io::Result<()> {
     let mut i: usize = 0;
     while i < 62 {
-        sign(sync::sss_level(s, i));
+        sign(rt, sync::sss_level(s, i))?;
         i += 1;
     }
+    Ok(())
 }
 
-fn secondary(cell: u16, subframe: u8) {
-    print::text(b"sss ");
-    print::number(cell as u64);
-    print::space();
-    print::number(subframe as u64);
-    print::space();
-    signs(sync::sss_for(cell, subframe));
-    print::line();
+fn secondary(rt: &impl Print, cell: u16, subframe: u8) -> io::Result<()> {
+    print::text(rt, b"sss ")?;
+    print::number(rt, cell as u64)?;
+    print::space(rt)?;
+    print::number(rt, subframe as u64)?;
+    print::space(rt)?;
+    signs(rt, sync::sss_for(cell, subframe))?;
+    print::line(rt)
 }
 
-fn both(cell: u16) {
-    secondary(cell, 0);
-    secondary(cell, 5);
+fn both(rt: &impl Print, cell: u16) -> io::Result<()> {
+    secondary(rt, cell, 0)?;
+    secondary(rt, cell, 5)
 }
 
-fn cells() {
+fn cells(rt: &impl Print) -> io::Result<()> {
     let mut k: u16 = 0;
     while k <= 100 {
-        both(5 * k);
+        both(rt, 5 * k)?;
         k += 1;
     }
+    Ok(())
 }
 
-fn main() {
-    primary(0);
-    primary(1);
-    primary(2);
-    pairs();
-    cells();
-    both(503);
+fn main(rt: HostRuntime) -> io::Result<()> {
+    primary(&rt, 0)?;
+    primary(&rt, 1)?;
+    primary(&rt, 2)?;
+    pairs(&rt)?;
+    cells(&rt)?;
+    both(&rt, 503)
 }

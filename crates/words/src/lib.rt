@@ -1,51 +1,44 @@
 // What the programs for engineers share: refusals in words.
 #![tactic(auto)]
 
-use libc::{STDERR_FILENO, STDOUT_FILENO};
+use std::io;
 
-fn say(fd: i32, sentence: &[u8]) {
-    io::write_all(fd, sentence);
-}
-
-// What a refusal's number means (document 01, Refusals; document 02, #108), written to a file descriptor.
-pub fn meaning(fd: i32, number: u8) {
+// What a refusal's number means (document 01, Refusals; document 02, #108).
+fn sentence(number: u8) -> &'static str {
     match number {
-        1 => say(fd, b"a command is unknown, or the plan ends too early"),
-        2 => say(fd, b"a command is out of order, or a byte follows END"),
-        3 => say(fd, b"a field of CELL or CELLX is not allowed"),
-        4 => say(fd, b"a field of FRAME is not allowed"),
-        5 => say(
-            fd,
-            b"an HI's group or sequence is beyond the count, or the pair was used before",
-        ),
-        6 => say(fd, b"a field of USER is not allowed"),
-        7 => say(fd, b"an RNTI or a block was used before"),
-        8 => say(fd, b"the subcarrier, symbol or port is outside the grid"),
-        9 => say(fd, b"the three bytes are no element"),
-        10 => say(fd, b"the grid's length is not the plan's"),
-        11 => say(fd, b"the payload's length is not the plan's"),
-        12 => say(fd, b"a spare bit of the payload is set"),
-        13 => say(fd, b"no payload makes this grid"),
-        18 => say(
-            fd,
-            b"the control region is shorter than the three symbols of the extended PHICH duration",
-        ),
-        _ => say(fd, b"no refusal has this number"),
+        1 => "a command is unknown, or the plan ends too early",
+        2 => "a command is out of order, or a byte follows END",
+        3 => "a field of CELL or CELLX is not allowed",
+        4 => "a field of FRAME is not allowed",
+        5 => "an HI's group or sequence is beyond the count, or the pair was used before",
+        6 => "a field of USER is not allowed",
+        7 => "an RNTI or a block was used before",
+        8 => "the subcarrier, symbol or port is outside the grid",
+        9 => "the three bytes are no element",
+        10 => "the grid's length is not the plan's",
+        11 => "the payload's length is not the plan's",
+        12 => "a spare bit of the payload is set",
+        13 => "no payload makes this grid",
+        18 => "the control region is shorter than the three symbols of the extended PHICH duration",
+        _ => "no refusal has this number",
     }
 }
 
+// The meaning of a refusal's number, on standard output.
+pub fn meaning(rt: &impl Print, number: u8) -> io::Result<()> {
+    rt.print(sentence(number))
+}
+
 // A refusal on standard error, so that standard output stays empty.
-pub fn refused(number: u8) {
-    say(STDERR_FILENO, b"refused ");
-    io::print_decimal(STDERR_FILENO, number as u64);
-    say(STDERR_FILENO, b": ");
-    meaning(STDERR_FILENO, number);
-    say(STDERR_FILENO, b"\n");
+pub fn refused(rt: &impl Eprint, number: u8) -> io::Result<()> {
+    let meaning = sentence(number);
+    eprintln!(rt; "refused {number}: {meaning}")
 }
 
 // Bytes on standard output; where they cannot all be written, a line on standard error says so.
-pub fn output(bytes: &[u8]) {
-    if !io::write_all(STDOUT_FILENO, bytes) {
-        say(STDERR_FILENO, b"standard output is cut off\n");
+pub fn output(rt: &(impl Print + Eprint), bytes: &[u8]) -> io::Result<()> {
+    match rt.write_all(bytes) {
+        Ok(()) => Ok(()),
+        Err(_) => eprintln!(rt; "standard output is cut off"),
     }
 }

@@ -3,7 +3,7 @@ use Prim.Native.Nat.{◌-◌, ◌≤◌}
 use Rattle.gridpicture.proofs.bands.Given as goal
 
 abbrev pub invariant-loop-band : goal.invariant-loop-band
-invariant-loop-band l = band ≤ l.end
+invariant-loop-band g l = l.band ≤ l.end
 
 abbrev pub decreases-loop-band : goal.decreases-loop-band
-decreases-loop-band l = l.end - band
+decreases-loop-band g l = l.end - l.band

@@ -3,7 +3,7 @@ use Prim.Native.Nat.{◌-◌, ◌≤◌}
 use Rattle.gridpicture.proofs.block_labels.Given as goal
 
 abbrev pub invariant-loop-b : goal.invariant-loop-b
-invariant-loop-b l = b ≤ l.end
+invariant-loop-b g l = l.b ≤ l.end
 
 abbrev pub decreases-loop-b : goal.decreases-loop-b
-decreases-loop-b l = l.end - b
+decreases-loop-b g l = l.end - l.b

@@ -3,7 +3,7 @@ use Prim.Native.Nat.{◌+◌, ◌-◌, ◌≤◌}
 use Rattle.gridpicture.proofs.block_lines.Given as goal
 
 abbrev pub invariant-loop-b : goal.invariant-loop-b
-invariant-loop-b l = b ≤ l.end + 1
+invariant-loop-b g l = l.b ≤ l.end + 1
 
 abbrev pub decreases-loop-b : goal.decreases-loop-b
-decreases-loop-b l = l.end + 1 - b
+decreases-loop-b g l = l.end + 1 - l.b

@@ -3,7 +3,7 @@ use Prim.Native.Nat.{◌-◌, ◌≤◌}
 use Rattle.gridpicture.proofs.entries.Given as goal
 
 abbrev pub invariant-loop-n : goal.invariant-loop-n
-invariant-loop-n l = (l.n.column ≤ n) × (l.n.down ≤ n) × (n ≤ 514)
+invariant-loop-n g l = (l.spot.column ≤ l.n) × (l.spot.down ≤ l.n) × (l.n ≤ 514)
 
 abbrev pub decreases-loop-n : goal.decreases-loop-n
-decreases-loop-n l = 514 - n
+decreases-loop-n g l = 514 - l.n

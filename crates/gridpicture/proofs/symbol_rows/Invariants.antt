@@ -3,7 +3,7 @@ use Prim.Native.Nat.{◌-◌, ◌≤◌}
 use Rattle.gridpicture.proofs.symbol_rows.Given as goal
 
 abbrev pub invariant-loop-s : goal.invariant-loop-s
-invariant-loop-s l = s ≤ l.end
+invariant-loop-s g l = l.s ≤ l.end
 
 abbrev pub decreases-loop-s : goal.decreases-loop-s
-decreases-loop-s l = l.end - s
+decreases-loop-s g l = l.end - l.s

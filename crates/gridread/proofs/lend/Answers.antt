@@ -4,7 +4,7 @@ use Rattle.gridread.proofs.Longest.{payload-longest, payload-part-length}
 use Rattle.gridread.proofs.lend.Goals as goal
 
 pub slice_bounds-fill-end : goal.slice_bounds-fill-end
-slice_bounds-fill-end c =
+slice_bounds-fill-end g c =
     omega (
       arith,
       c.requires,
@@ -13,6 +13,6 @@ slice_bounds-fill-end c =
     )
 
 pub slice_bounds-fill-end-in-Is : goal.slice_bounds-fill-end-in-Is
-slice_bounds-fill-end-in-Is c =
+slice_bounds-fill-end-in-Is g c =
     payload-part-length c.args.plan.now c.payload_length.result c.payload_length.ensures _ c.in-Is.is
     c.args.buffer.now c.requires

@@ -3,7 +3,7 @@ use Prim.Native.Nat.{◌+◌, ◌-◌, ◌≤◌}
 use Rattle.gridtext.proofs.bands.Given as goal
 
 abbrev pub invariant-loop-first : goal.invariant-loop-first
-invariant-loop-first l = l.first ≤ l.end + 36
+invariant-loop-first g l = l.first ≤ l.end + 36
 
 abbrev pub decreases-loop-first : goal.decreases-loop-first
-decreases-loop-first l = l.end + 36 - l.first
+decreases-loop-first g l = l.end + 36 - l.first

@@ -3,7 +3,7 @@ use Prim.Native.Nat.{◌-◌, ◌≤◌}
 use Rattle.gridtext.proofs.entries.Given as goal
 
 abbrev pub invariant-loop-n : goal.invariant-loop-n
-invariant-loop-n l = l.n ≤ 514
+invariant-loop-n g l = l.n ≤ 514
 
 abbrev pub decreases-loop-n : goal.decreases-loop-n
-decreases-loop-n l = 514 - l.n
+decreases-loop-n g l = 514 - l.n

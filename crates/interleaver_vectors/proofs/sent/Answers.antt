@@ -5,30 +5,30 @@ use Rattle.interleaver.proofs.Steps.{walk_from, walk-stands, walk_step}
 use Rattle.interleaver_vectors.proofs.sent.Goals as goal
 
 pub start-c-requires : goal.start-c-requires
-start-c-requires c = (mod-lt c.args.cell (omega arith), omega arith)
+start-c-requires g c = (mod-lt c.args.cell (omega arith), omega arith)
 
 pub loop-n-init : goal.loop-n-init
-loop-n-init c = (omega arith, walk_from c.args.quads c.args.cell c.start-c.result c.start-c.ensures)
+loop-n-init g c = (omega arith, walk_from c.args.quads c.args.cell c.start-c.result c.start-c.ensures)
 
 pub quad-requires : goal.quad-requires
-quad-requires c = walk-stands c.args.quads c.args.cell
+quad-requires g c = walk-stands c.args.quads c.args.cell
     c.loop-n.n (omega arith) (omega arith) c.loop-n.c
     c.loop-n.invariant.1
 
 pub step-c-requires : goal.step-c-requires
-step-c-requires c = walk-stands c.args.quads
+step-c-requires g c = walk-stands c.args.quads
     c.args.cell c.loop-n.n
     (omega arith) (omega arith) c.loop-n.c
     c.loop-n.invariant.1
 
 pub overflow_add-n : goal.overflow_add-n
-overflow_add-n c = omega arith
+overflow_add-n g c = omega arith
 
 pub loop-n-smaller : goal.loop-n-smaller
-loop-n-smaller c = omega arith
+loop-n-smaller g c = omega arith
 
 pub loop-n-preserved : goal.loop-n-preserved
-loop-n-preserved c = (
+loop-n-preserved g c = (
   omega arith,
   walk_step c.args.quads
       c.args.cell

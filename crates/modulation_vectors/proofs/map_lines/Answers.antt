@@ -4,4 +4,4 @@ use native.Mathlib.Omega.{arith}
 use Rattle.modulation_vectors.proofs.map_lines.Goals as goal
 
 pub set_elements-requires : goal.set_elements-requires
-set_elements-requires c = (refl, c.requires.0, omega (arith, c.requires.2))
+set_elements-requires g c = (refl, c.requires.0, omega (arith, c.requires.2))

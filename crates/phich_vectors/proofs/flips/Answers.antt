@@ -25,11 +25,7 @@ pub loop-i-smaller : goal.loop-i-smaller
 loop-i-smaller c = omega (arith, c.loop-i-test.true)
 
 pub loop-i-preserved : goal.loop-i-preserved
-loop-i-preserved c = flips-more c.loop-i.invariant c.loop-i-test.true (omega (
-  arith,
-  c.shared_slice_known-1.given
-      c.loop-i.i,
-)) c.if-part-i.false
+loop-i-preserved c = flips-more c.loop-i.invariant c.loop-i-test.true (omega arith) c.if-part-i.false
 
 pub returns : goal.returns
 returns c = λ e. flips-all c.loop-i.invariant c.loop-i-test.false

@@ -5,4 +5,4 @@ use Rattle.phich_vectors.proofs.print_set.Goals as goal
 
 pub sum-requires : goal.sum-requires
 unfolding table
-sum-requires c = (c.requires.0, refl)
+sum-requires g c = (c.requires.0, refl)

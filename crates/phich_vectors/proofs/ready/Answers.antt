@@ -3,7 +3,7 @@ use mathlib.Core.Path.{subst}
 use mathlib.Core.Bool.{Bool, true, false, cond}
 use native.Mathlib.Omega.{arith}
 use lib.Dec.{T}
-use Rattle.phich_vectors.proofs.Seen.{not-not, start, next, finish}
+use Rattle.phich_vectors.proofs.Seen.{start, next, finish}
 use Rattle.phich_vectors.proofs.ready.Goals as goal
 
 pub loop-k-init : goal.loop-k-init
@@ -22,7 +22,7 @@ pub loop-k-smaller : goal.loop-k-smaller
 loop-k-smaller c = omega (arith, c.loop-k-test.true)
 
 pub loop-k-preserved : goal.loop-k-preserved
-loop-k-preserved c = next c.loop-k.invariant c.loop-k-test.true c.hi_at.ensures (c.known.ensures (not-not c.known.result c.if-not-known.false)) c.next_at-from.ensures
+loop-k-preserved c = next c.loop-k.invariant c.loop-k-test.true c.hi_at.ensures (c.known.ensures c.if-not-known.false) c.next_at-from.ensures
 
 pub returns : goal.returns
 returns c = λ e. finish c.loop-k.invariant c.loop-k-test.false

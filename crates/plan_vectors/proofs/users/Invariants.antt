@@ -1,8 +1,5 @@
 -- `plan_vectors::users` ends: the measure is the number of commands left. Assumes nothing.
 use Rattle.plan_vectors.proofs.users.Given as goal
 
-abbrev pub invariant-loop-left : goal.invariant-loop-left
-invariant-loop-left l = Unit {0}
-
 abbrev pub decreases-loop-left : goal.decreases-loop-left
-decreases-loop-left l = l.left
+decreases-loop-left g l = l.left

@@ -4,7 +4,7 @@ use lib.ListN.{length}
 use Rattle.planexplain.proofs.rows.Given as goal
 
 abbrev pub invariant-loop-at : goal.invariant-loop-at
-invariant-loop-at l = l.before ≤ l.at
+invariant-loop-at g l = l.before ≤ l.at
 
 abbrev pub decreases-loop-at : goal.decreases-loop-at
-decreases-loop-at l = length l.plan - l.at
+decreases-loop-at g l = length l.plan - l.at

@@ -3,7 +3,7 @@ use Prim.Native.Nat.{◌-◌, ◌≤◌}
 use Rattle.precoding_vectors.proofs.place.Given as goal
 
 abbrev pub invariant-loop-port : goal.invariant-loop-port
-invariant-loop-port l = l.port ≤ l.ports
+invariant-loop-port g l = l.port ≤ l.ports
 
 abbrev pub decreases-loop-port : goal.decreases-loop-port
-decreases-loop-port l = l.ports - l.port
+decreases-loop-port g l = l.ports - l.port

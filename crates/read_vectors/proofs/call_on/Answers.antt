@@ -5,4 +5,4 @@ use lib.Seq.{length-take-le}
 use Rattle.read_vectors.proofs.call_on.Goals as goal
 
 pub slice_bounds-call-end : goal.slice_bounds-call-end
-slice_bounds-call-end c = sym (length-take-le c.args.n c.args.grid.now (omega arith))
+slice_bounds-call-end g c = sym (length-take-le c.args.n c.args.grid.now (omega arith))

@@ -5,7 +5,7 @@ use lib.ListN.{length}
 use Rattle.read_vectors.proofs.calls.Given as goal
 
 abbrev pub invariant-loop-at : goal.invariant-loop-at
-invariant-loop-at l = (l.at ≤ length l.lists) × (length l.grid ≡ length l.initial.grid) × (length l.out ≡ length l.initial.out)
+invariant-loop-at g l = (l.at ≤ length l.lists) × (length l.grid ≡ length l.initial.grid) × (length l.out ≡ length l.initial.out)
 
 abbrev pub decreases-loop-at : goal.decreases-loop-at
-decreases-loop-at l = length l.lists - l.at
+decreases-loop-at g l = length l.lists - l.at

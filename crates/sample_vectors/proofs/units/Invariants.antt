@@ -3,7 +3,7 @@ use Rattle.std.proofs.Common.{◌-◌, ◌≤◌}
 use Rattle.sample_vectors.proofs.units.Given as goal
 
 abbrev pub invariant-loop-u : goal.invariant-loop-u
-invariant-loop-u l = l.u ≤ 256
+invariant-loop-u g l = l.u ≤ 256
 
 abbrev pub decreases-loop-u : goal.decreases-loop-u
-decreases-loop-u l = 256 - l.u
+decreases-loop-u g l = 256 - l.u

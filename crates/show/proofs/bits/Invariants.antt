@@ -3,7 +3,7 @@ use Prim.Native.Nat.{◌≤◌}
 use Rattle.show.proofs.bits.Given as goal
 
 abbrev pub invariant-loop-k : goal.invariant-loop-k
-invariant-loop-k l = l.k ≤ 32
+invariant-loop-k g l = l.k ≤ 32
 
 abbrev pub decreases-loop-k : goal.decreases-loop-k
-decreases-loop-k l = l.k
+decreases-loop-k g l = l.k

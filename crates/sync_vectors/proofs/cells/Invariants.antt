@@ -3,7 +3,7 @@ use Prim.Native.Nat.{◌≤◌, ◌-◌}
 use Rattle.sync_vectors.proofs.cells.Given as goal
 
 abbrev pub invariant-loop-k : goal.invariant-loop-k
-invariant-loop-k l = l.k ≤ 101
+invariant-loop-k g l = l.k ≤ 101
 
 abbrev pub decreases-loop-k : goal.decreases-loop-k
-decreases-loop-k l = 101 - l.k
+decreases-loop-k g l = 101 - l.k
