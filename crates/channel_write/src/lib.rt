@@ -67,8 +67,7 @@ pub fn fill(
     *r = filled(was, p, ch, t, masks, bits, grid);
 }
 
-// The channel filled, from the pair at the start of its bits, by a pair of its own that it lends. Its parameters are plain, so that its callers
-// need no proof by hand.
+// The channel filled, from the pair at the start of its bits, by a pair of its own that it lends.
 fn map(
     start: Registers,
     p: Plan,

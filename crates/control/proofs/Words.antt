@@ -25,7 +25,8 @@ use Rattle.phich.specs.Spreading.{word_bit}
 -- the next n bits of the pair k steps on
 pub word-from : (r : Registers) (k n : ℕ) → word_of (after r k) n ≡ binary (outputs r) k n
 unfolding word_of outputs
-word-from r k n = binary-same (λ (i : ℕ). output_of (after (after r k) i)) (outputs r) 0 k n (λ i l. let z : k + (0 + i) ≡ k + i = omega arith in ap output_of (after-after r k (0 + i) ∙ ap (after r) z))
+word-from r k n = binary-same (λ (i : ℕ). output_of (after (after r k) i)) (outputs r) 0 k n
+    (λ i l. let z : k + (0 + i) ≡ k + i = omega arith in ap output_of (after-after r k (0 + i) ∙ ap (after r) z))
 
 -- PHICH's twelve bits
 pub word-bits : (r : Registers) (w : ℕ) → w ≡ word_of r 12 → (e : ℕ) → e < 12 → word_bit w e ≡ outputs r e

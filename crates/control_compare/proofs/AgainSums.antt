@@ -20,7 +20,8 @@ use Rattle.control_read.proofs.Reading.{quad-ack}
 
 -- `sums_again`: the bits from the first quads are those of the grid
 pub again :
-    {c : Cell} {his : CommandList} {plan grid first : List ℕ} → HisRead c his plan grid → FirstRead c grid (4 * mapping_units c) first → (r : Registers) (w l : ℕ) → w ≡ word_of r 12 → l ≡ spread_length c
+    {c : Cell} {his : CommandList} {plan grid first : List ℕ} → HisRead c his plan grid → FirstRead c grid (4 * mapping_units c) first → (r : Registers)
+    (w l : ℕ) → w ≡ word_of r 12 → l ≡ spread_length c
     → {s : List ℕ} → QuadSums l (bits_from l (word_bit w) (his_from (drop his.at plan) his.count) first) (his_from (drop his.at plan) his.count) s
     → QuadSums (spread_length c) (ack_from c r (his_from (drop his.at plan) his.count) grid) (his_from (drop his.at plan) his.count) s
 unfolding bits_from

@@ -30,12 +30,14 @@ use Rattle.counted.specs.Gridcount.{accepted_with, counted_of, gridcount_of}
 use Rattle.known.specs.Example.{example, example_plan, broadcast, broadcast_plan, zeros, example_counts, broadcast_counts, Example}
 
 example-plan : check_of example ≡ accepted example_plan
-unfolding one_of none_of cell_with cell_of frame_of hi_of user_of entries entry_in size_of command_of commands_after cell_ok frame_ok phich_fits mapping_units phich_groups sequences_of hi_ok same_pair user_ok clash
+unfolding one_of none_of cell_with cell_of frame_of hi_of user_of entries entry_in size_of command_of commands_after cell_ok frame_ok phich_fits
+    mapping_units phich_groups sequences_of hi_ok same_pair user_ok clash
     begin hi_fault user_fault fault state_after plan_of run check_of
 example-plan = refl
 
 broadcast-plan : check_of broadcast ≡ accepted broadcast_plan
-unfolding one_of none_of cell_with cell_of frame_of hi_of user_of entries entry_in size_of command_of commands_after cell_ok frame_ok phich_fits mapping_units phich_groups sequences_of hi_ok same_pair user_ok clash
+unfolding one_of none_of cell_with cell_of frame_of hi_of user_of entries entry_in size_of command_of commands_after cell_ok frame_ok phich_fits
+    mapping_units phich_groups sequences_of hi_ok same_pair user_ok clash
     begin hi_fault user_fault fault state_after plan_of run check_of
 broadcast-plan = refl
 

@@ -28,7 +28,8 @@ abbrev narrow : List ℕ
 narrow = narrow_with 6
 
 narrow-checked : (check_of narrow ≡ accepted narrow_plan) × (verdict_of (check_of (narrow_with 5)) ≡ 3) × (verdict_of (check_of (narrow_with 7)) ≡ 3)
-unfolding one_of none_of cell_with cell_of frame_of hi_of user_of entries entry_in size_of command_of commands_after cell_ok frame_ok phich_fits mapping_units phich_groups sequences_of hi_ok same_pair user_ok clash
+unfolding one_of none_of cell_with cell_of frame_of hi_of user_of entries entry_in size_of command_of commands_after cell_ok frame_ok phich_fits
+    mapping_units phich_groups sequences_of hi_ok same_pair user_ok clash
     begin hi_fault user_fault fault state_after plan_of run check_of
 narrow-checked = (refl, refl, refl)
 

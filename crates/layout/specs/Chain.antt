@@ -11,7 +11,8 @@ use Rattle.base.specs.Choice.{if◌then◌else◌, indicator, passes_at}
 use Rattle.base.specs.Counts.{cnt, upwards}
 use Rattle.base.specs.Sums.{sum_to}
 use Rattle.base.specs.Ring.{past, ring_below}
-use Rattle.layout.specs.Rules.{slot_length, slot_of, crs_symbol, crs_shift, stands_at, used, in_sync_area, in_pbch_area, element_group, in_group, format_has, quad_symbol, is_left, groups_left, start_number}
+use Rattle.layout.specs.Rules.{slot_length, slot_of, crs_symbol, crs_shift, stands_at, used, in_sync_area}
+use Rattle.layout.specs.Rules.{in_pbch_area, element_group, in_group, format_has, quad_symbol, is_left, groups_left, start_number}
 use Rattle.layout.specs.Owners.{blocks_have}
 use Rattle.layout.specs.declared.Mark.TheVariants.{Primary, Secondary}
 use Rattle.layout.specs.declared.Owner.{Owner}

@@ -103,7 +103,8 @@ module _ (c : Cell) (f : Frame) (ok : RegionOf c f) where
     one-quad : which (λ (i : ℕ). eqb s (block_symbol c f i) && eqb t (block_group c f i)) R ≡ q
     one-quad =
         which-is (λ (i : ℕ). eqb s (block_symbol c f i) && eqb t (block_group c f i)) R q has-quad
-        (both (eq-eqb s (block_symbol c f q) (sym (block.quad-symbol c f region-in s t has-low has-vacant))) (eq-eqb t (block_group c f q) (sym (block.quad-group c f region-in s t has-low has-vacant))))
+        (both (eq-eqb s (block_symbol c f q) (sym (block.quad-symbol c f region-in s t has-low has-vacant)))
+        (eq-eqb t (block_group c f q) (sym (block.quad-group c f region-in s t has-low has-vacant))))
         (λ r l h.
         let x = eqb-true s (block_symbol c f r) (and_left (eqb s (block_symbol c f r)) (eqb t (block_group c f r)) h) in
         let y = eqb-true t (block_group c f r) (and_right (eqb s (block_symbol c f r)) (eqb t (block_group c f r)) h) in

@@ -1,5 +1,6 @@
 -- What is added at the places of quads, held as bytes: nothing, one thing after another, and a pair of levels at one place. Assumes nothing.
-use Rattle.std.proofs.Common.{◌≡◌, ℕ, ◌+◌, ◌*◌, ◌%◌, ◌^◌, ◌<◌, ◌≤◌, cond, eqb, List, length, get_or, set, ℤ, ◌+ℤ◌, nat_abs, sym, refl, ap, ◌∙◌, ap₂, arith, length-set, get_or-set_other, get_or-set_same, eq-eqb, ne_eqb}
+use Rattle.std.proofs.Common.{◌≡◌, ℕ, ◌+◌, ◌*◌, ◌%◌, ◌^◌, ◌<◌, ◌≤◌, cond, eqb, List, length, get_or, set}
+use Rattle.std.proofs.Common.{ℤ, ◌+ℤ◌, nat_abs, sym, refl, ap, ◌∙◌, ap₂, arith, length-set, get_or-set_other, get_or-set_same, eq-eqb, ne_eqb}
 use native.Mathlib.Decide.{ℕ_discrete}
 use Rattle.base.specs.declared.Pair.{Pair}
 use Rattle.base.specs.Bytes.{byte_of}
@@ -29,7 +30,8 @@ module _ (s : List ℕ) (y a b : ℕ) (inside : 2 * y + 1 < length s) where
   pub set-odd : get_or (set (set s (2 * y) a) (2 * y + 1) b) (2 * y + 1) 0 ≡ b
   set-odd = get_or-set_same (set s (2 * y) a) (2 * y + 1) b 0 (omega (arith, length-set s (2 * y) a))
 
-  pub set-others : (z : ℕ) → (z ≡ y → ⊥) → (get_or (set (set s (2 * y) a) (2 * y + 1) b) (2 * z) 0 ≡ get_or s (2 * z) 0) × (get_or (set (set s (2 * y) a) (2 * y + 1) b) (2 * z + 1) 0 ≡ get_or s (2 * z + 1) 0)
+  pub set-others : (z : ℕ) → (z ≡ y → ⊥) → (get_or (set (set s (2 * y) a) (2 * y + 1) b) (2 * z) 0 ≡ get_or s (2 * z) 0) ×
+      (get_or (set (set s (2 * y) a) (2 * y + 1) b) (2 * z + 1) 0 ≡ get_or s (2 * z + 1) 0)
   set-others z n = (other (2 * z) (λ e. n (omega arith)) (λ e. omega arith), other (2 * z + 1) (λ e. omega arith) (λ e. n (omega arith)))
     where
       other : (x : ℕ) → (x ≡ 2 * y → ⊥) → (x ≡ 2 * y + 1 → ⊥) → get_or (set (set s (2 * y) a) (2 * y + 1) b) x 0 ≡ get_or s x 0

@@ -99,7 +99,8 @@ module _ {l : ℕ} {plan : List ℕ} {at count : ℕ} {bit : ℕ → ℕ} {s : L
       }
 
   -- with the bits that first quads' sums give
-  pub bit-here : (x : ℕ → ℕ) (first : List ℕ) {h : Hi} {b : ℕ} → h ≡ hi_of (drop from plan) → b ≡ bit_in l x h (quad_of first (mapping_unit l h)) → b ≡ bits_from l x (his_from (drop at plan) count) first k
+  pub bit-here : (x : ℕ → ℕ) (first : List ℕ) {h : Hi} {b : ℕ} → h ≡ hi_of (drop from plan) → b ≡ bit_in l x h (quad_of first (mapping_unit l h)) → b
+      ≡ bits_from l x (his_from (drop at plan) count) first k
   unfolding bits_from
   bit-here x first eh eb = eb ∙ ap (λ (y : Hi). bit_in l x y (quad_of first (mapping_unit l y))) (eh ∙ here t.where-at more)
 

@@ -1,5 +1,6 @@
 -- One HI's part at a place: by its group's places, as a flipped wave, and that it is at most 1 either way. Assumes nothing.
-use Rattle.std.proofs.Common.{◌≡◌, ℕ, zero, suc, ◌+◌, ◌-◌, ◌*◌, ◌/◌, ◌%◌, ◌<◌, ◌≤◌, Bool, true, false, cond, ◌&&◌, T, eqb, ltb, leb, List, [], ◌∷◌, get_or, nat_abs, sym, refl, ap, ◌∙◌, subst, ap₂, arith, ltb→lt, leb→le, le-ltb, lt-ltb, eq-eqb, ne_eqb, le-leb}
+use Rattle.std.proofs.Common.{◌≡◌, ℕ, zero, suc, ◌+◌, ◌-◌, ◌*◌, ◌/◌, ◌%◌, ◌<◌, ◌≤◌, Bool, true, false, cond, ◌&&◌, T, eqb, ltb}
+use Rattle.std.proofs.Common.{leb, List, [], ◌∷◌, get_or, nat_abs, sym, refl, ap, ◌∙◌, subst, ap₂, arith, ltb→lt, leb→le, le-ltb, lt-ltb, eq-eqb, ne_eqb, le-leb}
 use borrow.Author.Tests.{lt-leb}
 use lib.Ieee.Fits.{and_l, and_r}
 use Rattle.base.specs.declared.Pair.{Pair}

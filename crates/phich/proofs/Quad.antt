@@ -1,5 +1,6 @@
 -- The first quad along an HI is its own places along its own chips, and the loop over these: what is totalled so far. Assumes nothing.
-use Rattle.std.proofs.Common.{◌≡◌, ℕ, ◌+◌, ◌-◌, ◌*◌, ◌/◌, ◌%◌, ◌<◌, ◌≤◌, true, false, List, get_or, ℤ, pos, ◌+ℤ◌, nat_abs, sym, refl, ap, ◌∙◌, ap₂, zero-mul, add-one, arith, to_z-of_z, w16, SFits, to_z, of_z}
+use Rattle.std.proofs.Common.{◌≡◌, ℕ, ◌+◌, ◌-◌, ◌*◌, ◌/◌, ◌%◌, ◌<◌, ◌≤◌, true, false, List, get_or, ℤ, pos}
+use Rattle.std.proofs.Common.{◌+ℤ◌, nat_abs, sym, refl, ap, ◌∙◌, ap₂, zero-mul, add-one, arith, to_z-of_z, w16, SFits, to_z, of_z}
 use native.Mathlib.Decide.{ℕ_discrete}
 use lib.IntN.{+ℤ_idr}
 use lib.Signed.{lt_z}

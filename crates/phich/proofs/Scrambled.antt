@@ -1,6 +1,7 @@
 -- Scrambling distributes over sums: the twelve sums of a unit are those of one quad, each flipped by the scrambling bit of its place, which is the
 -- same for both groups of a unit. So they come from the bytes of the unit's quad. Assumes nothing.
-use Rattle.std.proofs.Common.{◌≡◌, ℕ, suc, ◌+◌, ◌-◌, ◌*◌, ◌/◌, ◌%◌, ◌<◌, Bool, true, false, cond, ◌&&◌, eqb, ltb, leb, List, [], ◌∷◌, length, get_or, take, drop, sym, ap, ◌∙◌, subst, ap₂, mod-lt, arith, length-drop, length-take-le, get_or-drop, get_or-take}
+use Rattle.std.proofs.Common.{◌≡◌, ℕ, suc, ◌+◌, ◌-◌, ◌*◌, ◌/◌, ◌%◌, ◌<◌, Bool, true, false, cond, ◌&&◌, eqb, ltb, leb}
+use Rattle.std.proofs.Common.{List, [], ◌∷◌, length, get_or, take, drop, sym, ap, ◌∙◌, subst, ap₂, mod-lt, arith, length-drop, length-take-le, get_or-drop, get_or-take}
 use Rattle.base.specs.declared.Pair.{Pair}
 use Rattle.base.specs.Bytes.{signed_of}
 use Rattle.base.specs.Pairs.{nil, plus, flipped, Small}

@@ -1,6 +1,7 @@
 -- An acknowledgement unit, for both lengths: its sums agree exactly when the bits of its HIs do, each bit is read back from
 -- them, they are 0 where the unit is empty, and at most eight either way. Assumes nothing.
-use Rattle.std.proofs.Common.{◌≡◌, ℕ, suc, ◌+◌, ◌*◌, ◌/◌, ◌%◌, ◌<◌, ◌≤◌, Bool, true, false, cond, eqb, ◌↔◌, List, [], ◌∷◌, length, get_or, sym, refl, ap, ◌∙◌, subst, ap₂, suc-le-suc, zero-le, arith, ne_eqb}
+use Rattle.std.proofs.Common.{◌≡◌, ℕ, suc, ◌+◌, ◌*◌, ◌/◌, ◌%◌, ◌<◌, ◌≤◌, Bool, true, false, cond, eqb, ◌↔◌}
+use Rattle.std.proofs.Common.{List, [], ◌∷◌, length, get_or, sym, refl, ap, ◌∙◌, subst, ap₂, suc-le-suc, zero-le, arith, ne_eqb}
 use native.Mathlib.Decide.{ℕ_discrete}
 use Rattle.base.specs.Choice.{if◌then◌else◌}
 use Rattle.base.specs.Signs.{below}
@@ -84,7 +85,8 @@ unfolding sum_at added_at count_in
 none-sum l c m bit i [] k e = refl
 none-sum l c m bit i (h ∷ hs) k e = pick (eqb (mapping_unit l h) m) e (λ z. none-sum l c m bit i hs (suc k) z)
   where
-    pick : (t : Bool) → cond t 1 0 + count_in l m hs ≡ 0 → (count_in l m hs ≡ 0 → sum_at l c m bit i hs (suc k) ≡ nil) → plus (cond t (part_at l c h (bit k) i) nil) (sum_at l c m bit i hs (suc k)) ≡ nil
+    pick : (t : Bool) → cond t 1 0 + count_in l m hs ≡ 0 → (count_in l m hs ≡ 0 → sum_at l c m bit i hs (suc k) ≡ nil) → plus (cond t (part_at l c h (bit k) i) nil)
+        (sum_at l c m bit i hs (suc k)) ≡ nil
     pick true z ih = absurd (omega arith)
     pick false z ih = ap (plus nil) (ih (omega arith))
 

@@ -13,7 +13,8 @@ use Rattle.plan.specs.Lists.{one_of, none_of}
 use Rattle.plan.specs.Commands.{byte, hi_of, user_of, size_of, command_of, commands_after, commands}
 use Rattle.plan.specs.Fields.{orders, phich_groups, sequences_of, same_pair}
 use Rattle.plan.specs.Check.{State, begin, state_after, plan_of}
-use Rattle.plan.specs.Finding.{demand, cell_cause, frame_cause, hi_cause, same_rnti, shares_block, user_cause, broken_cause, in_order, field_cause, cause_at, cause_of, refused_at, stop_at, walk_from, walk_of}
+use Rattle.plan.specs.Finding.{demand, cell_cause, frame_cause, hi_cause, same_rnti, shares_block, user_cause, broken_cause}
+use Rattle.plan.specs.Finding.{in_order, field_cause, cause_at, cause_of, refused_at, stop_at, walk_from, walk_of}
 use Rattle.plan.specs.Finding.{shared_by, clashes, first_from, earlier_of, finding_at, explained_by, finding_of, EarlierIs, EarlierNamed}
 use Rattle.plan.specs.CommandLists.{past, next_of}
 use Rattle.plan.specs.declared.Cell.{Cell}

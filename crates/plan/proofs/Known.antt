@@ -52,6 +52,7 @@ pub durations :
     (check_of (with_cell 15 1) ≡ accepted (normal_plan 12)) × (check_of (with_cellx 0 15 1) ≡ accepted (normal_plan 13)) ×
     (verdict_of (check_of (with_cellx 2 15 3)) ≡ 3) × (verdict_of (check_of (with_cellx 1 15 2)) ≡ 18) × (verdict_of (check_of (with_cellx 1 15 3)) ≡ 0) ×
     (verdict_of (check_of (with_cellx 1 6 1)) ≡ 18) × (verdict_of (check_of (with_cellx 1 6 2)) ≡ 0)
-unfolding one_of none_of cell_with cell_of cellx_of frame_of hi_of entries entry_in size_of command_of commands_after cell_ok frame_ok control_symbols phich_fits mapping_units phich_groups sequences_of hi_ok same_pair
+unfolding one_of none_of cell_with cell_of cellx_of frame_of hi_of entries entry_in size_of command_of commands_after cell_ok frame_ok control_symbols
+    phich_fits mapping_units phich_groups sequences_of hi_ok same_pair
     begin hi_fault fault state_after plan_of run check_of
 durations = (refl, refl, refl, refl, refl, refl, refl)

@@ -81,11 +81,21 @@ group_of-requires c =
 
 pub overflow_mul-pairs : goal.overflow_mul-pairs
 overflow_mul-pairs c =
-    omega (arith, ring-here (ring (goal.at.overflow_mul-pairs c).After-start_number) c.loop-m.m c.loop-m.invariant.1 c.group_of.ensures, ring-small (ring (goal.at.overflow_mul-pairs c).After-start_number) c.requires.1 c.loop-m.m)
+    omega (
+      arith,
+      ring-here (ring (goal.at.overflow_mul-pairs c).After-start_number) c.loop-m.m c.loop-m.invariant.1 c.group_of.ensures,
+      ring-small
+          (ring (goal.at.overflow_mul-pairs c).After-start_number) c.requires.1 c.loop-m.m,
+    )
 
 pub overflow_add-first : goal.overflow_add-first
 overflow_add-first c =
-    omega (arith, ring-here (ring (goal.at.overflow_add-first c).After-start_number) c.loop-m.m c.loop-m.invariant.1 c.group_of.ensures, ring-small (ring (goal.at.overflow_add-first c).After-start_number) c.requires.1 c.loop-m.m)
+    omega (
+      arith,
+      ring-here (ring (goal.at.overflow_add-first c).After-start_number) c.loop-m.m c.loop-m.invariant.1 c.group_of.ensures,
+      ring-small
+          (ring (goal.at.overflow_add-first c).After-start_number) c.requires.1 c.loop-m.m,
+    )
 
 pub add-requires : goal.add-requires
 add-requires c =

@@ -32,7 +32,8 @@ pub loop-k-smaller : goal.loop-k-smaller
 loop-k-smaller c = omega (arith, c.loop-k-test.true)
 
 pub loop-k-preserved : goal.loop-k-preserved
-loop-k-preserved c = next c.loop-k.invariant c.loop-k-test.true c.hi_at-h.ensures (bit-here c.loop-k.invariant c.loop-k-test.true (word_bit c.args.w) c.args.first.now c.hi_at-h.ensures c.bit_of.ensures) c.next_at-from.ensures c.add_hi.ensures
+loop-k-preserved c = next c.loop-k.invariant c.loop-k-test.true c.hi_at-h.ensures
+    (bit-here c.loop-k.invariant c.loop-k-test.true (word_bit c.args.w) c.args.first.now c.hi_at-h.ensures c.bit_of.ensures) c.next_at-from.ensures c.add_hi.ensures
 
 pub returns : goal.returns
 returns c = finish c.loop-k.invariant c.loop-k-test.false

@@ -2,7 +2,8 @@
 use mathlib.Core.Path.{ap, ◌∙◌}
 use native.Mathlib.Omega.{arith}
 use Rattle.schedule.specs.declared.Channel.TheVariants.{Sync}
-use Rattle.verify.proofs.Channels.{crs-starts, crs-ready, mark-ready, pcfich-ready, unit-few, unit-ready, user-ready, crs-answer, pss-answer, sss-answer, pbch-answer, pcfich-answer, unit-answer, user-answer}
+use Rattle.verify.proofs.Channels.{crs-starts, crs-ready, mark-ready, pcfich-ready, unit-few, unit-ready, user-ready}
+use Rattle.verify.proofs.Channels.{crs-answer, pss-answer, sss-answer, pbch-answer, pcfich-answer, unit-answer, user-answer}
 use Rattle.verify.proofs.compare_channel.Goals as goal
 
 pub started-r-requires : goal.started-r-requires

@@ -44,5 +44,6 @@ pub returns : goal.returns
 unfolding open_count nth cnt bit_of
 returns c =
     holes-one 31 5 (omega arith) tt
-    (single-last c.requires c.if-mask-eq63.false c.if-mask-eq27.false c.if-mask-eq54.false c.if-mask-eq45.false c.if-mask-eq62.false c.if-mask-eq61.false c.if-mask-eq59.false c.if-mask-eq55.false c.if-mask-eq47.false)
+    (single-last c.requires c.if-mask-eq63.false c.if-mask-eq27.false c.if-mask-eq54.false c.if-mask-eq45.false c.if-mask-eq62.false c.if-mask-eq61.false
+    c.if-mask-eq59.false c.if-mask-eq55.false c.if-mask-eq47.false)
     c.one_hole-2.ensures
