@@ -1,4 +1,5 @@
 -- Sums: of equal, of constant and of bounded parts, two at a time, six at a time, and one sum within another. Assumes nothing.
+use Rattle.std.specs.Prelude.{if◌then◌else◌}
 use Prim.Native.Nat.{ℕ, zero, suc, ◌+◌, ◌*◌, ◌%◌, ◌≤◌, ◌<◌}
 use mathlib.Core.Path.{◌≡◌, refl, sym, ap₂, ◌∙◌}
 use mathlib.Core.Bool.{Bool, true, false, cond}
@@ -7,7 +8,7 @@ use native.Mathlib.Nat.{add-zero, add-suc, suc-mul, zero-mul, add-mul, not-suc-l
 use native.Mathlib.Omega.{arith}
 use lib.Dec.{eqb}
 use borrow.Author.Tests.{ne_eqb, eqb-true, eqb-false}
-use Rattle.base.specs.Choice.{if◌then◌else◌, indicator}
+use Rattle.base.specs.Choice.{indicator}
 use Rattle.base.specs.Counts.{cnt}
 use Rattle.base.proofs.Tests.{by-test}
 use Rattle.base.specs.Sums.{sum_to, sum_of}

@@ -1,5 +1,6 @@
 -- A section that is written bit by bit: after n bits its first bytes are those of a section of n bits. Assumes nothing but that the bits
 -- are 0 or 1.
+use Rattle.std.specs.Prelude.{if◌then◌else◌}
 use Prim.Native.Nat.{ℕ, zero, suc, ◌+◌, ◌-◌, ◌*◌, ◌/◌, ◌%◌, ◌^◌, ◌≤◌, ◌<◌}
 use mathlib.Core.Path.{◌≡◌, refl, sym, ap, ap₂, ◌∙◌}
 use mathlib.Core.Bool.{Bool, true, false}
@@ -14,7 +15,6 @@ use lib.Seq.{get_or-set_same, get_or-set_other}
 use Rattle.base.proofs.Tables.{filled}
 use Rattle.gold.specs.Sequence.{binary}
 use Rattle.gold.proofs.Binary.{binary-more, binary-same, binary-split, binary-lt}
-use Rattle.base.specs.Choice.{if◌then◌else◌}
 use Rattle.payload.specs.Sections.{section_bytes}
 use Rattle.recovery.specs.Recovery.{section_of}
 use Rattle.control_read.specs.Reading.{held_at, pushed, PushIn}

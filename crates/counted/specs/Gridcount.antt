@@ -1,13 +1,12 @@
 -- What the promises cite: gridcount's answer. Document 01, Known elements: "The program gridcount reads a two-byte plan length, plan,
 -- payload, builds no grid, and prints one line per owner kind, name and element count (ports not multiplied), or "refused" and the
 -- number: the plan's, 11 or 12; an input without both length bytes, or with a plan shorter than they say, is 1 before any other check."
-use Rattle.std.specs.Prelude.{ℕ, ◌+◌, ◌-◌, ◌*◌, ◌||◌, List, eqb, ltb, length, get_or, take, drop}
+use Rattle.std.specs.Prelude.{if◌then◌else◌, ℕ, ◌+◌, ◌-◌, ◌*◌, ◌||◌, List, eqb, ltb, length, get_or, take, drop}
 use Rattle.base.specs.Tables.{table}
 use Rattle.plan.specs.Check.{refusal_number, check_of, unless_refused}
 use Rattle.plan.specs.declared.Plan.{Plan}
 use Rattle.plan.specs.declared.Refusal.{Refusal}
 use Rattle.plan.specs.declared.Refusal.TheVariants.{Unreadable, PayloadLength, SpareBit}
-use Rattle.base.specs.Choice.{if◌then◌else◌}
 use Rattle.counts.specs.Counts.{kinds, kind_count}
 use Rattle.payload.specs.Payload.{payload_length, spare_clear}
 use Rattle.counted.specs.declared.Counted.{Counted}

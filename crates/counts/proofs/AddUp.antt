@@ -1,5 +1,6 @@
 -- THEOREM B: the counts of all owners add up to the grid's places, and so do those of the nine kinds. Document 01, Owners: "For any plan
 -- the owner counts add up to 12N×S". Assumes that the plan check answers with the plan, and theorem A: every place has one owner.
+use Rattle.std.specs.Prelude.{if◌then◌else◌}
 use Prim.Native.Nat.{ℕ, zero, suc, ◌+◌, ◌*◌, ◌≤◌, ◌<◌}
 use mathlib.Core.Path.{◌≡◌, refl, sym, ap, ◌∙◌}
 use mathlib.Core.Bool.{Bool, true, false}
@@ -18,7 +19,7 @@ use Rattle.plan.specs.declared.Plan.{Plan}
 use Rattle.plan.specs.declared.Checked.TheVariants.{Plan as accepted}
 use Rattle.plan.proofs.Valid.{valid}
 use Rattle.plan.proofs.Counts.{units-most}
-use Rattle.base.specs.Choice.{if◌then◌else◌, indicator}
+use Rattle.base.specs.Choice.{indicator}
 use Rattle.layout.specs.Owners.{symbols, carriers, above, owns, owners}
 use Rattle.layout.proofs.Lists.{In, here, there}
 use Rattle.layout.proofs.Partition.{in_owners}

@@ -1,5 +1,6 @@
 -- The counts of the nine kinds, all but the users' as constants of the cell and the frame. Assumes that the plan check answers with the
 -- plan; idle's, that every place has one owner.
+use Rattle.std.specs.Prelude.{if◌then◌else◌}
 use Prim.Native.Nat.{ℕ, zero, suc, ◌+◌, ◌-◌, ◌*◌, ◌%◌, ◌≤◌, ◌<◌, min}
 use mathlib.Core.Path.{◌≡◌, refl, sym, ap, ◌∙◌}
 use mathlib.Core.Logic.{◌⊎◌, inl, inr}
@@ -22,7 +23,7 @@ use Rattle.plan.specs.declared.Checked.TheVariants.{Plan as accepted}
 use Rattle.plan.proofs.Listed.{and_right}
 use Rattle.plan.proofs.Valid.{valid}
 use Rattle.plan.proofs.Counts.{blocks-least}
-use Rattle.base.specs.Choice.{if◌then◌else◌, indicator}
+use Rattle.base.specs.Choice.{indicator}
 use Rattle.plan.specs.declared.Cell.{Cell}
 use Rattle.plan.specs.declared.Frame.{Frame}
 use Rattle.layout.specs.Rules.{slot_length, in_slot, crs_symbol, crs_shift, stands_at, crs_of, crs, crs_below, crs_of_four, crs_any}

@@ -1,8 +1,8 @@
 -- What the promises cite: how many places each owner has, and each kind of owner. w is a plan's bytes, p the plan that the plan check
 -- answers with.
-use Rattle.std.specs.Prelude.{ℕ, List, eqb}
+use Rattle.std.specs.Prelude.{if◌then◌else◌, ℕ, List, eqb}
 use Rattle.plan.specs.declared.Plan.{Plan}
-use Rattle.base.specs.Choice.{if◌then◌else◌, indicator}
+use Rattle.base.specs.Choice.{indicator}
 use Rattle.layout.specs.Owners.{symbols, carriers, owns, owners}
 use Rattle.layout.specs.declared.Mark.TheVariants.{Primary, Secondary}
 use Rattle.layout.specs.declared.Owner.{Owner}

@@ -1,8 +1,7 @@
 -- For the inner contracts only: the counts of the kinds above the users, as constants. proofs/KindCounts.antt: they are the kinds' counts.
-use Rattle.std.specs.Prelude.{ℕ, ◌+◌, ◌*◌, eqb}
+use Rattle.std.specs.Prelude.{if◌then◌else◌, ℕ, ◌+◌, ◌*◌, eqb}
 use Rattle.plan.specs.declared.Cell.{Cell}
 use Rattle.plan.specs.declared.Frame.{Frame}
-use Rattle.base.specs.Choice.{if◌then◌else◌}
 use Rattle.layout.specs.Rules.{marked}
 
 -- ports 0 and 1 have 2N reference signals in two symbols of each slot, ports 2 and 3 in one

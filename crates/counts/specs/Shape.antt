@@ -1,10 +1,9 @@
 -- For the inner contracts only: a user's count by products with two numbers of each slot. proofs/Shapes.antt: it is the count over the
 -- symbols.
-use Rattle.std.specs.Prelude.{ℕ, ◌+◌, ◌-◌, ◌*◌, ◌≤◌, ltb}
+use Rattle.std.specs.Prelude.{if◌then◌else◌, ℕ, ◌+◌, ◌-◌, ◌*◌, ◌≤◌, ltb}
 use Rattle.plan.specs.declared.Cell.{Cell}
 use Rattle.plan.specs.declared.Frame.{Frame}
 use Rattle.plan.specs.declared.User.{User}
-use Rattle.base.specs.Choice.{if◌then◌else◌}
 use Rattle.layout.specs.Rules.{slot_length}
 use Rattle.plan.specs.Fields.{control_symbols}
 use Rattle.counts.specs.declared.SlotShape.{SlotShape}

@@ -1,12 +1,12 @@
 -- For the inner contracts only: a user's count without a look at each place. proofs/UserElements.antt: it is the number of its places.
 -- In document 01's letters: N blocks, P a number of ports, l a symbol's number in its slot.
-use Rattle.std.specs.Prelude.{ℕ, ◌+◌, ◌-◌, ◌*◌, min, max, Bool, ◌&&◌, ◌||◌, List, leb, ltb, eqb}
+use Rattle.std.specs.Prelude.{if◌then◌else◌, ℕ, ◌+◌, ◌-◌, ◌*◌, min, max, Bool, ◌&&◌, ◌||◌, List, leb, ltb, eqb}
 use Rattle.plan.specs.CommandLists.{users_of}
 use Rattle.plan.specs.declared.Cell.{Cell}
 use Rattle.plan.specs.declared.Frame.{Frame}
 use Rattle.plan.specs.declared.User.{User}
 use Rattle.plan.specs.declared.Plan.{Plan}
-use Rattle.base.specs.Choice.{if◌then◌else◌, indicator}
+use Rattle.base.specs.Choice.{indicator}
 use Rattle.layout.specs.Rules.{slot_length, crs_symbol, marked}
 use Rattle.plan.specs.Fields.{control_symbols}
 use Rattle.layout.specs.Owners.{symbols}

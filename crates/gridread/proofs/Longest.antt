@@ -1,4 +1,5 @@
 -- No accepted plan has a payload of more than 17,000 bytes. Assumes nothing.
+use Rattle.std.specs.Prelude.{if◌then◌else◌}
 use Prim.Native.Nat.{ℕ, ◌+◌, ◌*◌, ◌≤◌}
 use mathlib.Core.Path.{◌≡◌, refl, sym, ap, ◌∙◌}
 use mathlib.Core.Bool.{Bool, true, false}
@@ -21,7 +22,6 @@ use Rattle.plan.specs.declared.Checked.TheVariants.{Plan as accepted, Refused as
 use Rattle.plan.proofs.Answers.{no_number}
 use Rattle.plan.proofs.Valid.{valid}
 use Rattle.plan.proofs.Counts.{his-most, users-most}
-use Rattle.base.specs.Choice.{if◌then◌else◌}
 use Rattle.base.specs.Sums.{sum_of}
 use Rattle.counts.specs.Users.{all_elements}
 use Rattle.counts.proofs.UserSizes.{users-few}

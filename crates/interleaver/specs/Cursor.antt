@@ -1,7 +1,6 @@
 -- For the inner contracts and loops only: a cursor over the output positions, which goes around the R of them, as the code has it.
 -- proofs/Steps.antt: n steps from the position of the shift on it stands at the quad that is sent n-th.
-use Rattle.std.specs.Prelude.{ℕ, ◌+◌, ◌*◌, ◌/◌, ◌%◌, ◌≤◌, ◌<◌, ◌≡◌, Bool, ltb}
-use Rattle.base.specs.Choice.{if◌then◌else◌}
+use Rattle.std.specs.Prelude.{if◌then◌else◌, ℕ, ◌+◌, ◌*◌, ◌/◌, ◌%◌, ◌≤◌, ◌<◌, ◌≡◌, Bool, ltb}
 use Rattle.base.specs.Counts.{cnt}
 use Rattle.interleaver.specs.Matrix.{rows_of, empty_of, column_at, place_at, kept, read_at}
 use Rattle.interleaver.specs.declared.Cursor.{Cursor}

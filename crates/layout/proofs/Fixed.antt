@@ -1,5 +1,6 @@
 -- The owners above the users: a rule that holds is the owner that fixed_at names, and what fixed_at names has a rule that holds.
 -- Assumes an accepted cell and a subcarrier of its grid.
+use Rattle.std.specs.Prelude.{if◌then◌else◌}
 use Prim.Native.Nat.{ℕ, ◌+◌, ◌*◌, ◌/◌, ◌≤◌, ◌<◌}
 use mathlib.Core.Path.{◌≡◌, refl, sym, ap, ◌∙◌}
 use mathlib.Core.Logic.{◌⊎◌, inl, inr}
@@ -8,7 +9,6 @@ use native.Mathlib.Omega.{arith}
 use lib.Dec.{leb, ltb, eqb}
 use borrow.Author.Tests.{eq-eqb, ne_eqb, lt-ltb, le-ltb, le-leb, eqb-true, ltb-true, ltb-false, leb-true, not-true}
 use Rattle.base.proofs.Tests.{clash, both, or_cases, or_left, or_right, is-not, on-if}
-use Rattle.base.specs.Choice.{if◌then◌else◌}
 use Rattle.layout.specs.Rules.{
   slot_length,
   in_slot,

@@ -1,5 +1,6 @@
 -- Owners of a plan, those that have a place, have different numbers, so that a number names one owner and one kind of owners. Assumes
 -- the plan check's answer.
+use Rattle.std.specs.Prelude.{if◌then◌else◌}
 use Prim.Native.Nat.{ℕ, ◌+◌, ◌-◌, ◌<◌}
 use mathlib.Core.Path.{◌≡◌, refl, sym, ap, ◌∙◌}
 use mathlib.Core.Bool.{Bool, true, ◌&&◌}
@@ -7,7 +8,6 @@ use mathlib.Core.List.{List}
 use native.Mathlib.Omega.{arith}
 use lib.Dec.{ltb}
 use borrow.Author.Tests.{ltb-true, lt-ltb, le-ltb}
-use Rattle.base.specs.Choice.{if◌then◌else◌}
 use Rattle.plan.specs.Check.{check_of}
 use Rattle.plan.specs.Fields.{mapping_units}
 use Rattle.plan.specs.CommandLists.{users_of}

@@ -1,5 +1,6 @@
 -- An owner whose rule holds at a place is the one that owner_at names, and that one's rule holds. Owner by owner: no two owners are
 -- compared. Assumes nothing.
+use Rattle.std.specs.Prelude.{if◌then◌else◌}
 use Prim.Native.Nat.{ℕ, zero, suc, ◌+◌, ◌*◌, ◌/◌, ◌≤◌, ◌<◌}
 use mathlib.Core.Path.{◌≡◌, refl, sym, ap, ◌∙◌}
 use mathlib.Core.Bool.{Bool, true, false, ◌&&◌}
@@ -21,7 +22,6 @@ use Rattle.plan.specs.declared.User.{User}
 use Rattle.plan.specs.declared.Plan.{Plan}
 use Rattle.plan.proofs.Listed.{and_left, and_right}
 use Rattle.plan.proofs.Counts.{ports-most}
-use Rattle.base.specs.Choice.{if◌then◌else◌}
 use Rattle.layout.specs.Rules.{slot_of, crs, crs_of}
 use Rattle.layout.specs.Owners.{fixed_rule, above, free, blocks_have, user_rule, rest, owns, owners, owner_of}
 use Rattle.layout.specs.Chain.{fixed_at, is_idle, user_from, owner_at, user_has}

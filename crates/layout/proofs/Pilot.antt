@@ -1,4 +1,5 @@
 -- The reference signals of four ports: at most one stands at a place, and `pilot` names its port. Assumes nothing.
+use Rattle.std.specs.Prelude.{if◌then◌else◌}
 use Prim.Native.Nat.{ℕ, zero, suc, ◌+◌, ◌%◌, ◌≤◌, ◌<◌}
 use mathlib.Core.Path.{◌≡◌, refl}
 use mathlib.Core.Bool.{Bool, true, false, ◌&&◌, ◌||◌, and-true, and-false, or-false}
@@ -8,7 +9,6 @@ use borrow.Author.Tests.{ne_eqb, le-ltb, eqb-true}
 use Rattle.base.proofs.Tests.{by-test, clash, on-if}
 use Rattle.plan.specs.declared.Cell.{Cell}
 use Rattle.layout.specs.Rules.{slot_length, in_slot, crs_symbol, crs_shift, stands_at, crs_of, crs_below}
-use Rattle.base.specs.Choice.{if◌then◌else◌}
 use Rattle.layout.specs.Owners.{symbols}
 use Rattle.layout.specs.Chain.{pilot_of, pilot}
 

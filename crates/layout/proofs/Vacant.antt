@@ -1,5 +1,6 @@
 -- The groups that PCFICH and PHICH leave vacant: which they are by their number, how many stand below a group of their symbol, without a list
 -- of them, and how many the control region has. Assumes six blocks and at most twelve sixths.
+use Rattle.std.specs.Prelude.{if◌then◌else◌}
 use Prim.Native.Nat.{ℕ, zero, suc, ◌+◌, ◌-◌, ◌*◌, ◌/◌, ◌≤◌, ◌<◌}
 use mathlib.Core.Path.{◌≡◌, refl, sym, ap, ap₂, ◌∙◌}
 use mathlib.Core.Bool.{Bool, true, false, not, ◌&&◌}
@@ -7,7 +8,7 @@ use native.Mathlib.Omega.{arith}
 use native.Mathlib.Nat.{suc-mul, mul-le-mul_right}
 use lib.Dec.{leb, ltb, eqb}
 use borrow.Author.Tests.{lt-ltb, leb-true, ltb-true}
-use Rattle.base.specs.Choice.{if◌then◌else◌, indicator}
+use Rattle.base.specs.Choice.{indicator}
 use Rattle.base.specs.Counts.{cnt, some_of}
 use Rattle.base.specs.Ring.{past}
 use Rattle.base.proofs.Tests.{by-test, clash, is_false}

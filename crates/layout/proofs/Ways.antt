@@ -1,4 +1,5 @@
 -- The code's ways to the owner of a place, by the tests that it makes in turn. Assumes nothing.
+use Rattle.std.specs.Prelude.{if◌then◌else◌}
 use Prim.Native.Nat.{ℕ, zero, suc, ◌+◌, ◌-◌, ◌*◌, ◌/◌, ◌%◌, ◌≤◌, ◌<◌}
 use mathlib.Core.Path.{◌≡◌, refl, sym, ap, ◌∙◌}
 use mathlib.Core.Bool.{Bool, true, false, ◌&&◌, or-true}
@@ -22,7 +23,6 @@ use Rattle.plan.specs.declared.Plan.{Plan}
 use Rattle.plan.proofs.OneOf.{not_in}
 use Rattle.plan.proofs.Listed.{and_left, and_right}
 use Rattle.plan.proofs.CommandLists.{commands-next}
-use Rattle.base.specs.Choice.{if◌then◌else◌}
 use Rattle.base.proofs.Tests.{by-test, same_test}
 use Rattle.layout.specs.Rules.{slot_length, slot_of, in_slot, crs_shift, middle, centre, used, marked, in_sync_area, in_pbch_area}
 use Rattle.layout.specs.Rules.{element_group, in_group, format_group, is_format, format_has, quad_symbol, is_left, groups_left, start_number}

@@ -1,13 +1,13 @@
 -- For the inner contracts and loops only: the owner of a place by few tests in turn, as the code finds it. proofs/OneOwner.antt: it is
 -- the owner whose rule holds.
-use Rattle.std.specs.Prelude.{ℕ, zero, suc, ◌+◌, ◌-◌, ◌*◌, ◌/◌, ◌%◌, Bool, true, false, ◌&&◌, List, [], ◌∷◌, leb, ltb, eqb}
+use Rattle.std.specs.Prelude.{if◌then◌else◌, ℕ, zero, suc, ◌+◌, ◌-◌, ◌*◌, ◌/◌, ◌%◌, Bool, true, false, ◌&&◌, List, [], ◌∷◌, leb, ltb, eqb}
 use Rattle.plan.specs.Fields.{control_symbols, mapping_units, group_size}
 use Rattle.plan.specs.CommandLists.{users_of}
 use Rattle.plan.specs.declared.Cell.{Cell}
 use Rattle.plan.specs.declared.Frame.{Frame}
 use Rattle.plan.specs.declared.User.{User}
 use Rattle.plan.specs.declared.Plan.{Plan}
-use Rattle.base.specs.Choice.{if◌then◌else◌, indicator, passes_at}
+use Rattle.base.specs.Choice.{indicator, passes_at}
 use Rattle.base.specs.Counts.{cnt, upwards}
 use Rattle.base.specs.Sums.{sum_to}
 use Rattle.base.specs.Ring.{past, ring_below}

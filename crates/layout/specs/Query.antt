@@ -1,12 +1,11 @@
 -- What the promises cite: the owner query. Document 01, Refusals: "The owner query takes plan, s, k, port; a place has the same owner
 -- on every port."
-use Rattle.std.specs.Prelude.{ℕ, Bool, ◌&&◌, List, ltb}
+use Rattle.std.specs.Prelude.{if◌then◌else◌, ℕ, Bool, ◌&&◌, List, ltb}
 use Rattle.plan.specs.Answers.{Answer, given}
 use Rattle.plan.specs.Check.{check_of, refused_as, unless_refused}
 use Rattle.plan.specs.declared.Cell.{Cell}
 use Rattle.plan.specs.declared.Refusal.TheVariants.{Outside}
 use Rattle.plan.specs.declared.Plan.{Plan}
-use Rattle.base.specs.Choice.{if◌then◌else◌}
 use Rattle.layout.specs.Owners.{owner_number, symbols, carriers, owner_of}
 use Rattle.layout.specs.declared.OwnerAnswer.{OwnerAnswer}
 use Rattle.layout.specs.declared.OwnerAnswer.TheVariants.{Is, Refused}

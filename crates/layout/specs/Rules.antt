@@ -1,8 +1,7 @@
 -- What the promises cite: the places of each owner above the users, by its own sentence of document 01, Owners.
 -- A rule takes the cell c, where it speaks of the subframe the frame f, and a place (s, k). In the paper's letters: C identity,
 -- N blocks, P ports, l a symbol's number in its slot. Of the slots n = 2f and 2f + 1 the rules need n mod 2 alone: `slot_of` is 0 or 1.
-use Rattle.std.specs.Prelude.{ℕ, zero, suc, ◌+◌, ◌-◌, ◌*◌, ◌/◌, ◌%◌, Bool, not, ◌&&◌, ◌||◌, leb, ltb, eqb}
-use Rattle.base.specs.Choice.{if◌then◌else◌}
+use Rattle.std.specs.Prelude.{if◌then◌else◌, ℕ, zero, suc, ◌+◌, ◌-◌, ◌*◌, ◌/◌, ◌%◌, Bool, not, ◌&&◌, ◌||◌, leb, ltb, eqb}
 use Rattle.base.specs.Counts.{cnt, nth}
 use Rattle.plan.specs.Fields.{mapping_units, group_size, symbol_groups}
 use Rattle.plan.specs.declared.Cell.{Cell}

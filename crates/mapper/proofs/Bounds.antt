@@ -1,4 +1,5 @@
 -- Lengths and counts of accepted plans are small, so that an i64 holds them. Assumes nothing.
+use Rattle.std.specs.Prelude.{if◌then◌else◌}
 use Prim.Native.Nat.{ℕ, ◌^◌, ◌≤◌, ◌<◌}
 use mathlib.Core.Path.{◌≡◌, refl, sym, ap, ◌∙◌}
 use mathlib.Core.Bool.{Bool, true, false}
@@ -21,7 +22,6 @@ use Rattle.plan.specs.declared.Checked.TheVariants.{Plan as accepted, Refused as
 use Rattle.plan.proofs.Answers.{no_number}
 use Rattle.plan.proofs.Valid.{valid}
 use Rattle.plan.proofs.Counts.{blocks-most, ports-most}
-use Rattle.base.specs.Choice.{if◌then◌else◌}
 use Rattle.layout.specs.Owners.{symbols, carriers}
 use Rattle.counts.specs.Counts.{kinds, kind_count}
 use Rattle.counts.proofs.AddUp.{kinds-add-up}

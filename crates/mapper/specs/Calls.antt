@@ -1,6 +1,6 @@
 -- What the promises cite: the public calls' answers in numbers, by the input, where no other crate has them, and the numbers that the functions for C
 -- answer with: a number from 0 on, or minus the refusal's number.
-use Rattle.std.specs.Prelude.{ℕ, List, [], ◌∷◌, ltb, ℤ, pos, neg_ℤ, get_or}
+use Rattle.std.specs.Prelude.{if◌then◌else◌, ℕ, List, [], ◌∷◌, ltb, ℤ, pos, neg_ℤ, get_or}
 use Rattle.std.specs.Float.{binary32}
 use Rattle.std.specs.Float.Ieee.{to_bits}
 use Rattle.plan.specs.Answers.{Answer, given}
@@ -9,7 +9,6 @@ use Rattle.plan.specs.declared.Refusal.TheVariants.{NoElement}
 use Rattle.plan.specs.declared.Plan.{Plan}
 use Rattle.plan.specs.declared.Checked.{Checked}
 use Rattle.plan.specs.declared.Checked.TheVariants.{Plan as accepted, Refused as refused}
-use Rattle.base.specs.Choice.{if◌then◌else◌}
 use Rattle.layout.specs.Query.{owner_query_of, owner_answer}
 use Rattle.counts.specs.Counts.{kinds, kind_count}
 use Rattle.payload.specs.Payload.{grid_length, payload_length}

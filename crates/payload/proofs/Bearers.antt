@@ -1,4 +1,5 @@
 -- An owner that has a bit is one of the plan's owners. Assumes nothing.
+use Rattle.std.specs.Prelude.{if◌then◌else◌}
 use Prim.Native.Nat.{ℕ, zero, suc, ◌+◌, ◌*◌, ◌≤◌, ◌<◌}
 use mathlib.Core.Path.{◌≡◌, refl, ap, subst}
 use mathlib.Core.Bool.{Bool, true, false}
@@ -17,7 +18,6 @@ use Rattle.plan.specs.Valid.{HiIn, Valid}
 use Rattle.plan.specs.declared.Cell.{Cell}
 use Rattle.plan.specs.declared.Hi.{Hi}
 use Rattle.plan.specs.declared.Plan.{Plan}
-use Rattle.base.specs.Choice.{if◌then◌else◌}
 use Rattle.phich.specs.Spreading.{spread_length}
 use Rattle.phich.specs.Units.{mapping_unit}
 use Rattle.phich.proofs.Units.{hi-unit}

@@ -1,4 +1,5 @@
 -- Each HI's bit is the bit of exactly one PHICH unit. Assumes nothing.
+use Rattle.std.specs.Prelude.{if◌then◌else◌}
 use Prim.Native.Nat.{ℕ, ◌+◌}
 use mathlib.Core.Path.{◌≡◌, refl, sym, ap₂, ◌∙◌}
 use mathlib.Core.Bool.{Bool, true, false}
@@ -7,7 +8,7 @@ use native.Mathlib.Nat.{suc_inj}
 use native.Mathlib.Omega.{arith}
 use lib.Dec.{eqb}
 use lib.ListN.{length}
-use Rattle.base.specs.Choice.{if◌then◌else◌, indicator}
+use Rattle.base.specs.Choice.{indicator}
 use Rattle.plan.specs.Lists.{Every}
 use Rattle.plan.specs.Fields.{mapping_units}
 use Rattle.plan.specs.Valid.{HiIn}

@@ -1,7 +1,7 @@
 -- What the promises cite: the bits of each owner, as positions in the payload. Document 01, Four questions: "PBCH's bits are its
 -- section when f = 0, a unit's are given above, a user's are the Q × G of its section; spare bits are nobody's."
-use Rattle.std.specs.Prelude.{ℕ, ◌+◌, List, [], ◌∷◌, ◌++◌, eqb, length}
-use Rattle.base.specs.Choice.{if◌then◌else◌, indicator}
+use Rattle.std.specs.Prelude.{if◌then◌else◌, ℕ, ◌+◌, List, [], ◌∷◌, ◌++◌, eqb, length}
+use Rattle.base.specs.Choice.{indicator}
 use Rattle.plan.specs.CommandLists.{his_of}
 use Rattle.plan.specs.declared.Hi.{Hi}
 use Rattle.plan.specs.declared.Plan.{Plan}

@@ -1,6 +1,6 @@
 -- What the promises cite: a plan's sections, the lengths of payload and grid, and the refusals 10 to 12. w is a plan's bytes, p the
 -- plan that the plan check answers with.
-use Rattle.std.specs.Prelude.{ℕ, ◌*◌, ◌≡◌, Bool, List, [], ◌∷◌, ◌++◌, eqb, length}
+use Rattle.std.specs.Prelude.{if◌then◌else◌, ℕ, ◌*◌, ◌≡◌, Bool, List, [], ◌∷◌, ◌++◌, eqb, length}
 use Rattle.base.specs.Bits.{bit_at}
 use Rattle.base.specs.Tables.{table}
 use Rattle.plan.specs.Lists.{none_of, Every}
@@ -10,7 +10,6 @@ use Rattle.plan.specs.declared.Frame.{Frame}
 use Rattle.plan.specs.declared.Plan.{Plan}
 use Rattle.plan.specs.declared.Refusal.{Refusal}
 use Rattle.plan.specs.declared.Refusal.TheVariants.{GridLength, PayloadLength, SpareBit}
-use Rattle.base.specs.Choice.{if◌then◌else◌}
 use Rattle.layout.specs.Owners.{symbols}
 use Rattle.layout.specs.declared.Owner.TheVariants.{User as UserOf}
 use Rattle.counts.specs.Counts.{count_of}

@@ -1,12 +1,13 @@
 -- The entry of a group: it gives the group's number in the set of those taken, and is 24 more with each block of twelve subcarriers. Assumes
 -- a group of the symbol.
+use Rattle.std.specs.Prelude.{if◌then◌else◌}
 use Prim.Native.Nat.{ℕ, zero, suc, ◌+◌, ◌-◌, ◌*◌, ◌/◌, ◌%◌, ◌≤◌, ◌<◌}
 use mathlib.Core.Path.{◌≡◌, refl, sym, ap, ◌∙◌}
 use native.Mathlib.Nat.{suc-mul, zero-mul}
 use native.Mathlib.Omega.{arith}
 use lib.Dec.{eqb, ltb}
 use borrow.Author.Tests.{eqb-true, eqb-false}
-use Rattle.base.specs.Choice.{if◌then◌else◌, indicator}
+use Rattle.base.specs.Choice.{indicator}
 use Rattle.base.proofs.Tests.{by-test, on-if}
 use Rattle.base.proofs.Rows.{row_inside}
 use Rattle.plan.specs.Fields.{group_size, symbol_groups}

@@ -1,7 +1,6 @@
 -- For the inner contracts and loops only: the groups of the block's quads as a table. R quads, of which quad q has group `block_group c f q` of
 -- symbol `block_symbol c f q`.
-use Rattle.std.specs.Prelude.{ℕ, ◌+◌, ◌*◌, ◌%◌, ◌≤◌, ◌<◌, ◌≡◌, cond, List, eqb, length, get_or}
-use Rattle.base.specs.Choice.{if◌then◌else◌}
+use Rattle.std.specs.Prelude.{if◌then◌else◌, ℕ, ◌+◌, ◌*◌, ◌%◌, ◌≤◌, ◌<◌, ◌≡◌, cond, List, eqb, length, get_or}
 use Rattle.plan.specs.Fields.{control_symbols, group_size, region_groups}
 use Rattle.plan.specs.Valid.{CellIn, FrameIn}
 use Rattle.plan.specs.declared.Cell.{Cell}

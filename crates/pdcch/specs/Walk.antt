@@ -1,7 +1,6 @@
 -- For the inner contracts and loops only: the walk over the groups of the control region that fills the table. c is the cell, L the number of
 -- control symbols, R that of the vacant groups. As in 6.8.5, x is k × L + s.
-use Rattle.std.specs.Prelude.{ℕ, zero, suc, ◌+◌, ◌*◌, ◌/◌, ◌%◌, ◌≤◌, ◌<◌, ◌≡◌, Bool, true, not, ◌||◌, List, eqb, length, get_or, set}
-use Rattle.base.specs.Choice.{if◌then◌else◌}
+use Rattle.std.specs.Prelude.{if◌then◌else◌, ℕ, zero, suc, ◌+◌, ◌*◌, ◌/◌, ◌%◌, ◌≤◌, ◌<◌, ◌≡◌, Bool, true, not, ◌||◌, List, eqb, length, get_or, set}
 use Rattle.base.specs.Counts.{cnt, nth, some_of}
 use Rattle.bitset.specs.Sets.{member}
 use Rattle.interleaver.specs.Matrix.{quad_at, sent_at}

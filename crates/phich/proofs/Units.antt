@@ -1,9 +1,9 @@
 -- An acknowledgement unit, for both lengths: its sums agree exactly when the bits of its HIs do, each bit is read back from
 -- them, they are 0 where the unit is empty, and at most eight either way. Assumes nothing.
+use Rattle.std.specs.Prelude.{if◌then◌else◌}
 use Rattle.std.proofs.Common.{◌≡◌, ℕ, suc, ◌+◌, ◌*◌, ◌/◌, ◌%◌, ◌<◌, ◌≤◌, Bool, true, false, cond, eqb, ◌↔◌}
 use Rattle.std.proofs.Common.{List, [], ◌∷◌, length, get_or, sym, refl, ap, ◌∙◌, subst, ap₂, suc-le-suc, zero-le, arith, ne_eqb}
 use native.Mathlib.Decide.{ℕ_discrete}
-use Rattle.base.specs.Choice.{if◌then◌else◌}
 use Rattle.base.specs.Signs.{below}
 use Rattle.base.specs.Pairs.{nil, plus, Small}
 use Rattle.base.specs.Bits.{bit_at}

@@ -1,6 +1,5 @@
 -- What the promises cite. TS 36.211 6.9.1: one PHICH's bit is modulated, spread and scrambled. The length l is N_SF.
-use Rattle.std.specs.Prelude.{◌≡◌, ℕ, ◌-◌, ◌%◌, ◌<◌, ◌≤◌, cond, List, [], ◌∷◌, get_or, pos, negsuc, ◌+ℤ◌, ◌-ℤ◌, ◌==◌, slice_index_or}
-use Rattle.base.specs.Choice.{if◌then◌else◌}
+use Rattle.std.specs.Prelude.{if◌then◌else◌, ◌≡◌, ℕ, ◌-◌, ◌%◌, ◌<◌, ◌≤◌, cond, List, [], ◌∷◌, get_or, pos, negsuc, ◌+ℤ◌, ◌-ℤ◌, ◌==◌, slice_index_or}
 use Rattle.base.specs.declared.Pair.{Pair}
 use Rattle.base.specs.Pairs.{flipped}
 use Rattle.base.specs.Digits.{dig}

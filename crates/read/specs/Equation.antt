@@ -1,7 +1,6 @@
 -- What the promises cite, and nobody has to believe: read's answer and the payload after it, for any input, by an equation. It goes by the payload of a
 -- grid (recovery/specs/Recovery.antt). `Reads` (Read.antt) stands beside it and says the same without that: proofs/Once.antt.
-use Rattle.std.specs.Prelude.{ℕ, Bool, true, false, ◌&&◌, List, [], ◌∷◌, eqb}
-use Rattle.base.specs.Choice.{if◌then◌else◌}
+use Rattle.std.specs.Prelude.{if◌then◌else◌, ℕ, Bool, true, false, ◌&&◌, List, [], ◌∷◌, eqb}
 use Rattle.plan.specs.Answers.{Answer, given}
 use Rattle.plan.specs.Check.{check_of, refused_as, unless_refused}
 use Rattle.plan.specs.declared.Refusal.{Refusal}

@@ -1,5 +1,6 @@
 -- Sections that are made from their bits: how many bytes they have, each bit of them, and that the spare bits are zero. Assumes nothing
 -- but that the bits are 0 or 1.
+use Rattle.std.specs.Prelude.{if◌then◌else◌}
 use Prim.Native.Nat.{ℕ, zero, suc, ◌+◌, ◌-◌, ◌*◌, ◌/◌, ◌%◌, ◌^◌, ◌≤◌, ◌<◌}
 use mathlib.Core.Path.{◌≡◌, refl, sym, ap, ap₂, ◌∙◌}
 use mathlib.Core.Bool.{Bool, true, false}
@@ -16,7 +17,6 @@ use Rattle.base.proofs.Tables.{table_at, table-length}
 use Rattle.gold.specs.Sequence.{binary}
 use Rattle.gold.proofs.Binary.{binary-lt, binary-digit}
 use Rattle.plan.specs.Lists.{Every}
-use Rattle.base.specs.Choice.{if◌then◌else◌}
 use Rattle.payload.specs.Sections.{section_bytes, bytes_of, start_of, span, spare_at, spares_from}
 use Rattle.payload.proofs.Sections.{span-length, span-at}
 use Rattle.subframe.proofs.OwnerBits.{at_every}

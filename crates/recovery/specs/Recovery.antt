@@ -1,6 +1,6 @@
 -- For read's equation, inner contracts and laws only: the payload that a grid is built from, read bit by bit where each bit's symbol stands. w is a plan's bytes, p the
 -- plan that the plan check answers with, g a grid. proofs/: read from the grid of an accepted payload, it is that payload.
-use Rattle.std.specs.Prelude.{ℕ, zero, suc, ◌+◌, ◌-◌, ◌*◌, ◌/◌, ◌%◌, List, [], ◌∷◌, ◌++◌, ltb}
+use Rattle.std.specs.Prelude.{if◌then◌else◌, ℕ, zero, suc, ◌+◌, ◌-◌, ◌*◌, ◌/◌, ◌%◌, List, [], ◌∷◌, ◌++◌, ltb}
 use Rattle.base.specs.declared.Pair.{Pair}
 use Rattle.base.specs.Bytes.{pair_of}
 use Rattle.base.specs.Digits.{dig}
@@ -16,7 +16,6 @@ use Rattle.phich.specs.Spreading.{spread_length}
 use Rattle.plan.specs.CommandLists.{his_of, nth_user}
 use Rattle.plan.specs.declared.User.{User}
 use Rattle.plan.specs.declared.Plan.{Plan}
-use Rattle.base.specs.Choice.{if◌then◌else◌}
 use Rattle.layout.specs.declared.Owner.{Owner}
 use Rattle.layout.specs.declared.Owner.TheVariants.{Pbch, Phich, User as UserOf}
 use Rattle.places.specs.Places.{places_of, place_of}

@@ -1,4 +1,5 @@
 -- Where a channel's sequence starts: each c_init fits a u32, and the definitions at the branches of the code. Assumes nothing.
+use Rattle.std.specs.Prelude.{if◌then◌else◌}
 use Prim.Native.Nat.{ℕ, ◌+◌, ◌-◌, ◌*◌, ◌%◌, ◌<◌, ◌≤◌}
 use mathlib.Core.Path.{◌≡◌, sym, ap, ◌∙◌}
 use mathlib.Core.Bool.{Bool}
@@ -8,7 +9,6 @@ use borrow.Author.Tests.{lt-ltb, le-ltb, eq-eqb, ne_eqb}
 use Rattle.crs.specs.Crs.{crs_init}
 use Rattle.plan.specs.declared.Cell.{Cell}
 use Rattle.plan.specs.declared.Frame.{Frame}
-use Rattle.base.specs.Choice.{if◌then◌else◌}
 use Rattle.layout.specs.Rules.{slot_length, slot_of, in_slot}
 use Rattle.subframe.specs.Elements.{pbch_first}
 

@@ -1,10 +1,9 @@
 -- For the inner contracts and loops only: THE SCHEDULE, the channels of a plan in the order in which they are built, verified and read, each
 -- with its turn's number. w is a plan's bytes, p the plan that the plan check answers with. An element's number is port × T + place, T the
 -- places on a port. The laws in proofs/ show that no element is sent in two turns (Owners) and that the rest is silent (Covers).
-use Rattle.std.specs.Prelude.{ℕ, zero, suc, ◌+◌, ◌-◌, ◌*◌, ◌/◌, ◌≤◌, ◌<◌, ◌≡◌, Bool, true, ◌&&◌, List, eqb, ltb, take, drop}
+use Rattle.std.specs.Prelude.{if◌then◌else◌, ℕ, zero, suc, ◌+◌, ◌-◌, ◌*◌, ◌/◌, ◌≤◌, ◌<◌, ◌≡◌, Bool, true, ◌&&◌, List, eqb, ltb, take, drop}
 use Rattle.base.specs.declared.Element.{Element}
 use Rattle.base.specs.Bits.{bit_at}
-use Rattle.base.specs.Choice.{if◌then◌else◌}
 use Rattle.base.specs.Tables.{table}
 use Rattle.gold.specs.declared.Registers.{Registers}
 use Rattle.gold.specs.Sequence.{pair_at}

@@ -1,4 +1,5 @@
 -- Bits as numbers: bits after those that are held, 48 of them as six bytes, and the last bytes of a section. Assumes nothing.
+use Rattle.std.specs.Prelude.{if◌then◌else◌}
 use Prim.Native.Nat.{ℕ, zero, suc, ◌+◌, ◌-◌, ◌*◌, ◌/◌, ◌%◌, ◌^◌, ◌≤◌, ◌<◌}
 use mathlib.Core.Path.{◌≡◌, refl, sym, ap, ap₂, ◌∙◌, subst}
 use mathlib.Core.Bool.{Bool, true, false}
@@ -11,7 +12,6 @@ use lib.Pow.{pow-add, pow_pos, shl-shr, high, low, mod-pow-add}
 use borrow.Author.Tests.{lt-ltb, le-ltb}
 use Rattle.base.proofs.Rows.{row_inside}
 use Rattle.base.proofs.Tables.{set_more}
-use Rattle.base.specs.Choice.{if◌then◌else◌}
 use Rattle.gold.specs.Sequence.{binary}
 use Rattle.gold.proofs.Binary.{binary-same, binary-split, binary-lt}
 use Rattle.gold.proofs.Window.{Holds, cut, exact}

@@ -1,5 +1,6 @@
 -- The numbers of symbols of PBCH and of a user are such as transmit diversity maps: even with two and four ports. Assumes nothing
 -- beyond the plan check's answer.
+use Rattle.std.specs.Prelude.{if◌then◌else◌}
 use Prim.Native.Nat.{ℕ, ◌%◌, ◌<◌}
 use mathlib.Core.Path.{◌≡◌, refl, sym, ap, ◌∙◌, subst}
 use mathlib.Core.Logic.{◌⊎◌, inl, inr}
@@ -15,7 +16,6 @@ use Rattle.plan.specs.CommandLists.{users_of}
 use Rattle.plan.specs.declared.Plan.{Plan}
 use Rattle.plan.specs.declared.Checked.TheVariants.{Plan as accepted}
 use Rattle.plan.proofs.Valid.{valid}
-use Rattle.base.specs.Choice.{if◌then◌else◌}
 use Rattle.layout.specs.declared.Owner.TheVariants.{Pbch, User as UserOf}
 use Rattle.counts.proofs.FixedCounts.{pbch-count}
 use Rattle.counts.proofs.UserSizes.{user-even}

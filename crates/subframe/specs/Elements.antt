@@ -1,7 +1,7 @@
 -- What the promises cite: the element of every place on every port, by the place's owner. Document 01, Owners; TS 36.211. (s, k) is a
 -- place, symbol s and subcarrier k; w is a plan's bytes, p the plan that the plan check answers with; `c ci n` is the sequence's c(n) for
 -- the c_init ci.
-use Rattle.std.specs.Prelude.{ℕ, ◌+◌, ◌-◌, ◌*◌, ◌/◌, ◌%◌, List, eqb, get_or, pos}
+use Rattle.std.specs.Prelude.{if◌then◌else◌, ℕ, ◌+◌, ◌-◌, ◌*◌, ◌/◌, ◌%◌, List, eqb, get_or, pos}
 use Rattle.base.specs.declared.Pair.{Pair}
 use Rattle.base.specs.declared.Element.{Element}
 use Rattle.base.specs.Bits.{bit_at}
@@ -22,7 +22,6 @@ use Rattle.plan.specs.declared.Cell.{Cell}
 use Rattle.plan.specs.declared.Frame.{Frame}
 use Rattle.plan.specs.declared.User.{User}
 use Rattle.plan.specs.declared.Plan.{Plan}
-use Rattle.base.specs.Choice.{if◌then◌else◌}
 use Rattle.layout.specs.Rules.{slot_of, in_slot}
 use Rattle.layout.specs.Owners.{owner_of}
 use Rattle.layout.specs.declared.Mark.TheVariants.{Primary, Secondary}
