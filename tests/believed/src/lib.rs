@@ -15,7 +15,7 @@ pub type Place = (String, String);
 pub type Book = BTreeMap<String, Module>;
 
 /// Names that need no import.
-const BUILT_IN: [&str; 5] = ["Type", "Unit", "⊥", "×", "now"];
+const BUILT_IN: [&str; 5] = ["Type", "Unit", "⊥", "×", "result"];
 
 #[derive(Default)]
 pub struct Reached<'a> {
@@ -46,10 +46,10 @@ fn lookup(book: &Book, path: &str, name: &str) -> Option<Place> {
     lookup(book, path, name)
 }
 
-/// What a word in a file may stand for: a name, and each operator that it is a part of, such as `if_then_else_`.
+/// What a word in a file may stand for: a name, and each operator that it is a part of, such as `if◌then◌else◌`.
 fn resolve(book: &Book, path: &str, word: &str) -> Vec<Place> {
     let names = book[path].definitions.keys().chain(book[path].imports.keys());
-    let has_part = |name: &&String| !name.starts_with('«') && name.split('_').any(|part| part == word);
+    let has_part = |name: &&String| name.split('◌').any(|part| part == word);
     let operators = names.filter(has_part).map(String::as_str);
     operators.chain([word]).filter_map(|name| lookup(book, path, name)).collect()
 }

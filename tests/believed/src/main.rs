@@ -4,8 +4,8 @@
 use believed::{reach, report, Book, Module, Place};
 use std::process::ExitCode;
 
-/// The public calls; each of their contracts is a statement.
-const CALLS: &str = "crates/mapper/src/lib.rt";
+/// The public calls, and the functions for C, which state the contracts of ten of them again; each contract is a statement.
+const CALLS: [&str; 2] = ["crates/mapper/src/lib.rt", "crates/mapper_c/src/lib.rt"];
 
 /// The theorems that docs/APPROVAL.md calls A, B and C, that no two answers meet read's promise, and what a call of read has to do with calls of build.
 const THEOREMS: [(&str, &str); 9] = [
@@ -43,7 +43,7 @@ const FURTHER: [(&str, &str); 17] = [
 
 /// Read's equation: the record `Reads`, which the calls promise beside it, leaves it no choice.
 const DETERMINED: [(&str, &str); 2] =
-    [("crates/read/specs/Equation.antt", "readOf"), ("crates/read/specs/Equation.antt", "payloadAfter")];
+    [("crates/read/specs/Equation.antt", "read_of"), ("crates/read/specs/Equation.antt", "payload_after")];
 
 /// The definitions, laws and sources below a root.
 fn book(root: &str) -> Result<Book, String> {
@@ -70,10 +70,12 @@ fn book(root: &str) -> Result<Book, String> {
 /// Prints the table, or the total alone. Not well where the total is above the limit, or a word stands for nothing known.
 fn run(root: &str, limit: Option<usize>) -> Result<bool, String> {
     let book = book(root)?;
-    let calls = &book.get(CALLS).ok_or(format!("no file {CALLS}"))?.statements;
-    let calls = calls.keys().map(|name| (CALLS, name.as_str()));
     let place = |(path, name): (&str, &str)| -> Place { (path.into(), name.into()) };
-    let statements: Vec<Place> = calls.chain(THEOREMS).map(place).collect();
+    let mut statements: Vec<Place> = THEOREMS.map(place).to_vec();
+    for path in CALLS {
+        let calls = &book.get(path).ok_or(format!("no file {path}"))?.statements;
+        statements.extend(calls.keys().map(|name| place((path, name))));
+    }
     let reached = reach(&book, &statements, &DETERMINED.map(place))?;
     let further = reach(&book, &FURTHER.map(place), &[])?;
     let (total, types) = report::counts(&reached.definitions);

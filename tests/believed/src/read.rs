@@ -7,8 +7,7 @@ use std::collections::{BTreeMap, BTreeSet};
 const MARKS: [&str; 4] = ["unfoldable", "abbrev", "pub", "axiom"];
 
 /// Other words that are no names.
-const RESERVED: &str =
-    "( ) { } ; , . : = → λ _ record data module where let in unfolding ⌜ ⌝ ensures requires";
+const RESERVED: &str = "( ) { } ; , . : = → λ _ record data module where let in unfolding ensures requires";
 
 /// A definition or a statement: its lines, the names in it, and those of them that it binds somewhere.
 #[derive(Clone, Default)]
@@ -66,8 +65,13 @@ fn is_name(word: &&String) -> bool {
     !reserved && !word.starts_with(|c: char| c == '.' || c.is_ascii_digit())
 }
 
+/// Of a name in the sources.
+fn is_letter(c: char) -> bool {
+    c.is_alphanumeric() || c == '_'
+}
+
 /// The words of definitions and contracts. A field access is one word with its dot. An escaped name is the bare one, unless
-/// that is no name or would be an operator.
+/// that is no name.
 fn words(lines: &[Line]) -> Vec<String> {
     let bracket = |c: char| "(){};,".contains(c);
     let ends = |c: char| c.is_whitespace() || bracket(c) || c == '.';
@@ -83,7 +87,7 @@ fn words(lines: &[Line]) -> Vec<String> {
             };
             let (word, after) = rest.split_at(length);
             let bare = word.trim_matches(['«', '»']).to_string();
-            words.push(if is_name(&&bare) && !bare.contains('_') { bare } else { word.into() });
+            words.push(if is_name(&&bare) { bare } else { word.into() });
             rest = after.trim_start();
         }
     }
@@ -91,14 +95,16 @@ fn words(lines: &[Line]) -> Vec<String> {
 }
 
 impl Text {
-    /// Of a definition or a contract. The names before a `:` or a `=`, and those behind a λ, are bound.
+    /// Of a definition or a contract. The names before a `:` or a `=`, and those behind a λ, are bound; so is a clause's own.
     fn of_logic(lines: &[Line]) -> Text {
         let words = words(lines);
         let mut bound = BTreeSet::new();
         for (at, word) in words.iter().enumerate() {
             match word.as_str() {
                 ":" | "=" => bound.extend(words[..at].iter().rev().take_while(is_name).cloned()),
-                "λ" => bound.extend(words[at + 1..].iter().take_while(is_name).cloned()),
+                "λ" | "ensures" | "requires" => {
+                    bound.extend(words[at + 1..].iter().take_while(is_name).cloned())
+                }
                 _ => {}
             }
         }
@@ -110,8 +116,7 @@ impl Text {
         let mut text = Text { lines: numbers(lines), ..Text::default() };
         for line in lines {
             let line = line.text.replace("pub ", "").replace("extern \"C\" ", "");
-            let names =
-                line.split(|c: char| !c.is_alphanumeric() && c != '_').filter(|name| !name.is_empty());
+            let names = line.split(|c: char| !is_letter(c)).filter(|name| !name.is_empty());
             for (at, name) in names.enumerate() {
                 match at > 0 && name.starts_with(char::is_uppercase) {
                     true => text.names.extend([name.into()]),
@@ -180,15 +185,16 @@ impl Module {
         let (path, names) = words.split_at(words.iter().position(|word| word == "{").unwrap_or(words.len()));
         let path = path.concat();
         let parts: Vec<&str> = path.trim_end_matches('.').split('.').collect();
-        let package = parts[0].strip_prefix("Rattle·").and_then(|name| name.split('·').next());
         for words in names.split(|word| !is_name(&word)) {
             let (Some(name), Some(local)) = (words.first(), words.last()) else { continue };
-            let place = match (package, &parts[1..]) {
-                (None, _) => (parts.join("."), name.clone()),
-                (Some(package), [_, "declared", name, ..]) => {
+            let place = match &parts[..] {
+                ["Rattle", package, _, "declared", name, ..] if *package != "std" => {
                     (format!("crates/{package}/src/"), name.to_string())
                 }
-                (Some(package), file) => (format!("crates/{package}/{}.antt", file.join("/")), name.clone()),
+                ["Rattle", package, file @ ..] if *package != "std" => {
+                    (format!("crates/{package}/{}.antt", file.join("/")), name.clone())
+                }
+                _ => (parts.join("."), name.clone()),
             };
             self.imports.insert(local.clone(), place);
         }
@@ -199,11 +205,14 @@ impl Module {
         let mut module = Module { code: numbers(&lines), ..Module::default() };
         for entry in entries(&lines) {
             let line = entry[0].text.replace("pub extern \"C\" ", "pub ");
-            let parts: Vec<&str> = line.split(|c: char| !c.is_alphanumeric() && c != '_').collect();
+            let parts: Vec<&str> = line.split(|c: char| !is_letter(c)).collect();
             match parts[..] {
                 ["ghost", "use", ..] => module.import(&words(entry)[2..]),
-                ["use", package, "", name, ""] => {
-                    module.imports.insert(name.into(), (format!("crates/{package}/src/"), name.into()));
+                ["use", package, "", ..] => {
+                    let names =
+                        entry.iter().flat_map(|line| line.text.split(|c: char| !is_letter(c))).skip(3);
+                    let place = |name: &str| (format!("crates/{package}/src/"), name.into());
+                    module.imports.extend(names.map(|name| (name.into(), place(name))));
                 }
                 ["struct" | "enum", name, ..] | ["pub", "struct" | "enum", name, ..] => {
                     module.definitions.insert(name.into(), Text::of_rattle(entry));

@@ -18,11 +18,11 @@ fn place(path: &str, name: &str) -> Place {
     (path.into(), name.into())
 }
 
-/// A call `f` whose contract says of its answer `r` what is given, with the import that is given.
+/// A call `f` whose contract says of its answer `result` what is given, with the import that is given.
 fn calls(import: &str, says: &str) -> String {
     format!(
-        "ghost use mathlib.Core.Path.{{_≡_}};\nghost use {import};\n
-pub fn f(x: &[u8]) -> usize\n    ensures {{ λ r. ⌜ {says} ⌝ }}\n{{\n    other(x)\n}}\n"
+        "ghost use Rattle.std.specs.Prelude.{{◌≡◌}};\nghost use {import};\n
+pub fn f(x: &[u8]) -> usize\n    ensures told {{ {says} }}\n{{\n    other(x)\n}}\n"
     )
 }
 
@@ -37,10 +37,10 @@ fn believed(files: &[(&str, &str)]) -> (Vec<String>, usize) {
 
 #[test]
 fn renamed_import_is_followed_and_what_is_not_cited_is_not() {
-    let calls = calls("Rattle·low.specs.Low.{twice as doubled}", "r ≡ doubled (now (x .entry))");
+    let calls = calls("Rattle.low.specs.Low.{twice as doubled}", "result ≡ doubled x.now");
     let low = "
-use Prim.Native.Nat.{ℕ, _+_}
-use Rattle·low·specs.specs.Lower.{same}
+use Rattle.std.specs.Prelude.{ℕ, ◌+◌}
+use Rattle.low.specs.Lower.{same}
 
 unfoldable pub twice : ℕ → ℕ
 twice n = same n + same n
@@ -48,33 +48,32 @@ twice n = same n + same n
 unfoldable pub thrice : ℕ → ℕ
 thrice n = twice n + n
 ";
-    let lower = "use Prim.Native.Nat.{ℕ}\nabbrev pub same : ℕ → ℕ\nsame n = n\n";
+    let lower = "use Rattle.std.specs.Prelude.{ℕ}\nabbrev pub same : ℕ → ℕ\nsame n = n\n";
     let files = [(CALLS, calls.as_str()), (SPECS, low), ("crates/low/specs/Lower.antt", lower)];
     assert_eq!(believed(&files), (vec!["twice".into(), "same".into()], 4));
 }
 
 #[test]
 fn operators_and_escaped_names() {
-    let calls = calls("Rattle·low.specs.Low.{choice}", "r ≡ choice (now (x .entry))");
+    let calls = calls("Rattle.low.specs.Low.{choice}", "result ≡ choice x.now");
     let low = "
-use Prim.Native.Nat.{ℕ}
-use mathlib.Core.Bool.{Bool, true, false}
+use Rattle.std.specs.Prelude.{ℕ, Bool, true, false}
 
-infixr 10 if_then_else_
-abbrev pub if_then_else_ {ℓ} : {A : Type ℓ} → Bool → A → A → A
-if_then_else_ true a b = a
-if_then_else_ false a b = b
+infixr 10 if◌then◌else◌
+abbrev pub if◌then◌else◌ {ℓ} : {A : Type ℓ} → Bool → A → A → A
+if◌then◌else◌ true a b = a
+if◌then◌else◌ false a b = b
 
-abbrev pub _⊕_ : Bool → Bool → Bool
+abbrev pub ◌⊕◌ : Bool → Bool → Bool
 a ⊕ true = a
 a ⊕ false = false
-infixl 20 _⊕_
+infixl 20 ◌⊕◌
 
-abbrev pub _⊖_ : Bool → Bool → Bool
+abbrev pub ◌⊖◌ : Bool → Bool → Bool
 a ⊖ b = a
 
 -- may be meant by a `⊕` as well
-abbrev pub ⊕_ : Bool → Bool
+abbrev pub ⊕◌ : Bool → Bool
 ⊕ a = a
 
 abbrev pub «-1» : ℕ
@@ -90,37 +89,39 @@ abbrev pub choice : Bool → ℕ
 choice t = if t ⊕ true then «-1» else «x_1»
 ";
     let (names, lines) = believed(&[(CALLS, &calls), (SPECS, low)]);
-    assert_eq!(names, ["-1", "_⊕_", "choice", "if_then_else_", "«x_1»", "⊕_"]);
+    assert_eq!(names, ["-1", "choice", "if◌then◌else◌", "x_1", "⊕◌", "◌⊕◌"]);
     assert_eq!(lines, 14);
 }
 
 #[test]
 fn constructor_stands_for_its_data_type() {
-    let calls = calls("Rattle·low.specs.Low.{dataBit}", "r ≡ dataBit");
-    let low = "use Rattle·low.specs.Entries.{+1}\nunfoldable pub dataBit : Type 0\ndataBit = +1\n";
+    let calls = calls("Rattle.low.specs.Low.{data_bit}", "result ≡ data_bit");
+    let low = "use Rattle.low.specs.Entries.{+1}\nunfoldable pub data_bit : Type 0\ndata_bit = +1\n";
     let entries = "pub data Entry : Type 0 where\n  ·0 : Entry\n  +1 : Entry\n\npub data Other : Type 0 where\n  -1 : Other\n";
     let files = [(CALLS, calls.as_str()), (SPECS, low), ("crates/low/specs/Entries.antt", entries)];
-    assert_eq!(believed(&files), (vec!["Entry".into(), "dataBit".into()], 5));
+    assert_eq!(believed(&files), (vec!["Entry".into(), "data_bit".into()], 5));
 }
 
 #[test]
 fn declared_types_are_followed_into_the_sources() {
-    let calls = calls("Rattle·low.specs.Low.{answerOf}", "r ≡ answerOf (now (x .entry))");
+    let calls = calls("Rattle.low.specs.Low.{answer_of}", "result ≡ answer_of x.now");
     let low = "
-use mathlib.Core.List.{List}
-use Rattle·low·specs.specs.declared.Answer.the-variants.{No as refused}
-unfoldable pub answerOf : List Type → Type
-answerOf l = refused
+use Rattle.std.specs.Prelude.{List}
+use Rattle.low.specs.declared.Answer.TheVariants.{No as refused}
+unfoldable pub answer_of : List Type → Type
+answer_of l = refused
 ";
     let sources = "
-use lower::Size;
+use lower::{Size, Word};
 // An answer.
+#[derive(Clone, Copy)]
 pub enum Answer {
     // Comments are not counted.
     Yes(Found),
     No,
 }
 
+#[derive(Clone, Copy)]
 struct Found {
     size: Size,
 }
@@ -137,15 +138,15 @@ struct No {
         ("crates/low/src/lib.rt", sources),
         ("crates/lower/src/lib.rt", lower),
     ];
-    let names = ["answerOf", "Answer", "Found", "Size"].map(String::from).to_vec();
+    let names = ["answer_of", "Answer", "Found", "Size"].map(String::from).to_vec();
     assert_eq!(believed(&files), (names, 2 + 3 + 2 + 2));
 }
 
 #[test]
 fn comments_and_blank_lines_are_not_counted() {
-    let calls = calls("Rattle·low.specs.Low.{Kept, last}", "Kept r × (r ≡ last)");
+    let calls = calls("Rattle.low.specs.Low.{Kept, last}", "Kept result × (result ≡ last)");
     let low = "-- What the promises cite.
-use Prim.Native.Nat.{ℕ, _≤_}
+use Rattle.std.specs.Prelude.{ℕ, ◌≤◌}
 
 -- a record
 pub record Kept (n : ℕ) : Type 0 where
@@ -173,13 +174,13 @@ last =
         "{table}"
     );
     assert!(table.contains("| `crates/top/src/lib.rt` | 2 | 4-5 | `f` |\n"), "{table}");
-    assert!(table.contains("- `Prim.Native.Nat`: `_≤_` `ℕ`\n"), "{table}");
+    assert!(table.contains("- `Rattle.std.specs.Prelude`: `ℕ` `◌≡◌` `◌≤◌`\n"), "{table}");
 }
 
 #[test]
 fn theorem_is_its_type_below_its_parameters() {
     let theorem = "
-use Rattle·low.specs.Low.{small, even, lemma}
+use Rattle.low.specs.Low.{small, even, lemma}
 module _ (n : Type 0) (is-small : small n) where
   pub law :
       (m : Type 0) → even m
@@ -204,12 +205,12 @@ lemma = small
 
 #[test]
 fn words_that_stand_for_nothing_known_are_told() {
-    let calls = calls("Rattle·low.specs.Low.{first, gone}", "(r ≡ first) × (r ≡ gone)");
+    let calls = calls("Rattle.low.specs.Low.{first, gone}", "(result ≡ first) × (result ≡ gone)");
     let low = "
-use Prim.Native.Nat.{ℕ, suc}
-use Rattle·low.proofs.Whole as whole
+use Rattle.std.specs.Prelude.{ℕ, suc}
+use Rattle.low.proofs.Whole as whole
 unfoldable pub first : ℕ → ℕ
-first (suc n) = let m = n in missing (λ k. k m) (record { at = n; to = whole.value }) (n .at) 12
+first (suc n) = let m = n in missing (λ k. k m) (record { at = n; to = whole.value }) n.at 12
 first x =
     later
   where
@@ -226,11 +227,11 @@ first x =
 #[test]
 fn what_is_determined_is_told_apart() {
     let calls = calls(
-        "Rattle·low.specs.Low.{equation, Promise, Answer}",
-        "(r ≡ equation (now (x .entry))) × Promise (now (x .entry)) r",
+        "Rattle.low.specs.Low.{equation, Promise, Answer}",
+        "(result ≡ equation x.now) × Promise x.now result",
     );
     let low = "
-use Rattle·low.specs.declared.Kind.{Kind}
+use Rattle.low.specs.declared.Kind.{Kind}
 pub record Answer : Type 0 where
   pub value : Type 0
 
@@ -259,8 +260,8 @@ equation x = decoded x
 
 #[test]
 fn private_functions_state_nothing() {
-    let text = "fn g(x: u8) -> u8\n    ensures { λ r. ⌜ r ≡ x ⌝ }\n{\n    x\n}\n
-#[no_mangle]\npub extern \"C\" fn h(x: u8) -> u8\n    ensures { λ r. ⌜ r ≡ x ⌝ }\n{\n    x\n}\n";
+    let text = "fn g(x: u8) -> u8\n    ensures { result ≡ x }\n{\n    x\n}\n
+#[unsafe(no_mangle)]\npub extern \"C\" fn h(x: u8) -> u8\n    ensures { result ≡ x }\n{\n    x\n}\n";
     assert!(Module::of_rattle(text).statements.keys().eq(["h"]));
 }
 
@@ -276,9 +277,11 @@ fn this_project() {
     let (_, total) = table.split_once("\nTotal: ").unwrap();
     let total: usize = total.split(' ').next().unwrap().parse().unwrap();
     assert_eq!(status, Some(0));
-    assert!(total > 800 && table.contains("`dataSymbol`") && table.contains("`Refusal`"));
+    assert!(total > 800 && table.contains("`data_symbol`") && table.contains("`Refusal`"));
     let (believed, apart) = table.split_once("\nDetermined by `Reads`").unwrap();
-    assert!(!believed.contains("`payloadIn`") && apart.contains("`payloadIn`") && apart.contains("`readOf`"));
+    assert!(
+        !believed.contains("`payload_in`") && apart.contains("`payload_in`") && apart.contains("`read_of`")
+    );
     let (_, printed) = run(&["check", "0"]);
     assert!(printed.starts_with(&format!("{total} lines of definitions, ")), "{printed}");
     assert_eq!(run(&["check", &total.to_string()]), (Some(0), printed.clone()));
