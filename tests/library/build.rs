@@ -1,4 +1,4 @@
-//! Links the library under test, which `rt staticlib mapper` writes.
+//! Links the library under test, which `tools/make library` writes.
 
 use std::path::Path;
 
@@ -8,7 +8,7 @@ fn main() {
     let archive = folder.join("libmapper.a");
     println!("cargo:rerun-if-changed=build.rs");
     println!("cargo:rerun-if-changed={}", archive.display());
-    assert!(archive.exists(), "{} is missing; `rt staticlib mapper` writes it", archive.display());
+    assert!(archive.exists(), "{} is missing; `tools/make library` writes it", archive.display());
     println!("cargo:rustc-link-search=native={}", folder.display());
     println!("cargo:rustc-link-lib=static=mapper");
 }

@@ -76,6 +76,6 @@ fn a_table_would_be_found() {
 #[test]
 fn the_archive_has_none() {
     let archive = Path::new(env!("CARGO_MANIFEST_DIR")).join("../../target/staticlib/libmapper.a");
-    let bytes = std::fs::read(&archive).expect("`rt staticlib mapper` writes it");
+    let bytes = std::fs::read(&archive).expect("`tools/make library` writes it");
     assert_eq!(found(&bytes), Vec::<&str>::new());
 }

@@ -26,7 +26,7 @@ const PATIENCE: Duration = Duration::from_secs(20);
 /// More than any program reads.
 const TOO_LONG: usize = 300_000;
 
-/// The files that `rt check` runs the programs on, and document 01's example.
+/// The files that `rt ci` runs the programs on, and document 01's example.
 const EXAMPLE: &[u8] = include_bytes!("../../gridcount/example.in");
 const BUILD_IN: &[u8] = include_bytes!("../../../crates/gridbuild/stdin");
 const BUILD_OUT: &[u8] = include_bytes!("../../../crates/gridbuild/stdout");
