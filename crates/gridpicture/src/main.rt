@@ -5,7 +5,7 @@
 mod colour;
 mod sheet;
 
-ghost use Rattle.std.specs.Prelude.{◌+◌, ◌≤◌, ◌<◌};
+ghost use Rattle.std.specs.Prelude.{◌+◌, ◌≤◌, ◌<◌, IfOk};
 
 use plan::{Cell, Checked, Plan};
 use std::io;
@@ -270,7 +270,7 @@ fn listed(
     rows: usize,
 ) -> io::Result<Spot>
     requires { (spot.column ≤ 1000) × (spot.down ≤ 1000) }
-    ensures { (result.column ≤ spot.column + 1) × (result.down ≤ spot.down + 1) }
+    ensures { IfOk result (λ next. (next.column ≤ spot.column + 1) × (next.down ≤ spot.down + 1)) }
 {
     if legend::has(plan, p, n) {
         entry(rt, plan, p, n, spot)?;
