@@ -71,6 +71,7 @@ fn accepted(rt: &impl Print, plan: &[u8], p: Plan) -> io::Result<()> {
     users(rt, plan, p.users)
 }
 
+// What the check answers of a plan: 0 and its fields, or the refusal's number.
 fn verdict(rt: &impl Print, plan: &[u8]) -> io::Result<()> {
     match plan::check(plan) {
         Checked::Plan(p) => accepted(rt, plan, p),

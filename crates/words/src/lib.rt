@@ -24,9 +24,13 @@ fn sentence(number: u8) -> &'static str {
     }
 }
 
-// The meaning of a refusal's number, on standard output.
-pub fn meaning(rt: &impl Print, number: u8) -> io::Result<()> {
-    rt.print(sentence(number))
+fn say(out: &impl Print, words: &str) -> io::Result<()> {
+    out.print(words)
+}
+
+// The sentence for a refusal's number, written to standard output or to another stream.
+pub fn meaning(out: &impl Print, number: u8) -> io::Result<()> {
+    say(out, sentence(number))
 }
 
 // A refusal on standard error, so that standard output stays empty.
