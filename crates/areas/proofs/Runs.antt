@@ -13,7 +13,9 @@ use Rattle.layout.specs.Owners.{symbols, carriers}
 use Rattle.places.specs.Places.{places_of}
 use Rattle.places.proofs.Numbers.{symbols-most, symbols-least}
 use Rattle.walk.specs.declared.Cursor.{Cursor}
+use Rattle.walk.specs.declared.Row.{Row}
 use Rattle.walk.specs.declared.Run.{Run}
+use Rattle.walk.specs.declared.Span.{Span}
 use Rattle.walk.specs.Addresses.{RunOpen}
 use Rattle.walk.specs.Forms.{PairForm}
 use Rattle.walk.specs.Runs.{run_count, Laid}
@@ -37,7 +39,7 @@ laid_as {own} {own'} {T} h l =
       total = omega (arith, l.total, cnt-same own own' T h);
     }
 
-module _ {a : Area} {rows spans grid : List ℕ} (h : AreaRuns a rows spans grid) where
+module _ {a : Area} {rows : List Row} {spans : List Span} {grid : List ℕ} (h : AreaRuns a rows spans grid) where
   -- in a grid of the same length
   pub runs-later : {g : List ℕ} → length g ≡ length grid → AreaRuns a rows spans g
   runs-later e = record { cell = h.cell; room = room-later e h.room; signals = h.signals; tables = h.tables }

@@ -1,6 +1,6 @@
 -- THE TABLES OF AN AREA name its places: a byte for each symbol, spans with the centre and without it, rows that point to them. Assumes what
 -- the tables need.
-use Prim.Native.Nat.{ℕ, suc, ◌+◌, ◌-◌, ◌*◌, ◌/◌, ◌%◌, ◌≤◌, ◌<◌}
+use Prim.Native.Nat.{ℕ, suc, ◌+◌, ◌-◌, ◌*◌, ◌/◌, ◌%◌, ◌≤◌, ◌<◌, min, max}
 use mathlib.Core.Path.{◌≡◌, refl, sym, ap, ◌∙◌, subst}
 use mathlib.Core.Bool.{Bool, true, false, not, cond, ◌&&◌, ◌||◌, and-false, and-true}
 use mathlib.Core.List.{List}
@@ -20,6 +20,8 @@ use Rattle.places.specs.Places.{symbol_at, carrier_at, places_of}
 use Rattle.places.specs.Halves.{without}
 use Rattle.places.proofs.Numbers.{place-both, carrier-inside, symbol-inside, symbols-most}
 use Rattle.walk.specs.Runs.{bit_of}
+use Rattle.walk.specs.declared.Row.{Row}
+use Rattle.walk.specs.declared.Span.{Span}
 use Rattle.walk.specs.Tables.{row_mask, row_first, row_end, in_tables}
 use Rattle.walk.specs.Spans.{SpanPut, RowPut, SpanSet, RowSets}
 use Rattle.walk.proofs.Forms.{single-small}
@@ -67,6 +69,13 @@ masks-on {c} {f} {P} {n} {x} {leaves} {g} t l k =
 pub masks-all : {c : Cell} {f : Frame} {P n : ℕ} {leaves : Bool} {g : List ℕ} → RowMasks c f P leaves n g → 14 ≤ n → RowMasks c f P leaves 14 g
 masks-all t l = record { size = t.size; row = λ s h. t.row s (omega arith) }
 
+-- ---- the smaller of two numbers, and the greater
+pub smaller-min : {a b r : ℕ} → r ≡ min a b → Smaller a b r
+smaller-min e = record { first = omega arith; second = omega arith; one = λ h. omega arith }
+
+pub greater-max : {a b r : ℕ} → r ≡ max a b → Greater a b r
+greater-max e = record { first = omega arith; second = omega arith; one = λ h. omega arith }
+
 -- ---- spans: whole, and on both sides of the centre
 module _ (N from to : ℕ) where
   whole_has : (b : ℕ) → (leb from b && ltb b to) || false ≡ half_in N from to false b
@@ -109,11 +118,10 @@ module _ (N from to : ℕ) where
             rw (le-leb from b x, lt-ltb b to y, le-leb right b (right_le b x (omega arith)), le-leb N (b + 6) z, le-ltb b (N + 6) (omega arith)) refl
 
     pub lists-made :
-        {n p q e : ℕ} {g h i k : List ℕ} → length g ≡ 512 → to ≤ 2 * N → SpanPut n from to g p h → SpanPut p from left h q i → SpanPut q right to i e k
+        {n p q e : ℕ} {g h i k : List Span} → to ≤ 2 * N → SpanPut n from to g p h → SpanPut p from left h q i → SpanPut q right to i e k
         → ListsOf N from to k (record { first = n; whole = p; end = e })
-    lists-made {n} {p} {q} {e} {g} {h} {i} {k} size few a b c =
+    lists-made {n} {p} {q} {e} {g} {h} {i} {k} few a b c =
         record {
-          size = c.size ∙ b.size ∙ a.size ∙ size;
           all = set-as (set-kept (set-kept one b (omega arith)) c (omega (arith, put-few b))) (λ x y. whole_has x);
           rest = set-as two (λ x y. rest_has x);
           few = omega (arith, put-few a, put-few b, put-few c);
@@ -156,10 +164,9 @@ module _ (first last : ℕ) (l : SpanLists) (s x : ℕ) where
       pick false out = (omega arith, omega arith)
 
 module _ (first last : ℕ) (l : SpanLists) (masks : List ℕ) where
-  pub rows_none : {g h : List ℕ} → length g ≡ 45 → RowPut 14 0 0 0 g h → RowsSet first last l masks 0 h
-  rows_none size p =
+  pub rows_none : {g h : List Row} → RowPut 14 0 0 0 g h → RowsSet first last l masks 0 h
+  rows_none p =
       record {
-        size = p.size ∙ size;
         mask = λ s k. absurd (omega arith);
         from = λ s k. absurd (omega arith);
         to = λ s k. absurd (omega arith);
@@ -167,15 +174,14 @@ module _ (first last : ℕ) (l : SpanLists) (masks : List ℕ) where
       }
 
   pub rows_on :
-      {n x : ℕ} {r : RowSpans} {g h : List ℕ} → RowsSet first last l masks n g → n < 14 → x ≡ get_or masks n 0 → r ≡ row_spans first last l n x
+      {n x : ℕ} {r : RowSpans} {g h : List Row} → RowsSet first last l masks n g → n < 14 → x ≡ get_or masks n 0 → r ≡ row_spans first last l n x
       → RowPut n (x % 64) r.first r.end g h → RowsSet first last l masks (n + 1) h
   rows_on {n} {x} {r} {g} {h} t few ex er p =
       record {
-        size = p.size ∙ t.size;
         mask = λ s k. pick-mask s k (ℕ_discrete s n);
         from = λ s k. pick-from s k (ℕ_discrete s n);
         to = λ s k. pick_to s k (ℕ_discrete s n);
-        after = omega (arith, t.after, p.late (3 * 14 + 1) (omega arith), p.late (3 * 14 + 2) (omega arith));
+        after = subst (λ (y : Row). y.end ≤ y.first) (sym (p.late 14 (omega arith))) t.after;
       }
     where
       is : r ≡ row_spans first last l n (get_or masks n 0)
@@ -183,20 +189,19 @@ module _ (first last : ℕ) (l : SpanLists) (masks : List ℕ) where
 
       pick-mask : (s : ℕ) → s < n + 1 → Dec (s ≡ n) → row_mask h s ≡ get_or masks s 0 % 64
       pick-mask s k (yes e) = rw e (p.has-mask ∙ ap (λ (y : ℕ). y % 64) ex)
-      pick-mask s k (no e) = p.early (3 * s) (omega arith) ∙ t.mask s (omega arith)
+      pick-mask s k (no e) = ap (λ (y : Row). y.mask) (p.early s (omega arith)) ∙ t.mask s (omega arith)
 
       pick-from : (s : ℕ) → s < n + 1 → Dec (s ≡ n) → row_first h s ≡ (row_spans first last l s (get_or masks s 0)).first
       pick-from s k (yes e) = rw e (p.has_first ∙ ap (λ (y : RowSpans). y.first) is)
-      pick-from s k (no e) = p.early (3 * s + 1) (omega arith) ∙ t.from s (omega arith)
+      pick-from s k (no e) = ap (λ (y : Row). y.first) (p.early s (omega arith)) ∙ t.from s (omega arith)
 
       pick_to : (s : ℕ) → s < n + 1 → Dec (s ≡ n) → row_end h s ≡ (row_spans first last l s (get_or masks s 0)).end
       pick_to s k (yes e) = rw e (p.has_end ∙ ap (λ (y : RowSpans). y.end) is)
-      pick_to s k (no e) = p.early (3 * s + 2) (omega arith) ∙ t.to s (omega arith)
+      pick_to s k (no e) = ap (λ (y : Row). y.end) (p.early s (omega arith)) ∙ t.to s (omega arith)
 
-  pub rows_all : {n : ℕ} {g : List ℕ} → RowsSet first last l masks n g → 14 ≤ n → RowsSet first last l masks 14 g
+  pub rows_all : {n : ℕ} {g : List Row} → RowsSet first last l masks n g → 14 ≤ n → RowsSet first last l masks 14 g
   rows_all t k =
       record {
-        size = t.size;
         mask = λ s h. t.mask s (omega arith);
         from = λ s h. t.from s (omega arith);
         to = λ s h. t.to s (omega arith);
@@ -214,7 +219,7 @@ gathered true true false v n w = refl
 gathered true false z v n w = refl
 gathered false y z v n w = refl
 
-module _ {a : Area} {masks rows spans : List ℕ} {before later : List ℕ} (h : TablesIn a masks before later) (l : SpanLists)
+module _ {a : Area} {masks : List ℕ} {rows : List Row} {spans : List Span} (h : TablesIn a masks) (l : SpanLists)
     (lists : ListsOf a.cell.blocks a.from a.to spans l) (set_to : RowsSet a.first a.last l masks 14 rows) where
   abbrev N : ℕ
   N = a.cell.blocks
@@ -307,16 +312,16 @@ module _ {a : Area} {masks rows spans : List ℕ} {before later : List ℕ} (h :
       }
 
 -- ---- as the code makes them
-module _ {a : Area} {masks before later : List ℕ} (h : TablesIn a masks before later) (blocks : ℕ) (is : blocks ≡ a.cell.blocks) where
-  pub lists-in : (length later ≡ 512) × (0 ≤ 250) × (6 ≤ blocks) × (blocks ≤ 127) × (a.to ≤ 2 * blocks)
+module _ {a : Area} {masks : List ℕ} (h : TablesIn a masks) (blocks : ℕ) (is : blocks ≡ a.cell.blocks) where
+  pub lists-in : (0 ≤ 250) × (6 ≤ blocks) × (blocks ≤ 127) × (a.to ≤ 2 * blocks)
   lists-in =
       let least = blocks-least a.cell h.cell in
       let most = blocks-most a.cell h.cell in
-      (h.spans-size, omega arith, omega (arith, is, least), omega (arith, is, most), omega (arith, is, h.halves))
+      (omega arith, omega (arith, is, least), omega (arith, is, most), omega (arith, is, h.halves))
 
-  module _ {spans : List ℕ} {l : SpanLists} (lists : ListsOf blocks a.from a.to spans l) where
-    pub rows_in : l.first ≡ 0 → (length before ≡ 45) × (l.first ≤ 255) × (l.whole ≤ 255) × (l.end ≤ 255)
-    rows_in e = (h.rows-size, omega (arith, e), omega (arith, e, lists.few, lists.rest.ordered), omega (arith, e, lists.few))
+  module _ {spans : List Span} {l : SpanLists} (lists : ListsOf blocks a.from a.to spans l) where
+    pub rows_in : l.first ≡ 0 → (l.first ≤ 255) × (l.whole ≤ 255) × (l.end ≤ 255)
+    rows_in e = (omega (arith, e), omega (arith, e, lists.few, lists.rest.ordered), omega (arith, e, lists.few))
 
-    pub tables-made : {rows : List ℕ} → RowsSet a.first a.last l masks 14 rows → AreaTables a rows spans
-    tables-made r = area-tables h l (subst (λ (x : ℕ). ListsOf x a.from a.to spans l) is lists) r
+    pub tables-made : {rows : List Row} {later : List Span} → RowsSet a.first a.last l masks 14 rows → later ≡ spans → AreaTables a rows later
+    tables-made r e = rw e (area-tables h l (subst (λ (x : ℕ). ListsOf x a.from a.to spans l) is lists) r)

@@ -6,6 +6,8 @@ use Rattle.plan.specs.declared.Frame.{Frame}
 use Rattle.layout.specs.Owners.{symbols, carriers}
 use Rattle.counts.specs.Users.{taken as taken_row}
 use Rattle.places.specs.Places.{places_of}
+use Rattle.walk.specs.declared.Row.{Row}
+use Rattle.walk.specs.declared.Span.{Span}
 use Rattle.walk.specs.Forms.{PairForm, SingleForm}
 use Rattle.walk.specs.Tables.{row_mask, row_first, row_end, in_tables, Spans}
 use Rattle.walk.specs.Spans.{SpanSet}
@@ -30,8 +32,7 @@ unfoldable pub half_in : ℕ → ℕ → ℕ → Bool → ℕ → Bool
 half_in N from to out b = leb from b && ltb b to && not (centre_out N out b)
 
 -- the spans of these, with the centre and without it
-pub record ListsOf (N from to : ℕ) (spans : List ℕ) (l : SpanLists) : Type 0 where
-  pub size : length spans ≡ 512
+pub record ListsOf (N from to : ℕ) (spans : List Span) (l : SpanLists) : Type 0 where
   pub all : SpanSet spans l.first l.whole (2 * N) (half_in N from to false)
   pub rest : SpanSet spans l.whole l.end (2 * N) (half_in N from to true)
   pub few : l.end ≤ l.first + 3
@@ -55,24 +56,21 @@ row_spans first last l s x =
     (record { first = 0; end = 0 })
 
 -- the rows of the first n symbols
-pub record RowsSet (first last : ℕ) (l : SpanLists) (masks : List ℕ) (n : ℕ) (rows : List ℕ) : Type 0 where
-  pub size : length rows ≡ 45
+pub record RowsSet (first last : ℕ) (l : SpanLists) (masks : List ℕ) (n : ℕ) (rows : List Row) : Type 0 where
   pub mask : (s : ℕ) → s < n → row_mask rows s ≡ get_or masks s 0 % 64
   pub from : (s : ℕ) → s < n → row_first rows s ≡ (row_spans first last l s (get_or masks s 0)).first
   pub to : (s : ℕ) → s < n → row_end rows s ≡ (row_spans first last l s (get_or masks s 0)).end
   pub after : row_end rows 14 ≤ row_first rows 14
 
 -- what the tables of an area need
-pub record TablesIn (a : Area) (masks rows spans : List ℕ) : Type 0 where
+pub record TablesIn (a : Area) (masks : List ℕ) : Type 0 where
   pub cell : CellIn a.cell
   pub last_row : a.last ≤ symbols a.cell
   pub halves : a.to ≤ 2 * a.cell.blocks
   pub bytes : RowMasks a.cell a.frame a.signals a.leaves 14 masks
-  pub rows-size : length rows ≡ 45
-  pub spans-size : length spans ≡ 512
 
 -- THE TABLES OF AN AREA: the places that they name are the area's
-pub record AreaTables (a : Area) (rows spans : List ℕ) : Type 0 where
+pub record AreaTables (a : Area) (rows : List Row) (spans : List Span) : Type 0 where
   pub sets : Spans (carriers a.cell) (symbols a.cell) rows spans
   pub places : (t : ℕ) → t < places_of a.cell → in_tables (carriers a.cell) rows spans t ≡ area_at a t
   pub single : (s : ℕ) → s < symbols a.cell → SingleForm (row_mask rows s)

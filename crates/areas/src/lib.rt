@@ -5,9 +5,10 @@
 ghost use Rattle.std.specs.Prelude.{◌≡◌, ◌*◌, ◌≤◌, ◌<◌, length};
 ghost use Rattle.areas.specs.Areas.{pbch_area, user_area};
 ghost use Rattle.areas.specs.Masks.{bit_if, mask_but, Masks};
-ghost use Rattle.areas.specs.Tables.{RowMask, RowMasks, ListsOf, Smaller, Greater, row_spans, RowsSet, TablesIn, AreaTables};
+ghost use Rattle.areas.specs.Tables.{RowMask, RowMasks, ListsOf, row_spans, RowsSet, TablesIn, AreaTables};
 
 use plan::{Cell, Frame, User};
+use walk::Tables;
 
 // The places of such a channel by half blocks of six subcarriers: rows `first` to `last` - 1, half blocks `from` to `to` - 1, without
 // the reference signals of the ports below `signals` and, if `leaves`, without synchronisation's and PBCH's half blocks.
@@ -44,10 +45,10 @@ pub fn pbch_area(cell: Cell, frame: Frame) -> Area
     ensures { result ≡ pbch_area cell frame }
 {
     let slot = layout::slot_length(cell);
-    let blocks = base::wide(cell.blocks);
+    let blocks = usize::from(cell.blocks);
     Area {
-        cell: cell,
-        frame: frame,
+        cell,
+        frame,
         first: slot,
         last: slot + 4,
         from: blocks - 6,
@@ -61,11 +62,11 @@ pub fn pbch_area(cell: Cell, frame: Frame) -> Area
 pub fn user_area(cell: Cell, frame: Frame, u: User) -> Area
     ensures { result ≡ user_area cell frame u }
 {
-    let first = base::wide(u.first);
-    let count = base::wide(u.count);
+    let first = usize::from(u.first);
+    let count = usize::from(u.count);
     Area {
-        cell: cell,
-        frame: frame,
+        cell,
+        frame,
         first: plan::control_symbols(cell, frame),
         last: layout::symbols(cell),
         from: 2 * first,
@@ -104,17 +105,14 @@ pub fn row_mask(cell: Cell, signals: u8, s: usize) -> u8
     63
 }
 
-// A symbol's mask, and 64 more where its centre is left out.
+// A symbol's mask, with one bit more, 64, where its centre is left out.
 fn row_byte(cell: Cell, frame: Frame, signals: u8, leaves: bool, s: usize) -> u8
     requires { s < 14 }
     ensures { RowMask cell frame signals leaves s result }
 {
     let mask = row_mask(cell, signals, s);
-    if leaves {
-        if counts::taken(cell, frame, s) {
-            return mask + 64;
-        }
-        return mask;
+    if leaves && counts::taken(cell, frame, s) {
+        return mask + 64;
     }
     mask
 }
@@ -124,48 +122,30 @@ pub fn row_masks(cell: Cell, frame: Frame, signals: u8, leaves: bool, masks: &mu
     requires { length masks.old ≡ 14 }
     ensures { RowMasks cell frame signals leaves 14 masks.new }
 {
-    let mut s: usize = 0;
-    while s < 14 {
-        masks[s] = row_byte(cell, frame, signals, leaves, s);
-        s += 1;
+    for (s, mask) in masks.iter_mut().enumerate() {
+        *mask = row_byte(cell, frame, signals, leaves, s);
     }
 }
 
-// The smaller of two numbers.
-pub fn smaller(a: usize, b: usize) -> usize
-    ensures { Smaller a b result }
-{
-    if a < b { a } else { b }
-}
-
-fn greater(a: usize, b: usize) -> usize
-    ensures { Greater a b result }
-{
-    if a < b { b } else { a }
-}
-
 // The spans of the half blocks `from` to `to` - 1, from span n on: whole, and on both sides of the centre's twelve.
-fn span_lists(blocks: usize, from: usize, to: usize, n: usize, spans: &mut [u8; 512]) -> SpanLists
-    requires { (length spans.old ≡ 512) × (n ≤ 250) × (6 ≤ blocks) × (blocks ≤ 127) × (to ≤ 2 * blocks) }
-    ensures { ListsOf blocks from to spans.new result × (result.first ≡ n) }
+fn span_lists(blocks: usize, from: usize, to: usize, n: usize, tables: &mut Tables) -> SpanLists
+    requires { (n ≤ 250) × (6 ≤ blocks) × (blocks ≤ 127) × (to ≤ 2 * blocks) }
+    ensures { ListsOf blocks from to tables.new.spans result × (result.first ≡ n) }
 {
-    let whole = walk::put_span(spans, n, from, to);
-    let left = walk::put_span(spans, whole, from, smaller(to, blocks - 6));
-    let end = walk::put_span(spans, left, greater(from, blocks + 6), to);
+    let whole = tables.put_span(n, from, to);
+    let left = tables.put_span(whole, from, to.min(blocks - 6));
+    let end = tables.put_span(left, from.max(blocks + 6), to);
     SpanLists {
         first: n,
-        whole: whole,
-        end: end,
+        whole,
+        end,
     }
 }
 
 fn row_spans(first: usize, last: usize, lists: SpanLists, s: usize, x: u8) -> RowSpans
     ensures { result ≡ row_spans first last lists s x }
 {
-    if s < first {
-        return RowSpans { first: 0, end: 0 };
-    }
-    if last <= s {
+    if s < first || last <= s {
         return RowSpans { first: 0, end: 0 };
     }
     if x < 64 {
@@ -181,26 +161,23 @@ fn row_spans(first: usize, last: usize, lists: SpanLists, s: usize, x: u8) -> Ro
 }
 
 // The rows of an area of the symbols `first` to `last` - 1: the other symbols have no spans.
-fn set_rows(first: usize, last: usize, lists: SpanLists, masks: &[u8; 14], rows: &mut [u8; 45])
-    requires { (length rows.old ≡ 45) × (lists.first ≤ 255) × (lists.whole ≤ 255) × (lists.end ≤ 255) }
-    ensures { RowsSet first last lists masks.now 14 rows.new }
+fn set_rows(first: usize, last: usize, lists: SpanLists, masks: &[u8; 14], tables: &mut Tables)
+    requires { (lists.first ≤ 255) × (lists.whole ≤ 255) × (lists.end ≤ 255) }
+    ensures { RowsSet first last lists masks.now 14 tables.new.rows × (tables.new.spans ≡ tables.old.spans) }
 {
-    walk::put_row(rows, 14, 0, 0, 0);
-    let mut s: usize = 0;
-    while s < 14 {
-        let x = masks[s];
-        let r = row_spans(first, last, lists, s, x);
-        walk::put_row(rows, s, x % 64, r.first, r.end);
-        s += 1;
+    tables.put_row(14, 0, 0, 0);
+    for (s, x) in masks.iter().enumerate() {
+        let r = row_spans(first, last, lists, s, *x);
+        tables.put_row(s, *x % 64, r.first, r.end);
     }
 }
 
 // The tables of an area, with its symbols' bytes of `row_masks`.
-pub fn set_tables(a: Area, masks: &[u8; 14], rows: &mut [u8; 45], spans: &mut [u8; 512])
-    requires { TablesIn a masks.now rows.old spans.old }
-    ensures { AreaTables a rows.new spans.new }
+pub fn set_tables(a: Area, masks: &[u8; 14], tables: &mut Tables)
+    requires { TablesIn a masks.now }
+    ensures { AreaTables a tables.new.rows tables.new.spans }
 {
-    let blocks = base::wide(a.cell.blocks);
-    let lists = span_lists(blocks, a.from, a.to, 0, spans);
-    set_rows(a.first, a.last, lists, masks, rows);
+    let blocks = usize::from(a.cell.blocks);
+    let lists = span_lists(blocks, a.from, a.to, 0, tables);
+    set_rows(a.first, a.last, lists, masks, tables);
 }

@@ -1,4 +1,5 @@
 // Sets of numbers as words of 64 bits: n is a member where bit n % 64 of word n / 64 is 1. A set of two words has the numbers below 128.
+// Words, and none of the library's sets, since the project has no heap.
 #![tactic(auto)]
 
 ghost use Rattle.std.specs.Prelude.{◌≡◌, ◌-◌, ◌/◌, ◌<◌, length};
@@ -9,8 +10,7 @@ pub fn has(set: &[u64], n: usize) -> bool
     requires { n / 64 < length set.now }
     ensures { result ≡ member set.now n }
 {
-    let k = n % 64;
-    (set[n / 64] >> k) % 2 == 1
+    (set[n / 64] >> (n % 64)) % 2 == 1
 }
 
 // Makes n a member.
@@ -18,24 +18,15 @@ pub fn add(set: &mut [u64], n: usize)
     requires { n / 64 < length set.old }
     ensures { set.new ≡ added set.old n }
 {
-    let w = n / 64;
-    let k = n % 64;
-    set[w] = set[w] | (1 << k);
+    set[n / 64] |= 1 << (n % 64);
 }
 
 // The word of the numbers below n, counted from least on.
 fn ones(n: usize, least: usize) -> u64
     ensures { result ≡ ones_of (n - least) }
 {
-    if n <= least {
-        return 0;
-    }
-    let k = n - least;
-    if k < 64 {
-        (1 << k) - 1
-    } else {
-        0xffff_ffff_ffff_ffff
-    }
+    let k = n.saturating_sub(least);
+    if k < 64 { (1 << k) - 1 } else { u64::MAX }
 }
 
 // The set of the count numbers from first on, those below 128.

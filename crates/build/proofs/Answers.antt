@@ -8,20 +8,15 @@ use native.Mathlib.Nat.{mul-le-mul}
 use native.Mathlib.Omega.{arith}
 use lib.Dec.{eqb}
 use lib.ListN.{length}
-use types.Run.{OneOf}
-use denote.Enum.Declared.{tag_of}
 use borrow.Author.Tests.{eqb-true, eqb-false}
+use Rattle.std.specs.declared.result.Result.{Result}
+use Rattle.std.specs.declared.result.Result.TheVariants.{Ok as accepted, Ok, Err as refused, Err}
 use Rattle.base.proofs.Tests.{by-test, clash}
-use Rattle.plan.specs.Lists.{one_of}
 use Rattle.plan.specs.Answers.{Answer, given, refused_by}
-use Rattle.plan.specs.Check.{refusal_number, check_of, refused_as, refusal_of}
+use Rattle.plan.specs.Check.{refusal_number, check_of, refused_as, number_answer}
 use Rattle.plan.specs.declared.Plan.{Plan}
 use Rattle.plan.specs.declared.Refusal.{Refusal}
 use Rattle.plan.specs.declared.Refusal.TheVariants.{GridLength, PayloadLength, SpareBit}
-use Rattle.plan.specs.declared.Checked.{Checked}
-use Rattle.plan.specs.declared.Checked.TheVariants.{Plan as accepted, Refused as refused}
-use Rattle.plan.specs.contracts.Checked.{the_type}
-use Rattle.plan.proofs.OneOf.{not_in}
 use Rattle.plan.specs.Lists.{Among}
 use Rattle.plan.specs.Fields.{port_counts}
 use Rattle.plan.proofs.Counts.{blocks-most, ports-least, ports-most}
@@ -34,10 +29,8 @@ use Rattle.payload.proofs.Refusals.{grid-refused, payload-refused, spare-refused
 use Rattle.grid.specs.Writing.{Room}
 use Rattle.subframe.specs.Grid.{grid_of}
 use Rattle.subframe.proofs.Bytes.{length-by-port}
-use Rattle.build.specs.Build.{pdsch_elements, built_of, grid_after, built_answer}
+use Rattle.build.specs.Build.{pdsch_elements, built_of, grid_after}
 use Rattle.build.specs.Filling.{Ready}
-use Rattle.build.specs.declared.Built.{Built}
-use Rattle.build.specs.declared.Built.TheVariants.{Elements, Refused}
 
 -- a grid of the plan's length has the plan's ports and places
 not_three : (P : ℕ) → Among P port_counts → P ≡ 3 → ⊥
@@ -59,36 +52,35 @@ plan-room w p ok grid right =
     }
 
 module _ (w payload grid : List ℕ) where
-  abbrev Answered : Built → List ℕ → Type 0
-  Answered b g = (built_answer b ≡ built_of w payload grid) × (g ≡ grid_after w payload grid)
+  abbrev Answered : Result ℕ Refusal → List ℕ → Type 0
+  Answered b g = (number_answer b ≡ built_of w payload grid) × (g ≡ grid_after w payload grid)
 
-  answered : (b : Built) {g : List ℕ} → built_answer b ≡ built_of w payload grid → g ≡ grid_after w payload grid → Answered b g
+  answered : (b : Result ℕ Refusal) {g : List ℕ} → number_answer b ≡ built_of w payload grid → g ≡ grid_after w payload grid → Answered b g
   answered b e f = (e, f)
 
-  pub way-refused : (a : Checked) → a ≡ check_of w → OneOf (1 ∷ []) (tag_of the_type a) → (r : Refusal) → r ≡ refusal_of a → Answered (Refused r) grid
-  unfolding one_of built_of grid_after
-  way-refused (accepted p) e h r q = absurd (not_in (1 ∷ []) 0 h refl)
-  way-refused (refused x) e h r q = answered (Refused r) (ap refused_as q ∙ rw (← e) refl) (rw (← e) refl)
+  pub way-refused : {a : Result Plan Refusal} {r : Refusal} → a ≡ check_of w → a ≡ refused r → Answered (Err r) grid
+  unfolding built_of grid_after
+  way-refused {a} {r} e h = answered (Err r) (rw (sym e ∙ h) refl) (rw (sym e ∙ h) refl)
 
   module _ (p : Plan) (ok : check_of w ≡ accepted p) where
-    pub way-grid : (n : ℕ) → n ≡ grid_length p → (length grid ≡ n → ⊥) → Answered (Refused GridLength) grid
+    pub way-grid : (n : ℕ) → n ≡ grid_length p → (length grid ≡ n → ⊥) → Answered (Err GridLength) grid
     unfolding built_of grid_after unless_buffers
     way-grid n e h =
         let k : length grid ≡ grid_length p → ⊥ = λ x. h (x ∙ sym e) in
-        answered (Refused GridLength) (rw ok (sym (grid-refused refused_as w p grid payload _ k))) (rw ok (sym (grid-refused (λ (r : Refusal). grid) w p grid payload _ k)))
+        answered (Err GridLength) (rw ok (sym (grid-refused refused_as w p grid payload _ k))) (rw ok (sym (grid-refused (λ (r : Refusal). grid) w p grid payload _ k)))
 
     module _ (right : length grid ≡ grid_length p) where
-      pub way-payload : (n : ℕ) → n ≡ payload_length w p → (length payload ≡ n → ⊥) → Answered (Refused PayloadLength) grid
+      pub way-payload : (n : ℕ) → n ≡ payload_length w p → (length payload ≡ n → ⊥) → Answered (Err PayloadLength) grid
       unfolding built_of grid_after unless_buffers
       way-payload n e h =
           let k : length payload ≡ payload_length w p → ⊥ = λ x. h (x ∙ sym e) in
-          answered (Refused PayloadLength) (rw ok (sym (payload-refused refused_as w p grid payload _ right k))) (rw ok (sym (payload-refused (λ (r : Refusal). grid) w p grid payload _ right k)))
+          answered (Err PayloadLength) (rw ok (sym (payload-refused refused_as w p grid payload _ right k))) (rw ok (sym (payload-refused (λ (r : Refusal). grid) w p grid payload _ right k)))
 
       module _ (size : length payload ≡ payload_length w p) (b : Bool) (eb : b ≡ spare_clear w p payload) where
-        pub way-spare : b ≡ false → Answered (Refused SpareBit) grid
+        pub way-spare : b ≡ false → Answered (Err SpareBit) grid
         unfolding built_of grid_after
         way-spare h =
-            answered (Refused SpareBit) (rw ok (sym (spare-refused w p payload refused_as grid right _ size (sym eb ∙ h))))
+            answered (Err SpareBit) (rw ok (sym (spare-refused w p payload refused_as grid right _ size (sym eb ∙ h))))
             (rw ok (sym (spare-refused w p payload (λ (r : Refusal). grid) grid right _ size (sym eb ∙ h))))
 
         accepted-is : b ≡ true → AcceptedPayload w p payload
@@ -97,10 +89,10 @@ module _ (w payload grid : List ℕ) where
         pub way-ready : b ≡ true → Ready w p payload grid
         way-ready h = record { answer = ok; right = accepted-is h; room = plan-room w p ok grid right }
 
-        pub way-built : b ≡ true → (n : ℕ) → n ≡ pdsch_elements w p → (g : List ℕ) → g ≡ grid_of w p payload → Answered (Elements n) g
+        pub way-built : b ≡ true → (n : ℕ) → n ≡ pdsch_elements w p → (g : List ℕ) → g ≡ grid_of w p payload → Answered (Ok n) g
         unfolding built_of grid_after
         way-built h n en g eg =
-            answered (Elements n) (ap given en ∙ rw ok (sym (buffers-right w p payload refused_as grid right _ (accepted-is h))))
+            answered (Ok n) (ap given en ∙ rw ok (sym (buffers-right w p payload refused_as grid right _ (accepted-is h))))
             (eg ∙ rw ok (sym (buffers-right w p payload (λ (r : Refusal). grid) grid right _ (accepted-is h))))
 
 -- "A plan is accepted when none of the plan's refusals applies to it, a payload under it when neither 11 nor 12 does": both ways, of a
@@ -136,6 +128,6 @@ module _ (w payload grid : List ℕ) (n : ℕ) (built : built_of w payload grid 
   unfolding built_of
   built-under = pick (check_of w) refl
     where
-      pick : (a : Checked) → check_of w ≡ a → (p : Plan) × Had p
+      pick : (a : Result Plan Refusal) → check_of w ≡ a → (p : Plan) × Had p
       pick (accepted p) e = (p, under p e)
       pick (refused r) e = absurd (not-refused (refusal_number r) (rw e refl))

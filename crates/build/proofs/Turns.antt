@@ -5,19 +5,19 @@ use mathlib.Core.Bool.{true, false}
 use mathlib.Core.List.{List}
 use native.Mathlib.Omega.{arith}
 use lib.ListN.{length, take, drop}
+use Rattle.std.specs.declared.result.Result.TheVariants.{Ok as accepted}
 use Rattle.base.specs.declared.Element.{Element}
 use Rattle.base.specs.Bits.{bit_at}
 use Rattle.base.specs.Bytes.{byte_in}
 use Rattle.base.specs.Tables.{table}
 use Rattle.base.proofs.Tables.{table-length}
-use Rattle.modulation.specs.Symbols.{unit_in, unit_of}
+use Rattle.modulation.specs.Symbols.{Order, unit_in, unit_of}
 use Rattle.phich.specs.Spreading.{spread_length}
 use Rattle.phich.specs.Loops.{HisIn, QuadSums}
 use Rattle.plan.specs.Check.{check_of}
 use Rattle.plan.specs.CommandLists.{his_from, his_of}
 use Rattle.plan.specs.Valid.{CellIn, FrameIn}
 use Rattle.plan.specs.declared.Plan.{Plan}
-use Rattle.plan.specs.declared.Checked.TheVariants.{Plan as accepted}
 use Rattle.plan.proofs.Counts.{users-most}
 use Rattle.plan.proofs.Valid.{valid}
 use Rattle.places.specs.Places.{places_of}
@@ -45,22 +45,22 @@ use Rattle.schedule.proofs.Turns.{turn-of, first-in, begins}
 use Rattle.schedule.proofs.Steps.{start-few}
 use Rattle.schedule.proofs.Values.{value, sums-of, section-room, bits_of}
 use Rattle.channel_write.specs.Channels.{LevelsIn, TableFor, ChannelIn}
-use Rattle.build.specs.Filling.{Ready, Shared, Having, OrderOr, order_for, TurnReady}
+use Rattle.std.specs.declared.option.Option.{Option}
+use Rattle.std.specs.declared.option.Option.TheVariants.{Some, None}
+use Rattle.build.proofs.Orders.{never, some-same}
+use Rattle.build.specs.Filling.{Ready, Shared, Having, order_of, TurnReady}
 use Rattle.build.proofs.Answers.{plan-room}
 
 -- ---- the table at hand: none, as it is made, and as it is
 module _ {P : ℕ} {t : List ℕ} where
-  pub having-none : length t ≡ 256 → Having P 0 t
-  having-none e = record { size = e; table = λ n. absurd (n refl) }
+  pub having-none : length t ≡ 256 → Having P None t
+  having-none e = record { size = e; table = λ q n. absurd (never n) }
 
-  pub having-made : {q : ℕ} → TableOf P q (unit_of q) t → Having P q t
-  having-made x = record { size = x.table.size; table = λ n. x }
-
-  pub having-same : {q have : ℕ} → q ≡ have → Having P have t → Having P q t
-  having-same e x = rw e x
+  pub having-made : {q : ℕ} → TableOf P q (unit_of q) t → Having P (Some q) t
+  having-made x = record { size = x.table.size; table = λ r n. subst (λ (k : ℕ). TableOf P k (unit_of k) t) (some-same n) x }
 
 -- ---- one turn
-module _ {p : Plan} {ch : Channel} {have : ℕ} {t masks sums bits grid : List ℕ} (ok : TurnReady p ch have t masks sums bits grid) where
+module _ {p : Plan} {ch : Channel} {have : Option ℕ} {t masks sums bits grid : List ℕ} (ok : TurnReady p ch have t masks sums bits grid) where
   abbrev w : List ℕ
   w = ok.bytes
 
@@ -69,31 +69,30 @@ module _ {p : Plan} {ch : Channel} {have : ℕ} {t masks sums bits grid : List �
   turn-absent h = same (λ e. sym (absent-sends p ch h e)) (λ e k. refl) (none _ grid)
 
   -- the order of one that reads a table
-  orders : (c : Channel) → TurnOf w p ok.number c → OrderOr have (order_for have c)
-  unfolding order_for Among
-  orders (Crs s) y = record { new = λ n. absurd (n refl) }
-  orders (Sync m) y = record { new = λ n. absurd (n refl) }
-  orders Pbch y = record { new = λ n. (refl, omega arith, omega arith) }
-  orders Pcfich y = record { new = λ n. absurd (n refl) }
-  orders (Phich m) y = record { new = λ n. absurd (n refl) }
-  orders (User u) y = record { new = λ n. order-of u.order (begins w p ok.plan ok.number (User u) tt y).2.order }
+  orders : (c : Channel) → TurnOf w p ok.number c → (q : ℕ) → order_of c ≡ Some q → Order q
+  unfolding order_of Among
+  orders (Crs s) y q e = absurd (never e)
+  orders (Sync m) y q e = absurd (never e)
+  orders Pbch y q e = subst Order (some-same e) (refl, omega arith, omega arith)
+  orders Pcfich y q e = absurd (never e)
+  orders (Phich m) y q e = absurd (never e)
+  orders (User u) y q e = subst Order (some-same e) (order-of u.order (begins w p ok.plan ok.number (User u) tt y).2.order)
 
-  tables : {s : List ℕ} (c : Channel) → TurnOf w p ok.number c → Having p.cell.ports (order_for have c) s → TableFor p c s
-  unfolding order_for TableFor Among unit_of unit_in
-  tables (Crs s) y x = tt
-  tables (Sync m) y x = tt
-  tables Pbch y x = x.table (λ z. omega (arith, z))
-  tables Pcfich y x = tt
-  tables (Phich m) y x = tt
-  tables (User u) y x =
-      let o = order-of u.order (begins w p ok.plan ok.number (User u) tt y).2.order in x.table (λ z. omega (arith, z, o.1))
+  tables : {s : List ℕ} (c : Channel) → ((q : ℕ) → order_of c ≡ Some q → TableOf p.cell.ports q (unit_of q) s) → TableFor p c s
+  unfolding order_of TableFor unit_of unit_in
+  tables (Crs s) x = tt
+  tables (Sync m) x = tt
+  tables Pbch x = x 2 refl
+  tables Pcfich x = tt
+  tables (Phich m) x = tt
+  tables (User u) x = x u.order refl
 
-  module _ {order : ℕ} (eo : order ≡ order_for have ch) where
-    pub turn-order : OrderOr have order
-    turn-order = rw eo (orders ch ok.turn)
+  module _ {o : Option ℕ} (eo : o ≡ order_of ch) where
+    pub turn-order : {q : ℕ} → o ≡ Some q → Order q
+    turn-order {q} e = orders ch ok.turn q (sym eo ∙ e)
 
-    pub turn-channel : {s : List ℕ} → present_in p ch ≡ true → Having p.cell.ports order s → ChannelIn p ch s masks (lent_to ch sums bits) grid
-    turn-channel {s} h x =
+    channel : {s : List ℕ} → present_in p ch ≡ true → ((q : ℕ) → o ≡ Some q → TableOf p.cell.ports q (unit_of q) s) → ChannelIn p ch s masks (lent_to ch sums bits) grid
+    channel {s} h x =
         record {
           bytes = ok.bytes;
           plan = ok.plan;
@@ -101,10 +100,17 @@ module _ {p : Plan} {ch : Channel} {have : ℕ} {t masks sums bits grid : List �
           turn = ok.turn;
           present = h;
           levels = ok.levels;
-          table = tables ch ok.turn (subst (λ (q : ℕ). Having p.cell.ports q s) eo x);
+          table = tables ch (λ q e. x q (eo ∙ e));
           rows = ok.rows;
           room = ok.room;
         }
+
+    -- one that reads a table, and one that reads none
+    pub turn-channel : {s : List ℕ} → present_in p ch ≡ true → {q : ℕ} → o ≡ Some q → TableOf p.cell.ports q (unit_of q) s → ChannelIn p ch s masks (lent_to ch sums bits) grid
+    turn-channel {s} h {q} e x = channel h (λ r f. subst (λ (k : ℕ). TableOf p.cell.ports k (unit_of k) s) (some-same (sym e ∙ f)) x)
+
+    pub turn-without : {s : List ℕ} → present_in p ch ≡ true → o ≡ None → ChannelIn p ch s masks (lent_to ch sums bits) grid
+    turn-without h e = channel h (λ q f. absurd (never (sym e ∙ f)))
 
 -- ---- the turns: what they have written
 module _ {w : List ℕ} {p : Plan} {payload g₀ : List ℕ} (start : Ready w p payload g₀) where
@@ -161,7 +167,7 @@ module _ {w : List ℕ} {p : Plan} {payload g₀ : List ℕ} (start : Ready w p 
               let r = start.room in
               record { some = r.some; most = r.most; not_three = r.not_three; fits = r.fits; size = so.written.size ∙ r.size }
 
-          pub going-in : {have : ℕ} {s bits : List ℕ} → Having p.cell.ports have s → TurnReady p ch have s masks sums bits g
+          pub going-in : {have : Option ℕ} {s bits : List ℕ} → Having p.cell.ports have s → TurnReady p ch have s masks sums bits g
           going-in {bits = bits} h =
               record {
                 bytes = w;

@@ -9,8 +9,6 @@ use Rattle.plan.specs.declared.Plan.{Plan}
 use Rattle.counts.specs.Counts.{kind_count}
 use Rattle.payload.specs.Payload.{unless_buffers}
 use Rattle.subframe.specs.Grid.{grid_of}
-use Rattle.build.specs.declared.Built.{Built}
-use Rattle.build.specs.declared.Built.TheVariants.{Elements, Refused}
 
 -- the count of user elements, all users': kind 6, gridcount's line PDSCH
 abbrev pub pdsch_elements : List ℕ → Plan → ℕ
@@ -25,8 +23,3 @@ unfoldable pub grid_after : List ℕ → List ℕ → List ℕ → List ℕ
 grid_after w payload grid =
     let kept : Refusal → List ℕ = λ r. grid in
     unless_refused kept (λ (p : Plan). unless_buffers kept w p grid payload (grid_of w p payload)) (check_of w)
-
--- the numbers of the call's enum
-abbrev pub built_answer : Built → Answer
-built_answer (Elements n) = given n
-built_answer (Refused r) = refused_as r

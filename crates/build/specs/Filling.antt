@@ -1,9 +1,8 @@
 -- For the inner contracts and loops only: what filling a grid needs, and what its turns share.
-use Rattle.std.specs.Prelude.{ℕ, ◌≡◌, true, List, length}
-use Rattle.modulation.specs.Symbols.{Order, unit_of}
+use Rattle.std.specs.Prelude.{ℕ, ◌≡◌, true, List, length, Option, Some, None, Ok as accepted}
+use Rattle.modulation.specs.Symbols.{unit_of}
 use Rattle.plan.specs.Check.{check_of}
 use Rattle.plan.specs.declared.Plan.{Plan}
-use Rattle.plan.specs.declared.Checked.TheVariants.{Plan as accepted}
 use Rattle.places.specs.Places.{places_of}
 use Rattle.payload.specs.Payload.{AcceptedPayload}
 use Rattle.grid.specs.Writing.{Room}
@@ -25,26 +24,22 @@ pub record Shared (w : List ℕ) (p : Plan) (payload masks sums : List ℕ) : Ty
   pub rows : RowMasks p.cell p.frame p.cell.ports true 14 masks
   pub made : SumsOf w p payload sums
 
--- t has the elements of order `have` on P ports, or `have` is 0
-pub record Having (P have : ℕ) (t : List ℕ) : Type 0 where
+-- t has the elements of order `have` on P ports, if there is one
+pub record Having (P : ℕ) (have : Option ℕ) (t : List ℕ) : Type 0 where
   pub size : length t ≡ 256
-  pub table : (have ≡ 0 → ⊥) → TableOf P have (unit_of have) t
+  pub table : (q : ℕ) → have ≡ Some q → TableOf P q (unit_of q) t
 
--- `order` is a modulation's, or the one that the table has
-pub record OrderOr (have order : ℕ) : Type 0 where
-  pub new : (order ≡ have → ⊥) → Order order
-
--- the order whose table a channel reads, or the one that the table has
-unfoldable pub order_for : ℕ → Channel → ℕ
-order_for have (Crs s) = have
-order_for have (Sync m) = have
-order_for have Pbch = 2
-order_for have Pcfich = have
-order_for have (Phich m) = have
-order_for have (User u) = u.order
+-- the order whose table a channel reads, if it reads one
+unfoldable pub order_of : Channel → Option ℕ
+order_of (Crs s) = None
+order_of (Sync m) = None
+order_of Pbch = Some 2
+order_of Pcfich = None
+order_of (Phich m) = None
+order_of (User u) = Some u.order
 
 -- what a turn of an accepted plan needs: its bytes, which `bits` or the sums have, masks, a grid, and a table
-pub record TurnReady (p : Plan) (ch : Channel) (have : ℕ) (t masks sums bits grid : List ℕ) : Type 0 where
+pub record TurnReady (p : Plan) (ch : Channel) (have : Option ℕ) (t masks sums bits grid : List ℕ) : Type 0 where
   pub bytes : List ℕ
   pub plan : check_of bytes ≡ accepted p
   pub number : ℕ

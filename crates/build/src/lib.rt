@@ -1,50 +1,42 @@
 // build: the grid of a plan and a payload, channel by channel in the schedule's turns (document 01).
 #![tactic(auto)]
 
-ghost use Rattle.std.specs.Prelude.{◌≡◌, ℕ, length};
+ghost use Rattle.std.specs.Prelude.{◌≡◌, ℕ, length, Ok as accepted};
 ghost use Rattle.base.specs.Tables.{table};
-ghost use Rattle.plan.specs.Check.{check_of};
-ghost use Rattle.plan.specs.declared.Checked.TheVariants.{Plan as accepted};
+ghost use Rattle.plan.specs.Check.{check_of, number_answer};
 ghost use Rattle.payload.specs.Payload.{payload_length};
+ghost use Rattle.modulation.specs.Symbols.{Order, unit_of};
+ghost use Rattle.data_write.specs.Sent.{TableOf};
 ghost use Rattle.grid.specs.Writing.{Written};
 ghost use Rattle.subframe.specs.Grid.{element_numbered, grid_of};
 ghost use Rattle.schedule.specs.declared.Channel.TheVariants.{Pcfich};
 ghost use Rattle.schedule.specs.Schedule.{start_pair, sends_of, sent_of, all_send, lent_to, SumsOf};
-ghost use Rattle.build.specs.Filling.{Ready, Shared, Having, OrderOr, order_for, TurnReady};
-ghost use Rattle.build.specs.Build.{built_of, grid_after, built_answer};
+ghost use Rattle.build.specs.Filling.{Ready, Shared, Having, order_of, TurnReady};
+ghost use Rattle.build.specs.Build.{built_of, grid_after};
 
 use data_write::set_table;
 use gold::Registers;
-use plan::{Checked, Plan, Refusal};
-use schedule::Channel;
+use plan::{Plan, Refusal};
+use schedule::{Channel, Section};
 
-// The count of user elements, ports not multiplied, or the refusal.
-#[derive(Clone, Copy)]
-pub enum Built {
-    Elements(usize),
-    Refused(Refusal),
-}
-
-// The order whose table of elements the channel reads; `have` for one that reads none.
-fn order_for(ch: Channel, have: u8) -> u8
-    ensures { result ≡ order_for have ch }
+// The order whose table of elements the channel reads, if it reads one.
+#[tactic(auto, unfolding(crate::specs::Filling::order_of))]
+fn order_of(ch: Channel) -> Option<u8>
+    ensures { result ≡ order_of ch }
 {
     match ch {
-        Channel::Crs(_) => have,
-        Channel::Sync(_) => have,
-        Channel::Pbch => 2,
-        Channel::Pcfich => have,
-        Channel::Phich(_) => have,
-        Channel::User(u) => u.order,
+        Channel::Pbch => Some(2),
+        Channel::User(u) => Some(u.order),
+        Channel::Crs(_) | Channel::Sync(_) | Channel::Pcfich | Channel::Phich(_) => None,
     }
 }
 
-// The table of an order on the ports, made anew unless it is there: `have` is the table's order, or 0.
-fn renew(t: &mut [u32; 256], have: u8, order: u8, ports: u8)
-    requires { Having ports have t.old × OrderOr have order }
-    ensures { Having ports order t.new }
+// The table of an order on the ports, made anew unless it is there: `have` is the order of the table that is there.
+fn renew(t: &mut [u32; 256], have: Option<u8>, order: u8, ports: u8)
+    requires { Having ports have t.old × Order order }
+    ensures { TableOf ports order (unit_of order) t.new }
 {
-    if order != have {
+    if have != Some(order) {
         set_table(t, order as u32, ports);
     }
 }
@@ -55,13 +47,13 @@ fn fill_turn(
     control: Registers,
     p: Plan,
     ch: Channel,
-    have: u8,
+    have: Option<u8>,
     t: &mut [u32; 256],
     masks: &[u8; 14],
     sums: &[u8],
     bits: &[u8],
     grid: &mut [u8],
-) -> u8
+) -> Option<u8>
     requires { TurnReady p ch have t.old masks.now sums.now bits.now grid.old × (control ≡ start_pair p Pcfich) }
     ensures { Written (sends_of p ch) (sent_of p (lent_to ch sums.now bits.now) (start_pair p ch) ch) grid.old grid.new
         × Having p.cell.ports result t.new }
@@ -69,10 +61,12 @@ fn fill_turn(
     if !schedule::present(p, ch) {
         return have;
     }
-    let order = order_for(ch, have);
-    renew(t, have, order, p.cell.ports);
+    let order = order_of(ch);
+    if let Some(q) = order {
+        renew(t, have, q, p.cell.ports);
+    }
     channel_write::write(control, p, ch, t, masks, sums, bits, grid);
-    order
+    order.or(have)
 }
 
 // Every turn of the schedule, each channel with its section of the payload.
@@ -91,13 +85,12 @@ fn fill_turns(
     let shape = counts::shape_of(p.cell, p.frame);
     let control = schedule::started(p, Channel::Pcfich);
     let turns = schedule::count(p);
-    let mut have: u8 = 0;
+    let mut have = None;
     let mut turn = schedule::first(p);
+    // The cursor counts its turns itself, and where the next one stands depends on the plan.
     while turn.number < turns {
         let ch = schedule::channel_at(plan, p, turn);
-        let part = schedule::section_of(p, shape, turn.start, ch);
-        let start = part.start;
-        let end = part.end;
+        let Section { start, end } = schedule::section_of(p, shape, turn.start, ch);
         have = fill_turn(
             control,
             p,
@@ -139,24 +132,25 @@ pub fn fill(plan: &[u8], p: Plan, payload: &[u8], grid: &mut [u8])
     fill_turns(plan, p, payload, &mut t, &masks, &sums[..], grid);
 }
 
-// BUILD: the grid of a plan and a payload. It goes on only if the plan check answers with a plan.
-pub fn build(plan: &[u8], payload: &[u8], grid: &mut [u8]) -> Built
-    ensures { (built_answer result ≡ built_of plan.now payload.now grid.old)
+// BUILD: the grid of a plan and a payload; the count of user elements, ports not multiplied. It goes on only if the plan check answers
+// with a plan.
+pub fn build(plan: &[u8], payload: &[u8], grid: &mut [u8]) -> Result<usize, Refusal>
+    ensures { (number_answer result ≡ built_of plan.now payload.now grid.old)
         × (grid.new ≡ grid_after plan.now payload.now grid.old) }
 {
     let checked = plan::check(plan);
-    let Checked::Plan(p) = checked else {
-        return Built::Refused(plan::refusal_in(checked));
+    let Ok(p) = checked else {
+        return Err(checked.unwrap_err());
     };
     if grid.len() != payload::grid_length(p) {
-        return Built::Refused(Refusal::GridLength);
+        return Err(Refusal::GridLength);
     }
     if payload.len() != payload::payload_length(plan, p) {
-        return Built::Refused(Refusal::PayloadLength);
+        return Err(Refusal::PayloadLength);
     }
     if !payload::spare_clear(plan, p, payload) {
-        return Built::Refused(Refusal::SpareBit);
+        return Err(Refusal::SpareBit);
     }
     fill(plan, p, payload, grid);
-    Built::Elements(counts::users_count(plan, p))
+    Ok(counts::users_count(plan, p))
 }

@@ -2,92 +2,61 @@
 // a digest of the grid after the call. Every byte of the grid is 165 before it, so that a refusal shows that no byte changed.
 #![tactic(auto)]
 
-use build::Built;
-use records::value;
+use records::{Answer, Digest};
 use std::io;
 
-fn answer(rt: &impl Print, b: Built) -> io::Result<()> {
-    match b {
-        Built::Elements(n) => print::number(rt, n as u64),
-        Built::Refused(r) => {
-            print::text(rt, b"refused ")?;
-            print::number(rt, plan::number(r) as u64)
-        }
+// A call. `lent` says how many bytes are lent for the grid.
+#[derive(Clone, Copy)]
+struct Call<'a> {
+    lent: u8,
+    plan: &'a [u8],
+    payload: &'a [u8],
+}
+
+impl<'a> Call<'a> {
+    // The call that the bytes start with, and what follows it; none for one that is cut off. It stands there as a byte for the length to lend,
+    // the plan's length in two bytes, the plan, the payload's length in four bytes, the payload.
+    fn read(bytes: &'a [u8]) -> Option<(Call<'a>, &'a [u8])> {
+        let (lent, rest) = bytes.split_first()?;
+        let (plan, rest) = records::counted(rest, 2)?;
+        let (payload, rest) = records::counted(rest, 4)?;
+        let call = Call {
+            lent: *lent,
+            plan,
+            payload,
+        };
+        Some((call, rest))
+    }
+
+    // Performs it on the front of a buffer.
+    fn perform(self, rt: &impl Print, number: usize, buffer: &mut [u8]) -> io::Result<()> {
+        let n = records::lent(records::wanted(self.plan), self.lent);
+        let Some(grid) = buffer.get_mut(..n) else {
+            return Ok(());
+        };
+        records::fill(grid);
+        let answer = Answer(build::build(self.plan, self.payload, grid));
+        let digest = Digest::EMPTY.added(grid);
+        println!(rt; "{number} {answer} {digest}")
     }
 }
 
-fn call(
-    rt: &impl Print,
-    number: usize,
-    plan: &[u8],
-    payload: &[u8],
-    grid: &mut [u8],
-) -> io::Result<()> {
-    records::fill(grid);
-    let b = build::build(plan, payload, grid);
-    print::number(rt, number as u64)?;
-    print::space(rt)?;
-    answer(rt, b)?;
-    print::space(rt)?;
-    records::show(rt, records::added(records::empty(), grid))?;
-    print::line(rt)
-}
-
-// One call, on the first n bytes of a buffer.
-fn lend(
-    rt: &impl Print,
-    number: usize,
-    plan: &[u8],
-    payload: &[u8],
-    n: usize,
-    buffer: &mut [u8],
-) -> io::Result<()> {
-    if n <= buffer.len() {
-        call(rt, number, plan, payload, &mut buffer[..n])?;
-    }
-    Ok(())
-}
-
-// The record that the bytes start with: a byte for the length to lend, the plan's length in two bytes, the plan, the payload's
-// length in four bytes, the payload. Answers with the record's length, 0 for one that is cut off.
-fn record(rt: &impl Print, number: usize, bytes: &[u8]) -> io::Result<usize> {
-    if bytes.len() < 3 {
-        return Ok(0);
-    }
-    let end = 3 + value(&bytes[1..3]);
-    let start = end + 4;
-    if bytes.len() < start {
-        return Ok(0);
-    }
-    let last = start + value(&bytes[end..start]);
-    if bytes.len() < last {
-        return Ok(0);
-    }
+// Performs the call that the bytes start with, and answers with what follows it.
+fn record<'a>(rt: &impl Print, number: usize, bytes: &'a [u8]) -> io::Result<Option<&'a [u8]>> {
+    let Some((call, rest)) = Call::read(bytes) else {
+        return Ok(None);
+    };
     let mut buffer = [0u8; 201601];
-    let n = records::lent(records::wanted(&bytes[3..end]), bytes[0]);
-    lend(
-        rt,
-        number,
-        &bytes[3..end],
-        &bytes[start..last],
-        n,
-        &mut buffer,
-    )?;
-    Ok(last)
+    call.perform(rt, number, &mut buffer)?;
+    Ok(Some(rest))
 }
 
-fn walk(rt: &impl Print, input: &[u8]) -> io::Result<()> {
-    let mut number = 0;
-    let mut at = 0;
-    while at < input.len() {
-        number += 1;
-        at = records::next_at(input, at, record(rt, number, &input[at..])?);
-    }
-    Ok(())
+fn answer(rt: &impl Print, input: &[u8]) -> io::Result<()> {
+    records::walk(input, |number, bytes| record(rt, number, bytes))
 }
 
 fn main(rt: HostRuntime) -> io::Result<()> {
     let mut buffer = [0u8; 400000];
     let n = input::read_full(&mut rt.stdin(), &mut buffer)?;
-    walk(&rt, &buffer[..n])
+    answer(&rt, &buffer[..n])
 }

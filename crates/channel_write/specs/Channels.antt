@@ -1,12 +1,11 @@
 -- For the inner contracts only: what writing a channel needs, and how many bits of its sequence it uses. p is the plan that the plan check
 -- answers with. t is a table of elements and masks a byte for each symbol of the users' rows, both lent.
-use Rattle.std.specs.Prelude.{ℕ, ◌*◌, ◌≡◌, true, List}
+use Rattle.std.specs.Prelude.{ℕ, ◌*◌, ◌≡◌, true, List, Ok as accepted}
 use Rattle.modulation.specs.Symbols.{unit_of}
 use Rattle.phich.specs.Spreading.{spread_length}
 use Rattle.phich.specs.Loops.{Levels}
 use Rattle.plan.specs.Check.{check_of}
 use Rattle.plan.specs.declared.Plan.{Plan}
-use Rattle.plan.specs.declared.Checked.TheVariants.{Plan as accepted}
 use Rattle.counts.specs.Users.{user_elements}
 use Rattle.places.specs.Places.{places_of}
 use Rattle.grid.specs.Writing.{Room}

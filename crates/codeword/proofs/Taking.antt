@@ -1,12 +1,10 @@
 -- A word and the count of its bits that are left: bits and symbols taken out of it, and 48 bits more below them, whatever the order. Assumes
 -- nothing.
-use mathlib.Core.Path.{◌≡◌, sym, ap, ap₂, ◌∙◌, subst}
+use mathlib.Core.Path.{◌≡◌, sym, ap, ap₂, ◌∙◌}
 use mathlib.Core.List.{List}
 use Prim.Native.Nat.{ℕ, ◌+◌, ◌-◌, ◌*◌, ◌/◌, ◌%◌, ◌^◌, ◌<◌, ◌≤◌}
 use native.Mathlib.Nat.{mul-add, mul-one, mul_assoc, mul-sub, mul-le-mul_left, lt_of_mul-lt-mul_left}
 use native.Mathlib.Omega.{arith}
-use lib.ListN.{length, get_or, set, length-set}
-use lib.Seq.{get_or-set_same, get_or-set_other, set-get_or}
 use lib.Pow.{high, low, mod-pow-add, mod-mod-pow}
 use Rattle.base.specs.Bits.{bit_at}
 use Rattle.gold.specs.declared.Registers.{Registers}
@@ -15,9 +13,10 @@ use Rattle.gold.proofs.Binary.{binary-split, binary-lt}
 use Rattle.gold.proofs.Window.{Holds, cut}
 use Rattle.modulation.specs.Symbols.{modulation_symbol}
 use Rattle.codeword.specs.declared.Rest.{Rest}
+use Rattle.codeword.specs.declared.ScrambledBits.{ScrambledBits}
 use Rattle.codeword.specs.Codewords.{data_symbol}
 use Rattle.codeword.specs.Streams.{outputs, symbols_of}
-use Rattle.codeword.specs.Bits48.{scrambled_bits, Next48, WordReady, Standing, Groups, CanTake, Takes, with_rest, TakesRest}
+use Rattle.codeword.specs.Bits48.{scrambled_bits, Next48, WordReady, Standing, Groups, CanTake, with_rest, TakesRest}
 use Rattle.codeword.proofs.Streams.{symbol_low}
 use Rattle.codeword.proofs.Laws.{scrambled-lt}
 
@@ -83,7 +82,7 @@ unfolding symbols_of data_symbol
 symbol-is bits r q j z h = sym (symbol_low q z) ∙ ap (modulation_symbol q) h
 
 -- ---- the word and the state
-module _ {bits : List ℕ} {r : Registers} {n word left : ℕ} {st : List ℕ} (y : WordReady bits r n st word left) where
+module _ {bits : List ℕ} {r : Registers} {n word left : ℕ} {st : ScrambledBits} (y : WordReady bits r n st word left) where
   bit : (i : ℕ) → scrambled_bits bits r i < 2
   bit = scrambled-lt (bit_at bits) (outputs r)
 
@@ -100,7 +99,7 @@ module _ {bits : List ℕ} {r : Registers} {n word left : ℕ} {st : List ℕ} (
   }
 
   -- 48 more
-  pub ready-more : (v : ℕ) (st' : List ℕ) → left ≤ 16 → Next48 bits st v st' → WordReady bits r n st' (word % 2 ^ 16 * 2 ^ 48 + v) (left + 48)
+  pub ready-more : (v : ℕ) (st' : ScrambledBits) → left ≤ 16 → Next48 bits st v st' → WordReady bits r n st' (word % 2 ^ 16 * 2 ^ 48 + v) (left + 48)
   ready-more v st' few next =
       let g = next.goes r y.number y.due in
       record {
@@ -112,52 +111,23 @@ module _ {bits : List ℕ} {r : Registers} {n word left : ℕ} {st : List ℕ} (
       }
 
   -- what `next48` needs
-  pub ready-early : n ≤ 2 ^ 32 → left ≤ 48 → get_or st 2 0 ≤ 2 ^ 32
+  pub ready-early : n ≤ 2 ^ 32 → left ≤ 48 → st.at ≤ 2 ^ 32
   ready-early few most = omega (arith, y.taken, y.due.byte)
 
--- ---- the word and the count outside the array: they are the state's as if they were in it
-module _ (st : List ℕ) (h : Rest) (size : length st ≡ 8) where
-  rest-word : get_or (with_rest st h) 3 0 ≡ h.word
-  rest-word = get_or-set_other (set st 3 h.word) 4 3 h.left 0 (λ e. omega arith) ∙ get_or-set_same st 3 h.word 0 (omega arith)
-
-  rest-left : get_or (with_rest st h) 4 0 ≡ h.left
-  rest-left = get_or-set_same (set st 3 h.word) 4 h.left 0 (simp length-set (omega arith))
-
-  rest-other : (i : ℕ) → (i ≡ 3 → ⊥) → (i ≡ 4 → ⊥) → get_or (with_rest st h) i 0 ≡ get_or st i 0
-  rest-other i a b = get_or-set_other (set st 3 h.word) 4 i h.left 0 b ∙ get_or-set_other st 3 i h.word 0 a
-
-ready-same :
-    {bits : List ℕ} {r : Registers} {n word left : ℕ} {st st' : List ℕ} → length st' ≡ 8
-    → ((i : ℕ) → (i ≡ 3 → ⊥) → (i ≡ 4 → ⊥) → get_or st' i 0 ≡ get_or st i 0) → WordReady bits r n st word left → WordReady bits r n st' word left
-ready-same size same y =
-    let d = y.due in
-    record {
-      number = y.number;
-      due =
-          record {
-            size = size;
-            pair = (λ t. record { x1 = same 0 (λ e. omega arith) (λ e. omega arith) t; x2 = same 1 (λ e. omega arith) (λ e. omega arith) t }) ∙ d.pair;
-            byte = same 2 (λ e. omega arith) (λ e. omega arith) ∙ d.byte;
-            last = same 5 (λ e. omega arith) (λ e. omega arith) ∙ d.last;
-          };
-      taken = y.taken;
-      held = y.held;
-    }
-
-module _ (st : List ℕ) (h : Rest) {bits : List ℕ} {r : Registers} {k : ℕ} where
-  rest_in : WordReady bits r k st h.word h.left → WordReady bits r k (with_rest st h) (get_or (with_rest st h) 3 0) (get_or (with_rest st h) 4 0)
-  rest_in y =
-      let size = y.due.size in
-      rw (rest-word st h size, rest-left st h size) (ready-same (simp length-set size) (rest-other st h size) y)
+-- ---- the word and the count outside the state: they are the state's as if they were in it
+module _ (st : ScrambledBits) (h : Rest) {bits : List ℕ} {r : Registers} {k : ℕ} where
+  rest_in : WordReady bits r k st h.word h.left → WordReady bits r k (with_rest st h) h.word h.left
+  rest_in y = let d = y.due in record { number = y.number; due = record { pair = d.pair; byte = d.byte; last = d.last }; taken = y.taken; held = y.held }
 
   rest_out : {u : ℕ} → Standing u bits r k (with_rest st h) → WordReady bits r k st h.word h.left
   rest_out s =
-      let size : length st ≡ 8 = simp length-set at s.ready.due.size in
-      rw (rest-word st h size, rest-left st h size) at (ready-same {st' = st} size (λ i a b. sym (rest-other st h size i a b)) s.ready)
+      let y = s.ready in
+      let d = y.due in
+      record { number = y.number; due = record { pair = d.pair; byte = d.byte; last = d.last }; taken = y.taken; held = y.held }
 
 -- n bits out of m
 takes_of :
-    {n m w : ℕ} {bits st' : List ℕ} (st : List ℕ) (h : Rest) → n ≤ m → m ≤ n + 48
+    {n m w : ℕ} {bits : List ℕ} {st' : ScrambledBits} (st : ScrambledBits) (h : Rest) → n ≤ m → m ≤ n + 48
     → ((u : ℕ) (r : Registers) (k : ℕ) → Groups u n → Standing u bits r k (with_rest st h) → WordReady bits r k st' w m)
     → TakesRest n bits st h st' (record { word = w; left = m - n })
 takes_of {n} {m} {w} {st' = st'} st h enough most f =
@@ -170,7 +140,7 @@ takes_of {n} {m} {w} {st' = st'} st h enough most f =
                   taken-bits y n enough,
                   record {
                     ready = rest_in st' x (ready-less y n enough);
-                    most = omega (arith, rest-left st' x y.due.size);
+                    most = omega arith;
                     groups = s.groups + (g.before + 1);
                     whole = ap₂ (λ (a b : ℕ). a + b) s.whole g.size ∙ sym (mul-add u s.groups (g.before + 1));
                   },
@@ -180,17 +150,17 @@ takes_of {n} {m} {w} {st' = st'} st h enough most f =
     }
 
 -- ---- what the code does
-module _ (st : List ℕ) (h : Rest) {n : ℕ} {bits : List ℕ} (q : CanTake n bits (with_rest st h)) where
+module _ (st : ScrambledBits) (h : Rest) {n : ℕ} {bits : List ℕ} (q : CanTake n bits (with_rest st h)) where
   begun : WordReady bits q.pair q.taken st h.word h.left
   begun = rest_out st h q.standing
 
   few-held : h.left ≤ 48
-  few-held = omega (arith, q.standing.most, rest-left st h begun.due.size)
+  few-held = q.standing.most
 
-  pub take-early : get_or st 2 0 ≤ 2 ^ 32
+  pub take-early : st.at ≤ 2 ^ 32
   take-early = ready-early begun q.early few-held
 
-  pub next_small : {v : ℕ} {mid : List ℕ} → Next48 bits st v mid → v < 2 ^ 48
+  pub next_small : {v : ℕ} {mid : ScrambledBits} → Next48 bits st v mid → v < 2 ^ 48
   next_small next =
       let g = next.goes q.pair begun.number begun.due in
       rw g.0 (binary-lt (scrambled_bits bits q.pair) (scrambled-lt (bit_at bits) (outputs q.pair)) (48 * (begun.number + 1)) 48)
@@ -201,7 +171,7 @@ module _ (st : List ℕ) (h : Rest) {n : ℕ} {bits : List ℕ} (q : CanTake n b
 
   -- or 48 more are put below
   pub takes-more :
-      {v w : ℕ} {mid : List ℕ} → h.left < n → Next48 bits st v mid → w ≡ h.word % 2 ^ 16 * 2 ^ 48 + v
+      {v w : ℕ} {mid : ScrambledBits} → h.left < n → Next48 bits st v mid → w ≡ h.word % 2 ^ 16 * 2 ^ 48 + v
       → TakesRest n bits st h mid (record { word = w; left = h.left + 48 - n })
   takes-more {v} {w} {mid} less next ew = takes_of st h (omega (arith, q.step.most)) (omega arith) (λ u r k g s. all u r k g s)
     where
@@ -212,17 +182,3 @@ module _ (st : List ℕ) (h : Rest) {n : ℕ} {bits : List ℕ} (q : CanTake n b
           let b : h.left < u * (g.before + 1) = omega (arith, g.size) in
           let few : h.left ≤ 16 = omega (arith, few-left u g.words s.groups y.number h.left g.before g.divides e b, g.few) in
           rw ew (ready-more y v mid few next)
-
--- `take` by these: out of the array, and into it again
-pub rest-same : (st : List ℕ) → with_rest st (record { word = get_or st 3 0; left = get_or st 4 0 }) ≡ st
-rest-same st = ap (λ (s : List ℕ). set s 4 (get_or st 4 0)) (set-get_or st 3 0) ∙ set-get_or st 4 0
-
-pub can-take-rest : {n : ℕ} {bits st : List ℕ} (h : Rest) → with_rest st h ≡ st → CanTake n bits st → CanTake n bits (with_rest st h)
-can-take-rest {n} {bits} h out q = subst (λ (s : List ℕ). CanTake n bits s) (sym out) q
-
-pub takes :
-    {n : ℕ} {bits st st' mid : List ℕ} {h x : Rest} → with_rest st h ≡ st → TakesRest n bits st h mid x → st' ≡ with_rest mid x
-    → Takes n bits st (x.word / 2 ^ x.left) st'
-takes {n} {bits} {st} {st'} {mid} {h} {x} out t into =
-    subst (λ (s : List ℕ). Takes n bits s (x.word / 2 ^ x.left) st') out
-    (subst (λ (s : List ℕ). Takes n bits (with_rest st h) (x.word / 2 ^ x.left) s) (sym into) t.takes)

@@ -1,11 +1,10 @@
 -- Words of six bytes, 48 bits at a time: bytes read, the state as it goes, and the pair after it. Assumes nothing.
 use mathlib.Core.Path.{◌≡◌, refl, sym, ap, ◌∙◌}
-use mathlib.Core.List.{List, [], ◌∷◌}
+use mathlib.Core.List.{List}
 use Prim.Native.Nat.{ℕ, zero, suc, ◌+◌, ◌-◌, ◌*◌, ◌/◌, ◌%◌, ◌^◌, ◌<◌, ◌≤◌}
 use native.Mathlib.Nat.{zero-div, mod-eq_of_lt}
 use native.Mathlib.Omega.{arith}
-use lib.ListN.{length, get_or, set, length-set, get_or-eq_default}
-use lib.Seq.{get_or-set_same, get_or-set_other}
+use lib.ListN.{length, get_or, get_or-eq_default}
 use lib.Bits.{bit_xor}
 use lib.Pow.{pow_mono}
 use Rattle.base.specs.Bits.{bit_at}
@@ -17,8 +16,9 @@ use Rattle.gold.specs.Wide.{wide_of, Gives48, Goes48, Narrows}
 use Rattle.gold.proofs.Binary.{binary-none, binary-split, binary-lt, binary-high}
 use Rattle.gold.proofs.Laws.{after_none, after-after}
 use Rattle.gold.proofs.Values64.{narrow-after}
+use Rattle.codeword.specs.declared.ScrambledBits.{ScrambledBits}
 use Rattle.codeword.specs.Streams.{outputs}
-use Rattle.codeword.specs.Bits48.{scrambled_bits, last_at, last_word, WordAt, wide_in, Due, Next48, Begins48, Ends}
+use Rattle.codeword.specs.Bits48.{scrambled_bits, last_at, last_word, WordAt, Due, Next48, Begins48, Ends}
 use Rattle.codeword.proofs.Streams.{bit-lt, byte_word, three-bytes, more-word}
 use Rattle.codeword.proofs.Laws.{scrambled-lt}
 
@@ -126,7 +126,7 @@ sent_word bits r w k at last b v e l h p g =
 
 -- what the calls of `begin` give
 pub begins48 : (bits : List ℕ) (r : Registers) (w : Wide) (last b v : ℕ) → w ≡ wide_of r → last ≡ last_word bits → WordAt bits 0 last b → Gives48 w v
-    → Begins48 bits r (w.x1 ∷ w.x2 ∷ 6 ∷ bit_xor b v ∷ 48 ∷ last ∷ 0 ∷ 0 ∷ [])
+    → Begins48 bits r (record { wide = w; at = 6; last = last; rest = record { word = bit_xor b v; left = 48 } })
 begins48 bits r w last b v e l h g =
     let p : w ≡ wide_of (after r (48 * 0)) = e ∙ ap wide_of (sym (after_none r)) in
     let s : bit_xor b v ≡ binary (scrambled_bits bits r) 0 48 = sent_word bits r w 0 0 last b v refl l h p g in
@@ -134,7 +134,7 @@ begins48 bits r w last b v e l h g =
       ready =
           record {
             number = 0;
-            due = record { size = refl; pair = p; byte = refl; last = l };
+            due = record { pair = p; byte = refl; last = l };
             taken = refl;
             held =
                 ap (λ (z : ℕ). z % 2 ^ 48) s ∙ mod-eq_of_lt (binary-lt (scrambled_bits bits r) (scrambled-lt (bit_at bits) (outputs r)) 0 48);
@@ -142,84 +142,48 @@ begins48 bits r w last b v e l h g =
       full = refl;
     }
 
--- three stores
-module _ (st : List ℕ) (a b c : ℕ) where
-  abbrev stored : List ℕ
-  stored = set (set (set st 0 a) 1 b) 2 c
-
-  stored-0 : length st ≡ 8 → get_or stored 0 0 ≡ a
-  stored-0 l =
-      get_or-set_other (set (set st 0 a) 1 b) 2 0 c 0 (λ e. omega arith)
-      ∙ get_or-set_other (set st 0 a) 1 0 b 0 (λ e. omega arith)
-      ∙ get_or-set_same st 0 a 0 (omega arith)
-
-  stored-1 : length st ≡ 8 → get_or stored 1 0 ≡ b
-  stored-1 l =
-      get_or-set_other (set (set st 0 a) 1 b) 2 1 c 0 (λ e. omega arith)
-      ∙ get_or-set_same (set st 0 a) 1 b 0 (simp length-set (omega arith))
-
-  stored-2 : length st ≡ 8 → get_or stored 2 0 ≡ c
-  stored-2 l = get_or-set_same (set (set st 0 a) 1 b) 2 c 0 (simp length-set (omega arith))
-
-  stored-5 : get_or stored 5 0 ≡ get_or st 5 0
-  stored-5 =
-      get_or-set_other (set (set st 0 a) 1 b) 2 5 c 0 (λ e. omega arith)
-      ∙ get_or-set_other (set st 0 a) 1 5 b 0 (λ e. omega arith)
-      ∙ get_or-set_other st 0 5 a 0 (λ e. omega arith)
-
 -- what the calls of `next48` give
-pub next48-is : (bits st : List ℕ) (w : Wide) (b v : ℕ) → Goes48 (wide_in st) w → WordAt bits (get_or st 2 0) (get_or st 5 0) b → Gives48 w v
-    → Next48 bits st (bit_xor b v) (set (set (set st 0 w.x1) 1 w.x2) 2 (get_or st 2 0 + 6))
+pub next48-is : (bits : List ℕ) (st : ScrambledBits) (w : Wide) (b v : ℕ) → Goes48 st.wide w → WordAt bits st.at st.last b → Gives48 w v
+    → Next48 bits st (bit_xor b v) (record st { wide = w; at = st.at + 6 })
 next48-is bits st w b v h f g = record {
   goes = λ r k d.
-      let at = get_or st 2 0 in
       let n : 48 * k + 48 ≡ 48 * (k + 1) = omega arith in
       let p : w ≡ wide_of (after r (48 * (k + 1))) =
       h.goes (after r (48 * k)) d.pair ∙ ap wide_of (after-after r (48 * k) 48 ∙ ap (after r) n) in (
-        sent_word bits r w (k + 1) at (get_or st 5 0) b v d.byte d.last f p g,
-        record {
-          size = simp length-set d.size;
-          pair =
-              (λ t. record {
-                x1 = stored-0 st w.x1 w.x2 (at + 6) d.size t;
-                x2 = stored-1 st w.x1 w.x2 (at + 6) d.size t;
-              })
-              ∙ p;
-          byte = omega (arith, stored-2 st w.x1 w.x2 (at + 6) d.size, d.byte);
-          last = stored-5 st w.x1 w.x2 (at + 6) ∙ d.last;
-        },
+        sent_word bits r w (k + 1) st.at st.last b v d.byte d.last f p g,
+        record { pair = p; byte = omega (arith, d.byte); last = d.last },
       );
 }
 
 -- ---- what the returns of `end` give
-module _ (r : Registers) (st : List ℕ) (p : Registers) (h : Narrows (wide_in st) p) where
+module _ (r : Registers) (st : ScrambledBits) (p : Registers) (h : Narrows st.wide p) where
   -- the pair where the word in use begins, and n bits on
   from-word : (k n : ℕ) {bits : List ℕ} → Due bits r k st → 1 ≤ 48 * k + n → after p n ≡ after r (48 * k + n)
   from-word k n d some = ap (λ (q : Registers). after q n) (h.narrowed (after r (48 * k)) d.pair) ∙ narrow-after r (48 * k) n some
 
-  pub ends-within : (x : Registers) → get_or st 4 0 < 48 → x ≡ after p (48 - get_or st 4 0) → Ends r st x
+  pub ends-within : (x : Registers) → st.rest.left < 48 → x ≡ after p (48 - st.rest.left) → Ends r st x
   ends-within x less e = record {
     exact = λ bits n y.
-        let m : 48 * y.number + (48 - get_or st 4 0) ≡ n = omega (arith, y.taken) in
-        e ∙ from-word y.number (48 - get_or st 4 0) y.due (omega arith) ∙ ap (after r) m;
+        let m : 48 * y.number + (48 - st.rest.left) ≡ n = omega (arith, y.taken) in
+        e ∙ from-word y.number (48 - st.rest.left) y.due (omega arith) ∙ ap (after r) m;
   }
 
-  pub ends-none : get_or st 4 0 ≡ 48 → get_or st 2 0 ≡ 6 → Ends r st r
+  pub ends-none : st.rest.left ≡ 48 → st.at ≡ 6 → Ends r st r
   ends-none e f = record {
     exact = λ bits n y.
         let m : 0 ≡ n = omega (arith, y.taken, y.due.byte) in
         sym (after_none r) ∙ ap (after r) m;
   }
 
-  pub ends-whole : get_or st 4 0 ≡ 48 → (get_or st 2 0 ≡ 6 → ⊥) → Ends r st p
+  pub ends-whole : st.rest.left ≡ 48 → (st.at ≡ 6 → ⊥) → Ends r st p
   ends-whole e f = record {
     exact = λ bits n y.
-        let b : get_or st 2 0 ≡ 6 * (y.number + 1) = y.due.byte in
+        let b : st.at ≡ 6 * (y.number + 1) = y.due.byte in
         let some : 1 ≤ 48 * y.number + 0 = positive y.number b in
         let m : 48 * y.number + 0 ≡ n = omega (arith, y.taken) in
         sym (after_none p) ∙ from-word y.number 0 y.due some ∙ ap (after r) m;
   }
     where
-      positive : (k : ℕ) → get_or st 2 0 ≡ 6 * (k + 1) → 1 ≤ 48 * k + 0
+      positive : (k : ℕ) → st.at ≡ 6 * (k + 1) → 1 ≤ 48 * k + 0
       positive zero b = absurd (f b)
       positive (suc k) b = omega arith

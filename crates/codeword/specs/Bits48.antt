@@ -1,12 +1,12 @@
--- For the inner contracts and loops only: a channel's scrambled bits taken 48 at a time, from a state in an array that is lent.
-use Rattle.std.specs.Prelude.{ℕ, ◌+◌, ◌-◌, ◌*◌, ◌/◌, ◌%◌, ◌^◌, ◌≤◌, ◌≡◌, List, length, get_or, set}
+-- For the inner contracts and loops only: a channel's scrambled bits taken 48 at a time, from a state that is lent.
+use Rattle.std.specs.Prelude.{ℕ, ◌+◌, ◌-◌, ◌*◌, ◌/◌, ◌%◌, ◌^◌, ◌≤◌, ◌≡◌, List, length}
 use Rattle.base.specs.Bits.{bit_at}
 use Rattle.gold.specs.declared.Registers.{Registers}
-use Rattle.gold.specs.declared.Wide.{Wide}
 use Rattle.gold.specs.Sequence.{binary}
 use Rattle.gold.specs.Steps.{after}
 use Rattle.gold.specs.Wide.{wide_of}
 use Rattle.codeword.specs.declared.Rest.{Rest}
+use Rattle.codeword.specs.declared.ScrambledBits.{ScrambledBits}
 use Rattle.codeword.specs.Codewords.{scrambled}
 use Rattle.codeword.specs.Streams.{outputs}
 
@@ -27,35 +27,31 @@ pub record WordAt (bits : List ℕ) (at last w : ℕ) : Type 0 where
   pub word : at % 6 ≡ 0 → last ≡ last_word bits → w ≡ binary (bit_at bits) (8 * at) 48
 
 -- ---- the state: of a slice's bits, scrambled, word k is the last that was given
-abbrev pub wide_in : List ℕ → Wide
-wide_in st = record { x1 = get_or st 0 0; x2 = get_or st 1 0 }
-
-pub record Due (bits : List ℕ) (r : Registers) (k : ℕ) (st : List ℕ) : Type 0 where
-  pub size : length st ≡ 8
-  pub pair : wide_in st ≡ wide_of (after r (48 * k))
-  pub byte : get_or st 2 0 ≡ 6 * (k + 1)
-  pub last : get_or st 5 0 ≡ last_word bits
+pub record Due (bits : List ℕ) (r : Registers) (k : ℕ) (st : ScrambledBits) : Type 0 where
+  pub pair : st.wide ≡ wide_of (after r (48 * k))
+  pub byte : st.at ≡ 6 * (k + 1)
+  pub last : st.last ≡ last_word bits
 
 -- what `next48` gives: the bits of the word after it, and the state
-pub record Next48 (bits st : List ℕ) (v : ℕ) (st' : List ℕ) : Type 0 where
+pub record Next48 (bits : List ℕ) (st : ScrambledBits) (v : ℕ) (st' : ScrambledBits) : Type 0 where
   pub goes : (r : Registers) (k : ℕ) → Due bits r k st → (v ≡ binary (scrambled_bits bits r) (48 * (k + 1)) 48) × Due bits r (k + 1) st'
 
 -- ---- n bits were taken, the word's lowest `left` come next, and then those that the state gives
-pub record WordReady (bits : List ℕ) (r : Registers) (n : ℕ) (st : List ℕ) (word left : ℕ) : Type 0 where
+pub record WordReady (bits : List ℕ) (r : Registers) (n : ℕ) (st : ScrambledBits) (word left : ℕ) : Type 0 where
   pub number : ℕ
   pub due : Due bits r number st
   pub taken : n + left ≡ 48 * (number + 1)
   pub held : word % 2 ^ left ≡ binary (scrambled_bits bits r) n left
 
 -- what `begin` gives
-pub record Begins48 (bits : List ℕ) (r : Registers) (st : List ℕ) : Type 0 where
-  pub ready : WordReady bits r 0 st (get_or st 3 0) (get_or st 4 0)
-  pub full : get_or st 4 0 ≡ 48
+pub record Begins48 (bits : List ℕ) (r : Registers) (st : ScrambledBits) : Type 0 where
+  pub ready : WordReady bits r 0 st st.rest.word st.rest.left
+  pub full : st.rest.left ≡ 48
 
--- k bits were taken, whole groups of u bits, and the word and the count of its bits that are left are in the array
-pub record Standing (u : ℕ) (bits : List ℕ) (r : Registers) (k : ℕ) (st : List ℕ) : Type 0 where
-  pub ready : WordReady bits r k st (get_or st 3 0) (get_or st 4 0)
-  pub most : get_or st 4 0 ≤ 48
+-- k bits were taken, whole groups of u bits, and the word and the count of its bits that are left are in the state
+pub record Standing (u : ℕ) (bits : List ℕ) (r : Registers) (k : ℕ) (st : ScrambledBits) : Type 0 where
+  pub ready : WordReady bits r k st st.rest.word st.rest.left
+  pub most : st.rest.left ≤ 48
   pub groups : ℕ
   pub whole : k ≡ u * groups
 
@@ -69,7 +65,7 @@ pub record Groups (u n : ℕ) : Type 0 where
   pub most : n ≤ 48
 
 -- what `take` needs
-pub record CanTake (n : ℕ) (bits st : List ℕ) : Type 0 where
+pub record CanTake (n : ℕ) (bits : List ℕ) (st : ScrambledBits) : Type 0 where
   pub group : ℕ
   pub step : Groups group n
   pub pair : Registers
@@ -78,20 +74,20 @@ pub record CanTake (n : ℕ) (bits st : List ℕ) : Type 0 where
   pub standing : Standing group bits pair taken st
 
 -- what `take` gives: the next n bits, and the state after them
-pub record Takes (n : ℕ) (bits st : List ℕ) (v : ℕ) (st' : List ℕ) : Type 0 where
+pub record Takes (n : ℕ) (bits : List ℕ) (st : ScrambledBits) (v : ℕ) (st' : ScrambledBits) : Type 0 where
   pub goes :
       (u : ℕ) (r : Registers) (k : ℕ) → Groups u n → Standing u bits r k st
       → (v % 2 ^ n ≡ binary (scrambled_bits bits r) k n) × Standing u bits r (k + n) st'
 
 -- a state with another word and count
-abbrev pub with_rest : List ℕ → Rest → List ℕ
-with_rest st h = set (set st 3 h.word) 4 h.left
+abbrev pub with_rest : ScrambledBits → Rest → ScrambledBits
+with_rest st h = record st { rest = h }
 
--- what `take_rest` gives: the same where the word and the count are not in the array
-pub record TakesRest (n : ℕ) (bits st : List ℕ) (h : Rest) (st' : List ℕ) (x : Rest) : Type 0 where
+-- what `take_rest` gives: the same where the word and the count are not in the state
+pub record TakesRest (n : ℕ) (bits : List ℕ) (st : ScrambledBits) (h : Rest) (st' : ScrambledBits) (x : Rest) : Type 0 where
   pub takes : Takes n bits (with_rest st h) (x.word / 2 ^ x.left) (with_rest st' x)
   pub most : x.left ≤ 48
 
 -- what `end` gives
-pub record Ends (r : Registers) (st : List ℕ) (x : Registers) : Type 0 where
-  pub exact : (bits : List ℕ) (n : ℕ) → WordReady bits r n st (get_or st 3 0) (get_or st 4 0) → x ≡ after r n
+pub record Ends (r : Registers) (st : ScrambledBits) (x : Registers) : Type 0 where
+  pub exact : (bits : List ℕ) (n : ℕ) → WordReady bits r n st st.rest.word st.rest.left → x ≡ after r n

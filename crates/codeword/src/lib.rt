@@ -9,13 +9,13 @@ ghost use Rattle.codeword.specs.Bits48.{last_at, WordAt, Begins48, Next48, with_
 use gold::{Registers, Wide};
 
 // A byte of the bits, 0 past their end.
-fn byte_at(bits: &[u8], i: usize) -> u32
+fn byte_at(bits: &[u8], i: usize) -> u64
     ensures { (result ≡ get_or bits.now i 0) × (result < 256) }
 {
-    if i < bits.len() {
-        return bits[i] as u32;
+    match bits.get(i) {
+        Some(b) => u64::from(*b),
+        None => 0,
     }
-    0
 }
 
 // A byte that the bits have.
@@ -23,7 +23,7 @@ fn byte_within(bits: &[u8], i: usize) -> u64
     requires { i < length bits.now }
     ensures { (result ≡ get_or bits.now i 0) × (result < 256) }
 {
-    bits[i] as u64
+    u64::from(bits[i])
 }
 
 // The 32 bits from a byte on, where there are so many.
@@ -44,10 +44,8 @@ fn last_bits(bits: &[u8], from: usize) -> u64
     ensures { result ≡ binary (bit_at bits.now) (8 * from) 48 }
 {
     let mut w: u64 = 0;
-    let mut i: usize = 0;
-    while i < 6 {
-        w = w * 256 + (byte_at(bits, from + i) as u64);
-        i += 1;
+    for i in 0..6 {
+        w = w * 256 + byte_at(bits, from + i);
     }
     w
 }
@@ -56,10 +54,7 @@ fn last_bits(bits: &[u8], from: usize) -> u64
 fn last_at(n: usize) -> usize
     ensures { result ≡ last_at n }
 {
-    if n < 2 {
-        return 0;
-    }
-    (n - 2) / 6 * 6
+    n.saturating_sub(2) / 6 * 6
 }
 
 // The 48 bits of the word of six bytes from a byte on, of which `last` is the last that has two bytes or more. The words before it have
@@ -76,34 +71,7 @@ fn bits48(bits: &[u8], at: usize, last: u64) -> u64
     if at + 2 <= bits.len() {
         return last;
     }
-    (byte_at(bits, at) as u64) * 1099511627776
-}
-
-// The state of a channel's scrambled bits, for an array that is lent: the 64 values of x1 and of x2 where the word in use begins, the byte
-// after it, the word and how many of its lowest bits are not taken, and the bits of the last word. The other two are its holder's.
-pub fn begin(r: Registers, bits: &[u8]) -> [u64; 8]
-    ensures { Begins48 bits.now r result }
-{
-    let w = gold::widen(r);
-    let last = last_bits(bits, last_at(bits.len()));
-    let word = bits48(bits, 0, last) ^ gold::word48(w);
-    [w.x1, w.x2, 6, word, 48, last, 0, 0]
-}
-
-// The next 48 scrambled bits.
-fn next48(st: &mut [u64; 8], bits: &[u8]) -> u64
-    requires { get_or st.old 2 0 ≤ 2 ^ 32 }
-    ensures { Next48 bits.now st.old result st.new }
-{
-    let a = st[0];
-    let b = st[1];
-    let at = st[2];
-    let last = st[5];
-    let w = gold::advance48(Wide { x1: a, x2: b });
-    st[0] = w.x1;
-    st[1] = w.x2;
-    st[2] = at + 6;
-    bits48(bits, at as usize, last) ^ gold::word48(w)
+    byte_at(bits, at) * 1099511627776
 }
 
 // The 16 lowest bits of a word, and 48 more below them.
@@ -114,7 +82,7 @@ fn joined(word: u64, next: u64) -> u64
     word % 65536 * 281474976710656 + next
 }
 
-// The word in use, and how many of its lowest bits are not taken. A loop has them in locals, since the compiler cannot tell the array from a
+// The word in use, and how many of its lowest bits are not taken. A loop has them in locals, since the compiler cannot tell the state from a
 // grid that is written.
 #[derive(Clone, Copy)]
 pub struct Rest {
@@ -122,69 +90,86 @@ pub struct Rest {
     pub left: u64,
 }
 
-// What a state has of them.
-pub fn rest_of(st: &[u64; 8]) -> Rest
-    ensures { with_rest st.now result ≡ st.now }
-{
-    let word = st[3];
-    let left = st[4];
-    Rest {
-        word: word,
-        left: left,
-    }
+// A channel's scrambled bits as they are taken: the 64 values of x1 and of x2 where the word in use begins, the byte after it, the bits of the
+// last word, and the word in use. It is lent: by value it would be copied at each call that is not inlined.
+#[derive(Clone, Copy)]
+pub struct ScrambledBits {
+    pub wide: Wide,
+    pub at: usize,
+    pub last: u64,
+    pub rest: Rest,
 }
 
-// They are put into a state.
-pub fn put_rest(st: &mut [u64; 8], h: Rest)
-    ensures { st.new ≡ with_rest st.old h }
-{
-    st[3] = h.word;
-    st[4] = h.left;
-}
+impl ScrambledBits {
+    pub fn begin(r: Registers, bits: &[u8]) -> Self
+        ensures { Begins48 bits.now r result }
+    {
+        let wide = gold::widen(r);
+        let last = last_bits(bits, last_at(bits.len()));
+        let word = bits48(bits, 0, last) ^ gold::word48(wide);
+        Self {
+            wide,
+            at: 6,
+            last,
+            rest: Rest { word, left: 48 },
+        }
+    }
 
-// What is left after the next n scrambled bits: these are the lowest n of the word without the bits that are left. Callers pass an array that
-// `begin` or `take` gave for the same bits, and take them in groups, one or some at a time, that 48 bits are whole groups of.
-pub fn take_rest(st: &mut [u64; 8], h: Rest, n: u64, bits: &[u8]) -> Rest
-    requires { CanTake n bits.now (with_rest st.old h) }
-    ensures { TakesRest n bits.now st.old h st.new result }
-{
-    if n <= h.left {
-        return Rest {
-            word: h.word,
-            left: h.left - n,
-        };
+    // The next 48 scrambled bits.
+    fn next48(&mut self, bits: &[u8]) -> u64
+        requires { self.old.at ≤ 2 ^ 32 }
+        ensures { Next48 bits.now self.old result self.new }
+    {
+        let at = self.at;
+        let w = gold::advance48(self.wide);
+        self.wide = w;
+        self.at = at + 6;
+        bits48(bits, at, self.last) ^ gold::word48(w)
     }
-    let next = next48(st, bits);
-    Rest {
-        word: joined(h.word, next),
-        left: h.left + 48 - n,
-    }
-}
 
-// The next n scrambled bits, the lowest n of the result.
-pub fn take(st: &mut [u64; 8], n: u64, bits: &[u8]) -> u64
-    requires { CanTake n bits.now st.old }
-    ensures { Takes n bits.now st.old result st.new }
-{
-    let h = take_rest(st, rest_of(st), n, bits);
-    put_rest(st, h);
-    h.word >> h.left
-}
+    // What is left after the next n scrambled bits: these are the lowest n of the word without the bits that are left. Callers pass a state that
+    // `begin` or `take` gave for the same bits, and take them in groups, one or some at a time, that 48 bits are whole groups of.
+    pub fn take_rest(&mut self, h: Rest, n: u64, bits: &[u8]) -> Rest
+        requires { CanTake n bits.now (with_rest self.old h) }
+        ensures { TakesRest n bits.now self.old h self.new result }
+    {
+        let Rest { word, left } = h;
+        if n <= left {
+            return Rest {
+                word,
+                left: left - n,
+            };
+        }
+        let next = self.next48(bits);
+        Rest {
+            word: joined(word, next),
+            left: left + 48 - n,
+        }
+    }
 
-// The pair after the bits that were taken, where r is the pair that the state was begun with: at the bit after the last that was taken.
-pub fn end(r: Registers, st: &[u64; 8]) -> Registers
-    requires { get_or st.now 4 0 ≤ 48 }
-    ensures { Ends r st.now result }
-{
-    let a = st[0];
-    let b = st[1];
-    let left = st[4];
-    let p = gold::narrow(Wide { x1: a, x2: b });
-    if left < 48 {
-        return gold::skip(p, (48 - left) as usize);
+    // The next n scrambled bits, the lowest n of the result.
+    pub fn take(&mut self, n: u64, bits: &[u8]) -> u64
+        requires { CanTake n bits.now self.old }
+        ensures { Takes n bits.now self.old result self.new }
+    {
+        let h = self.take_rest(self.rest, n, bits);
+        self.rest = h;
+        h.word >> h.left
     }
-    if st[2] == 6 {
-        return r;
+
+    // The pair after the bits that were taken, where r is the pair that the state was begun with: at the bit after the last that was taken.
+    pub fn end(&self, r: Registers) -> Registers
+        requires { self.now.rest.left ≤ 48 }
+        ensures { Ends r self.now result }
+    {
+        let left = self.rest.left;
+        let p = gold::narrow(self.wide);
+        if left < 48 {
+            return gold::skip(p, (48 - left) as usize);
+        }
+        if self.at == 6 {
+            return r;
+        }
+        p
     }
-    p
 }

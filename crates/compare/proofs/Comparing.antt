@@ -16,8 +16,7 @@ use Rattle.base.specs.Bytes.{silent}
 use Rattle.base.proofs.Bytes.{element-is}
 use Rattle.grid.specs.Elements.{element_in}
 use Rattle.grid.specs.Writing.{Room}
-use Rattle.compare.specs.declared.Seen.{Seen}
-use Rattle.compare.specs.declared.Seen.TheVariants.{Weight, Differs}
+use Rattle.std.specs.Prelude.{Option, Some, None}
 use Rattle.compare.specs.Comparing.{Holds, nonzero, nonzeros, weight_of, weight_in, Compared, same_element, seen_of, both_of, Few}
 
 -- ---- bytes that are not 0
@@ -120,13 +119,13 @@ module _ (g : List ℕ) where
       pick (no q) k = rw (ne_eqb e n q) (omega (arith, k (omega arith)))
 
 -- ---- comparisons
-pub none : (W : ℕ → Element) (g : List ℕ) → Compared (λ (e : ℕ). false) W g (Weight 0)
+pub none : (W : ℕ → Element) (g : List ℕ) → Compared (λ (e : ℕ). false) W g (Some 0)
 none W g = record { found = (record { elements = λ e h. clash h refl }, sym (weight-none g (λ (e : ℕ). false) (length g / 3) (λ e l h. clash h refl))) }
 
-pub holds_of : {D : ℕ → Bool} {W : ℕ → Element} {g : List ℕ} {n : ℕ} → Holds D W g → n ≡ weight_in D g (length g / 3) → Compared D W g (Weight n)
+pub holds_of : {D : ℕ → Bool} {W : ℕ → Element} {g : List ℕ} {n : ℕ} → Holds D W g → n ≡ weight_in D g (length g / 3) → Compared D W g (Some n)
 holds_of h e = record { found = (h, e) }
 
-pub differs : {D : ℕ → Bool} {W : ℕ → Element} {g : List ℕ} → (Holds D W g → ⊥) → Compared D W g Differs
+pub differs : {D : ℕ → Bool} {W : ℕ → Element} {g : List ℕ} → (Holds D W g → ⊥) → Compared D W g None
 differs h = record { found = h }
 
 -- fewer elements hold their values too
@@ -136,11 +135,11 @@ pub holds-less :
 holds-less d v h = record { elements = λ e k. h.elements e (d e k) ∙ v e k }
 
 pub same :
-    {D D' : ℕ → Bool} {W W' : ℕ → Element} {g : List ℕ} {r : Seen} → ((e : ℕ) → D e ≡ D' e) → ((e : ℕ) → D e ≡ true → W e ≡ W' e)
+    {D D' : ℕ → Bool} {W W' : ℕ → Element} {g : List ℕ} {r : Option ℕ} → ((e : ℕ) → D e ≡ D' e) → ((e : ℕ) → D e ≡ true → W e ≡ W' e)
     → Compared D W g r → Compared D' W' g r
-same {D = D} {D' = D'} {g = g} {r = Weight n} d v c =
+same {D = D} {D' = D'} {g = g} {r = Some n} d v c =
     holds_of (holds-less (λ e k. d e ∙ k) (λ e k. v e (d e ∙ k)) c.found.0) (c.found.1 ∙ weight-same g D D' (length g / 3) (λ e l. d e))
-same {r = Differs} d v c = differs (λ h. c.found (holds-less (λ e k. sym (d e) ∙ k) (λ e k. sym (v e k)) h))
+same {r = None} d v c = differs (λ h. c.found (holds-less (λ e k. sym (d e) ∙ k) (λ e k. sym (v e k)) h))
 
 -- elements that hold their values, and others
 module _ (D₁ D₂ : ℕ → Bool) {D : ℕ → Bool} {W W₂ : ℕ → Element} {g : List ℕ}
@@ -161,27 +160,41 @@ module _ (D₁ D₂ : ℕ → Bool) {D : ℕ → Bool} {W W₂ : ℕ → Element
 -- comparisons of elements apart
 module _ {D₁ D₂ D : ℕ → Bool} {W W₂ : ℕ → Element} {g : List ℕ} where
   pub over :
-      {r s : Seen} → ((e : ℕ) → D₁ e ≡ true → D₂ e ≡ true → ⊥) → Compared D₁ W g r → Compared D₂ W₂ g s → ((e : ℕ) → D₂ e ≡ true → W₂ e ≡ W e)
+      {r s : Option ℕ} → ((e : ℕ) → D₁ e ≡ true → D₂ e ≡ true → ⊥) → Compared D₁ W g r → Compared D₂ W₂ g s → ((e : ℕ) → D₂ e ≡ true → W₂ e ≡ W e)
       → ((e : ℕ) → D e ≡ D₂ e || D₁ e) → Compared D W g (both_of r s)
-  over {r = Weight m} {s = Weight n} a c k v d =
+  over {r = Some m} {s = Some n} a c k v d =
       holds_of (holds-both D₁ D₂ v d c.found.0 k.found.0)
       (ap₂ (λ (x y : ℕ). x + y) c.found.1 k.found.1 ∙ sym (weight-or g D₁ D₂ (length g / 3) (λ e l. a e))
       ∙ weight-same g (λ (e : ℕ). D₂ e || D₁ e) D (length g / 3) (λ e l. sym (d e)))
-  over {r = Weight m} {s = Differs} a c k v d = differs (λ h. k.found (holds-new D₁ D₂ v d h))
-  over {r = Differs} {s = s} a c k v d = differs (λ h. c.found (holds-old D₁ D₂ v d h))
+  over {r = Some m} {s = None} a c k v d = differs (λ h. k.found (holds-new D₁ D₂ v d h))
+  over {r = None} {s = s} a c k v d = differs (λ h. c.found (holds-old D₁ D₂ v d h))
+
+-- elements of which some differ
+pub part-differs :
+    {D D₂ : ℕ → Bool} {W W₂ : ℕ → Element} {g : List ℕ} → ((e : ℕ) → D₂ e ≡ true → D e ≡ true) → ((e : ℕ) → D₂ e ≡ true → W₂ e ≡ W e)
+    → Compared D₂ W₂ g None → Compared D W g None
+part-differs d v c = differs (λ h. c.found (holds-less d (λ e t. sym (v e t)) h))
 
 -- ---- the number is small
-pub few-length : {D : ℕ → Bool} {W : ℕ → Element} {g : List ℕ} {r : Seen} → length g ≤ 201600 → Compared D W g r → Few r
-few-length {D = D} {g = g} {r = Weight n} l c = omega (arith, c.found.1, weight-most g D (length g / 3))
-few-length {r = Differs} l c = tt
+pub seen-three : (a b : Element) {n : ℕ} → Some n ≡ seen_of a b → n ≤ 3
+unfolding seen_of
+seen-three a b {n = n} e = pick (same_element a b) e
+  where
+    pick : (t : Bool) → Some n ≡ cond t (Some (weight_of a)) None → n ≤ 3
+    pick true q = let k : n ≡ weight_of a = cc in omega (arith, weight-le a)
+    pick false q = absurd (cc)
+
+pub few-length : {D : ℕ → Bool} {W : ℕ → Element} {g : List ℕ} {r : Option ℕ} → length g ≤ 201600 → Compared D W g r → Few r
+few-length {D = D} {g = g} {r = Some n} l c = omega (arith, c.found.1, weight-most g D (length g / 3))
+few-length {r = None} l c = tt
 
 pub widest : {P T : ℕ} {g : List ℕ} → Room P T g → length g ≤ 201600
 widest {P} {T} r = omega (arith, r.size, mul-le-mul {n₁ = P} {m₁ = T} {n₂ = 4} {m₂ = 16800} r.most r.fits)
 
-pub few : {P T : ℕ} {D : ℕ → Bool} {W : ℕ → Element} {g : List ℕ} {r : Seen} → Room P T g → Compared D W g r → Few r
+pub few : {P T : ℕ} {D : ℕ → Bool} {W : ℕ → Element} {g : List ℕ} {r : Option ℕ} → Room P T g → Compared D W g r → Few r
 few room c = few-length (widest room) c
 
-pub both-few : {D D' : ℕ → Bool} {W W' : ℕ → Element} {g : List ℕ} {r s : Seen} → length g ≤ 201600 → Compared D W g r → Compared D' W' g s → Few r × Few s
+pub both-few : {D D' : ℕ → Bool} {W W' : ℕ → Element} {g : List ℕ} {r s : Option ℕ} → length g ≤ 201600 → Compared D W g r → Compared D' W' g s → Few r × Few s
 both-few l a b = (few-length l a, few-length l b)
 
 -- ---- one element
@@ -208,13 +221,13 @@ pub look-compared : (g : List ℕ) (e : ℕ) (el : Element) → 3 * e + 2 < leng
 unfolding seen_of
 look-compared g e el l = pick (same_element (element_in g e) el) refl
   where
-    pick : (b : Bool) → same_element (element_in g e) el ≡ b → Compared (eqb e) (λ (x : ℕ). el) g (cond b (Weight (weight_of (element_in g e))) Differs)
+    pick : (b : Bool) → same_element (element_in g e) el ≡ b → Compared (eqb e) (λ (x : ℕ). el) g (cond b (Some (weight_of (element_in g e))) None)
     pick true h =
         holds_of (record { elements = λ x k. ap (λ (y : ℕ). element_in g y) (sym (eqb-true e x k)) ∙ same-element (element_in g e) el h })
         (sym (weight-one g e (length g / 3) (omega arith)))
     pick false h = differs (λ k. clash (element-same (element_in g e) el (k.elements e (eq-eqb e e refl))) h)
 
-pub looked : (g : List ℕ) (e : ℕ) (el : Element) {seen : Seen} → 3 * e + 2 < length g → seen ≡ seen_of (element_in g e) el → Compared (eqb e) (λ (x : ℕ). el) g seen
+pub looked : (g : List ℕ) (e : ℕ) (el : Element) {seen : Option ℕ} → 3 * e + 2 < length g → seen ≡ seen_of (element_in g e) el → Compared (eqb e) (λ (x : ℕ). el) g seen
 looked g e el l q = rw q (look-compared g e el l)
 
 -- ---- all bytes of a grid

@@ -1,10 +1,13 @@
 -- Laws of the bytes that are not 0, counted byte by byte and part by part. Assumes nothing.
-use Prim.Native.Nat.{ℕ, suc, ◌+◌, ◌-◌, ◌≤◌, ◌<◌}
+use Prim.Native.Nat.{ℕ, zero, suc, ◌+◌, ◌-◌, ◌*◌, ◌≤◌, ◌<◌}
 use mathlib.Core.Path.{◌≡◌, refl, sym, ap, ◌∙◌}
 use mathlib.Core.List.{List, [], ◌∷◌, ◌++◌}
+use Rattle.std.proofs.Common.{add-one}
+use native.Mathlib.Nat.{suc-mul}
 use native.Mathlib.Omega.{arith}
 use lib.ListN.{length, get_or, take, drop, take-append-drop, length-take, drop_of_length-le}
 use lib.Seq.{drop-cons, drop-drop}
+use Rattle.std.specs.Simd.{first_chunks}
 use Rattle.compare.specs.Comparing.{nonzero, nonzeros}
 use Rattle.compare.proofs.Comparing.{nonzero-one, nonzero-none, nonzero-le}
 
@@ -51,9 +54,30 @@ module _ {l : List ℕ} {i n : ℕ} (c : Count l i n) where
       ∙ ap (λ (d : List ℕ). nonzeros part + nonzeros d) (drop-drop (e - i) i l ∙ ap (λ (k : ℕ). drop k l) q) in
       record { inside = k; is = omega arith }
 
+  -- the rest
+  pub count-rest : {r : List ℕ} {p w : ℕ} → r ≡ drop i l → p ≡ nonzeros r → w ≡ p → n + w ≡ nonzeros l
+  count-rest e ep ew = omega (arith, c.is, ew, ep ∙ ap nonzeros e)
+
   pub count-all : length l ≤ i → n ≡ nonzeros l
   unfolding nonzeros
   count-all h = let s : nonzeros (drop i l) ≡ 0 = ap nonzeros (drop_of_length-le l h) in omega (arith, c.is)
 
   pub count_most : n ≤ length l
   count_most = omega (arith, marks-most l)
+
+-- ---- parts of m bytes
+part-at : (m j i : ℕ) (l d : List ℕ) → i < j → get_or (first_chunks m j l) i d ≡ take m (drop (i * m) l)
+part-at m zero i l d h = absurd (omega arith)
+part-at m (suc j) zero l d h = let e : 0 * m ≡ 0 = omega arith in rw e refl
+part-at m (suc j) (suc i) l d h =
+    let e : m + i * m ≡ suc i * m = omega (arith, suc-mul i m) in
+    part-at m j i (drop m l) d (omega arith) ∙ ap (take m) (drop-drop (i * m) m l ∙ ap (λ (k : ℕ). drop k l) e)
+
+-- one part more
+pub count-next :
+    (m i : ℕ) {n : ℕ} {l : List ℕ} (j : ℕ) {ps : List (List ℕ)} (d : List ℕ) {p w : ℕ} → Count l (i * m) n → ps ≡ first_chunks m j l → i < j → (i + 1) * m ≤ length l
+    → p ≡ nonzeros (get_or ps i d) → w ≡ p → Count l ((i + 1) * m) (n + w)
+count-next m i {l = l} j d c es h k ep ew =
+    let e : (i + 1) * m - i * m ≡ m = omega (arith, suc-mul i m, ap (λ (x : ℕ). x * m) (add-one i)) in
+    count-part c ((i + 1) * m) (omega arith) k
+    (ep ∙ ap nonzeros (ap (λ (x : List (List ℕ)). get_or x i d) es ∙ part-at m j i l d h ∙ ap (λ (x : ℕ). take x (drop (i * m) l)) (sym e))) ew

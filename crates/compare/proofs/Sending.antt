@@ -15,7 +15,7 @@ use Rattle.precoding.proofs.Ports.{on-own, on-other}
 use Rattle.grid.specs.Elements.{element_in}
 use Rattle.grid.specs.Writing.{sends, sent_at, Room}
 use Rattle.grid.proofs.Sending.{element-is, own-lt, other-lt, element-fits}
-use Rattle.compare.specs.declared.Seen.{Seen}
+use Rattle.std.specs.Prelude.{Option}
 use Rattle.compare.specs.Comparing.{Compared, seen_of, both_of}
 use Rattle.compare.proofs.Comparing.{same, over, look-compared, and_right}
 
@@ -32,16 +32,16 @@ twice false = refl
 
 module _ {P T : ℕ} {g : List ℕ} (room : Room P T g) where
   -- one element by its port and place
-  looked : {q t : ℕ} {x : Element} {r : Seen} → q < P → t < T → r ≡ seen_of (element_in g (q * T + t)) x → Compared (eqb (q * T + t)) (λ (z : ℕ). x) g r
+  looked : {q t : ℕ} {x : Element} {r : Option ℕ} → q < P → t < T → r ≡ seen_of (element_in g (q * T + t)) x → Compared (eqb (q * T + t)) (λ (z : ℕ). x) g r
   looked {q = q} {t = t} {x = x} h l e = rw e (look-compared g (q * T + t) x (element-fits room q t h l).2)
 
   pub own-looked :
-      (port_pair t : ℕ) {q : ℕ} {x : Element} {r : Seen} → t < T → q ≡ own_port P port_pair → r ≡ seen_of (element_in g (q * T + t)) x
+      (port_pair t : ℕ) {q : ℕ} {x : Element} {r : Option ℕ} → t < T → q ≡ own_port P port_pair → r ≡ seen_of (element_in g (q * T + t)) x
       → Compared (eqb (own_port P port_pair * T + t)) (λ (z : ℕ). x) g r
   own-looked port_pair t {x = x} {r = r} l o e = looked (own-lt room port_pair) l (subst (λ (k : ℕ). r ≡ seen_of (element_in g (k * T + t)) x) o e)
 
   pub other-looked :
-      (port_pair t : ℕ) {q : ℕ} {x : Element} {r : Seen} → t < T → q ≡ other_port P port_pair → r ≡ seen_of (element_in g (q * T + t)) x
+      (port_pair t : ℕ) {q : ℕ} {x : Element} {r : Option ℕ} → t < T → q ≡ other_port P port_pair → r ≡ seen_of (element_in g (q * T + t)) x
       → Compared (eqb (other_port P port_pair * T + t)) (λ (z : ℕ). x) g r
   other-looked port_pair t {x = x} {r = r} l o e = looked (other-lt room port_pair) l (subst (λ (k : ℕ). r ≡ seen_of (element_in g (k * T + t)) x) o e)
 
@@ -72,7 +72,7 @@ module _ {P T : ℕ} {g : List ℕ} (room : Room P T g) where
         ∙ sym (on-other P port_pair u odd d e (x / T) (λ o. other-apart port_pair n (sym k ∙ o)) k)
 
     pub one-look :
-        {el : Element} {r : Seen} → P ≡ 1 → el ≡ element_of v d
+        {el : Element} {r : Option ℕ} → P ≡ 1 → el ≡ element_of v d
         → Compared (eqb (own_port P port_pair * T + t)) (λ (z : ℕ). el) g r
         → Compared (sent_at P T port_pair t) (λ (z : ℕ). on_port P port_pair u odd d e (z / T)) g r
     unfolding sent_at sends
@@ -83,7 +83,7 @@ module _ {P T : ℕ} {g : List ℕ} (room : Room P T g) where
         (own_value el) r
 
     pub two-looks :
-        {f : Pair} {el el₂ : Element} {r s both : Seen} → (P ≡ 1 → ⊥) → f ≡ partner_of odd e → el ≡ element_of v d → el₂ ≡ element_of v f
+        {f : Pair} {el el₂ : Element} {r s both : Option ℕ} → (P ≡ 1 → ⊥) → f ≡ partner_of odd e → el ≡ element_of v d → el₂ ≡ element_of v f
         → Compared (eqb (own_port P port_pair * T + t)) (λ (z : ℕ). el) g r → Compared (eqb (other_port P port_pair * T + t)) (λ (z : ℕ). el₂) g s → both ≡ both_of r s
         → Compared (sent_at P T port_pair t) (λ (z : ℕ). on_port P port_pair u odd d e (z / T)) g both
     unfolding sent_at sends

@@ -11,25 +11,16 @@ ghost use Rattle.compare.specs.Comparing.{nonzero, nonzeros, seen_of, both_of, F
 
 use base::{Element, Pair};
 
-// What a comparison of elements with their values found: how many of their bytes are not 0, or a difference.
-#[derive(Clone, Copy)]
-pub enum Seen {
-    Weight(usize),
-    Differs,
-}
-
-// How many of at most 224 bytes are not 0, counted in a u8 so that many bytes are compared at once.
+// How many of at most 224 bytes are not 0, counted in a u8 so that many bytes are compared at once: a chain's `count` is a usize.
 fn nonzeros_in(part: &[u8]) -> u8
     requires { length part.now ≤ 224 }
     ensures { result ≡ nonzeros part.now }
 {
     let mut n: u8 = 0;
-    let mut i: usize = 0;
-    while i < part.len() {
-        if part[i] != 0 {
+    for b in part {
+        if *b != 0 {
             n += 1;
         }
-        i += 1;
     }
     n
 }
@@ -38,35 +29,27 @@ fn nonzeros_in(part: &[u8]) -> u8
 pub fn weight(grid: &[u8]) -> usize
     ensures { result ≡ nonzeros grid.now }
 {
+    let (parts, rest) = grid.as_chunks::<224>();
     let mut n: usize = 0;
-    let mut i: usize = 0;
-    while 224 <= grid.len() - i {
-        let end = i + 224;
-        n += base::wide(nonzeros_in(&grid[i..end]));
-        i = end;
+    for part in parts {
+        n += usize::from(nonzeros_in(part));
     }
-    n + base::wide(nonzeros_in(&grid[i..]))
+    n + usize::from(nonzeros_in(rest))
 }
 
-// 1 for a byte that is not 0.
-fn nonzero_of(b: u8) -> usize
-    ensures { result ≡ nonzero b }
-{
-    if b == 0 { 0 } else { 1 }
-}
-
-// One element compared with the value that is due.
-fn compare_element(a: Element, b: Element) -> Seen
+// One element compared with the value that is due: how many of its bytes are not 0, or None where they differ.
+fn compare_element(a: Element, b: Element) -> Option<usize>
     ensures { result ≡ seen_of a b }
 {
-    if a.byte == b.byte && a.i == b.i && a.j == b.j {
-        return Seen::Weight(nonzero_of(a.byte) + nonzero_of(a.i) + nonzero_of(a.j));
+    if a == b {
+        Some(usize::from(a.byte != 0) + usize::from(a.i != 0) + usize::from(a.j != 0))
+    } else {
+        None
     }
-    Seen::Differs
 }
 
 // The element with a number, beside its value. Callers number the elements of a grid whose length they have compared.
-pub fn compare_at(grid: &[u8], e: usize, el: Element) -> Seen
+pub fn compare_at(grid: &[u8], e: usize, el: Element) -> Option<usize>
     requires { 3 * e + 2 < length grid.now }
     ensures { result ≡ seen_of (element_in grid.now e) el }
 {
@@ -74,21 +57,16 @@ pub fn compare_at(grid: &[u8], e: usize, el: Element) -> Seen
 }
 
 // Both of two comparisons. Callers compare elements of one grid, so that the numbers are small.
-pub fn together(a: Seen, b: Seen) -> Seen
+pub fn together(a: Option<usize>, b: Option<usize>) -> Option<usize>
     requires { Few a × Few b }
     ensures { result ≡ both_of a b }
 {
-    match a {
-        Seen::Weight(m) => match b {
-            Seen::Weight(n) => Seen::Weight(m + n),
-            Seen::Differs => Seen::Differs,
-        },
-        Seen::Differs => Seen::Differs,
-    }
+    Some(a? + b?)
 }
 
 // What transmit diversity sends at place t, on the ports with a term, as `grid::put_place` writes it. Callers have compared the
-// grid's length, and take levels from the modulation tables or PHICH's sums.
+// grid's length, and take levels from the modulation tables or PHICH's sums. Plain parameters: as one struct by value they were timed, and
+// cost speed (docs/DECISIONS.md, "Speed and size").
 pub fn compare_place(
     grid: &[u8],
     ports: u8,
@@ -99,17 +77,17 @@ pub fn compare_place(
     odd: u8,
     d: Pair,
     e: Pair,
-) -> Seen
+) -> Option<usize>
     requires { Room ports places grid.now × (t < places) × Small 127 e }
     ensures { Compared (sent_at ports places pair t) (λ (x : ℕ). on_port ports pair unit odd d e (x / places)) grid.now result }
 {
     let byte = precoding::unit_byte_on(ports, unit);
-    let own = base::wide(precoding::own_port(ports, pair)) * places + t;
+    let own = usize::from(precoding::own_port(ports, pair)) * places + t;
     let seen = compare_at(grid, own, base::element_of(byte, d));
     if ports == 1 {
         return seen;
     }
-    let other = base::wide(precoding::other_port(ports, pair)) * places + t;
+    let other = usize::from(precoding::other_port(ports, pair)) * places + t;
     together(
         seen,
         compare_at(

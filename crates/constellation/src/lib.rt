@@ -7,12 +7,6 @@ ghost use Rattle.constellation.specs.Entries.{three_bytes, byte_less, four_set, 
 ghost use Rattle.constellation.specs.Pairs.{joint_of, partners_of};
 ghost use Rattle.constellation.specs.Axis.{axis_of, byte_from, Axis, word_of};
 
-fn word(x: u8) -> u32
-    ensures { (result ≡ x) × (result < 256) }
-{
-    x as u32
-}
-
 fn power(k: u32) -> usize
     requires { k ≤ 8 }
     ensures { (result ≡ 2 ^ k) × (result ≤ 256) }
@@ -53,7 +47,7 @@ fn widen(t: &mut [u32; 256], k: u32, byte: u8, x: usize)
 {
     let n = power(k);
     let h = power(k / 2);
-    let u = word(byte);
+    let u = u32::from(byte);
     let v = t[x];
     let i = less(h, v / 256 % 256);
     let j = less(h, v / 65536 % 256);
@@ -71,10 +65,8 @@ fn widen_all(t: &mut [u32; 256], k: u32, byte: u8)
     ensures { Entries (k + 2) byte (2 ^ (k + 2)) t.new }
 {
     let n = power(k);
-    let mut x: usize = 0;
-    while x < n {
+    for x in 0..n {
         widen(t, k, byte, x);
-        x += 1;
     }
 }
 
@@ -83,11 +75,9 @@ fn set_words(t: &mut [u32; 256], q: u32, byte: u8)
     requires { (length t.old ≡ 256) × (q % 2 ≡ 0) × (q ≤ 8) }
     ensures { Entries q byte (2 ^ q) t.new }
 {
-    t[0] = word(byte);
-    let mut k: u32 = 0;
-    while k < q {
-        widen_all(t, k, byte);
-        k += 2;
+    t[0] = u32::from(byte);
+    for pairs in 0..q / 2 {
+        widen_all(t, 2 * pairs, byte);
     }
 }
 
@@ -98,17 +88,9 @@ pub fn set_elements(t: &mut [u32; 256], q: u32, byte: u8)
 {
     set_words(t, q, byte);
     let n = power(q);
-    let mut x = n;
-    while x < 256 {
+    for x in n..256 {
         t[x] = t[x - n];
-        x += 1;
     }
-}
-
-fn wide(x: u32) -> u64
-    ensures { (result ≡ x) × (result < 4294967296) }
-{
-    x as u64
 }
 
 // The element of the symbol of a word's lowest bits.
@@ -116,7 +98,7 @@ pub fn number(t: &[u32; 256], w: u64) -> u64
     ensures { (result ≡ get_or t.now (w % 256) 0) × (result < 4294967296) }
 {
     let x = (w % 256) as usize;
-    wide(t[x])
+    u64::from(t[x])
 }
 
 // Two elements as one number.
@@ -151,9 +133,7 @@ fn axis_bits(n: u32, b: u32) -> u8
 {
     let mut m: u32 = 0;
     let mut z = b;
-    let mut k = n;
-    while 0 < k {
-        k -= 1;
+    for k in (0..n).rev() {
         m = 4 * m + z / 128;
         z = less(power(k), size(z));
     }
@@ -173,11 +153,8 @@ pub fn set_axis(d: &mut [u8; 32], q: u32)
     requires { (length d.old ≡ 32) × (q ≤ 8) }
     ensures { Axis q d.new }
 {
-    let mut x: u32 = 0;
-    while x < 32 {
-        let at = x as usize;
-        d[at] = axis_bits(q / 2, byte_from(x));
-        x += 1;
+    for (x, bits) in d.iter_mut().enumerate() {
+        *bits = axis_bits(q / 2, byte_from(x as u32));
     }
 }
 
@@ -187,6 +164,6 @@ pub fn symbol_of(d: &[u8; 32], v: u64) -> u64
 {
     let i = (v / 256 % 32) as usize;
     let j = (v / 65536 % 32) as usize;
-    let a = word(d[i]);
-    wide(2 * a + word(d[j]))
+    let a = u64::from(d[i]);
+    2 * a + u64::from(d[j])
 }

@@ -7,6 +7,7 @@ use mathlib.Core.List.{List}
 use native.Mathlib.Nat.{mod-lt}
 use native.Mathlib.Omega.{arith}
 use lib.ListN.{get_or, take, drop}
+use Rattle.std.specs.declared.result.Result.TheVariants.{Ok as accepted}
 use Rattle.base.specs.declared.Pair.{Pair}
 use Rattle.base.specs.Pairs.{nil}
 use Rattle.gold.specs.Sequence.{c, pair_at}
@@ -28,7 +29,6 @@ use Rattle.plan.specs.Fields.{mapping_units}
 use Rattle.plan.specs.CommandLists.{his_of}
 use Rattle.plan.specs.Valid.{CellIn, HiIn}
 use Rattle.plan.specs.declared.Plan.{Plan}
-use Rattle.plan.specs.declared.Checked.TheVariants.{Plan as accepted}
 use Rattle.plan.proofs.Counts.{units-most}
 use Rattle.plan.proofs.Listed.{and_left, every-at}
 use Rattle.plan.proofs.Valid.{valid}

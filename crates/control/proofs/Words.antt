@@ -2,13 +2,15 @@
 -- nothing.
 use Prim.Native.Nat.{ℕ, zero, suc, ◌+◌, ◌-◌, ◌*◌, ◌/◌, ◌%◌, ◌≤◌, ◌<◌}
 use mathlib.Core.Path.{◌≡◌, refl, sym, ap, ap₂, ◌∙◌}
-use mathlib.Core.Bool.{Bool, true, false, ◌||◌}
+use mathlib.Core.Bool.{Bool, true, false, not, ◌||◌}
 use mathlib.Core.List.{List, [], ◌∷◌}
 use native.Mathlib.Omega.{arith}
 use lib.Bits.{bit_xor}
 use lib.Dec.{T, ltb, ltb→lt, eqb, eqb→eq}
 use lib.ListN.{get_or}
-use borrow.Author.Tests.{eqb-true}
+use borrow.Author.Tests.{eqb-true, eqb-false}
+use mir.Val.{bool_byte}
+use Rattle.base.proofs.Tests.{by-test}
 use Rattle.base.proofs.Computed.{every, every-at, all_below, below_at}
 use Rattle.gold.specs.declared.Registers.{Registers}
 use Rattle.gold.specs.Sequence.{binary}
@@ -83,13 +85,20 @@ one_at r k l m n = eqb→eq 1 (get_or (get_or codewords r []) k 0) (test (eqb k 
 
 -- so the code's bit is the specification's
 module _ (cfi i : ℕ) (some : 1 ≤ cfi) (most : cfi ≤ 3) where
-  pub codeword-zero : i % 3 + 1 ≡ cfi → 0 ≡ cfi_bit cfi i
+  codeword-zero : i % 3 + 1 ≡ cfi → 0 ≡ cfi_bit cfi i
   unfolding cfi_bit
   codeword-zero e = let r : cfi - 1 ≡ i % 3 = omega arith in rw r (zero-at (i % 3) (omega arith))
 
-  pub codeword-one : (i % 3 + 1 ≡ cfi → ⊥) → 1 ≡ cfi_bit cfi i
+  codeword-one : (i % 3 + 1 ≡ cfi → ⊥) → 1 ≡ cfi_bit cfi i
   unfolding cfi_bit
   codeword-one n = one_at (cfi - 1) (i % 3) (omega arith) (omega arith) (λ e. n (omega arith))
+
+  -- as the code works it out
+  pub codeword-bit : {w r : ℕ} → w ≡ cfi → r ≡ bool_byte (not (eqb (i % 3 + 1) w)) → (r ≡ cfi_bit cfi i) × (r < 2)
+  codeword-bit ew er =
+      by-test (eqb (i % 3 + 1) cfi)
+      (λ t. let z = er ∙ rw (ew, t) refl in (z ∙ codeword-zero (eqb-true (i % 3 + 1) cfi t), omega (arith, z)))
+      (λ f. let z = er ∙ rw (ew, f) refl in (z ∙ codeword-one (eqb-false (i % 3 + 1) cfi f), omega (arith, z)))
 
 -- four bits as a word
 four-bits : (x : ℕ → ℕ) (k : ℕ) → ((x k * 2 + x (k + 1)) * 2 + x (k + 2)) * 2 + x (k + 3) ≡ binary x k 4

@@ -31,7 +31,7 @@ fn cfi_bit(cfi: u8, i: usize) -> u32
     requires { (1 ≤ cfi) × (cfi ≤ 3) }
     ensures { (result ≡ cfi_bit cfi i) × (result < 2) }
 {
-    if i % 3 + 1 == base::wide(cfi) { 0 } else { 1 }
+    u32::from(i % 3 + 1 != usize::from(cfi))
 }
 
 // Its four bits from bit i on.
@@ -53,12 +53,11 @@ pub fn pcfich_pair(cell: Cell, cfi: u8, s: Registers, n: usize) -> PairAt
     ensures { PcfichPair cell cfi s n result × PairIn cell result }
 {
     let w = cfi_word(cfi, 4 * n) ^ gold::word(s, 4);
-    let ports = (n % 2) as u8;
     let group = layout::format_group(cell, n / 2);
     PairAt {
         first_place: places::quad_place(cell, 0, group, 2 * (n % 2)),
         second_place: places::quad_place(cell, 0, group, 2 * (n % 2) + 1),
-        port_pair: ports,
+        port_pair: (n % 2) as u8,
         first: modulation::qpsk(w / 4),
         second: modulation::qpsk(w % 4),
     }
@@ -84,16 +83,11 @@ pub fn unit_pair(
     requires { (m < 256) × (symbol < 3) × (group < symbol_groups cell symbol) × (n < 6) }
     ensures { result ≡ unit_pair cell m symbol group sums n }
 {
-    let i = 2 * n;
-    let j = 2 * n + 1;
-    let ports = ((n / 2 + m) % 2) as u8;
-    let first = sums[i];
-    let second = sums[j];
     PairAt {
         first_place: places::quad_place(cell, symbol, group, 2 * (n % 2)),
         second_place: places::quad_place(cell, symbol, group, 2 * (n % 2) + 1),
-        port_pair: ports,
-        first: first,
-        second: second,
+        port_pair: ((n / 2 + m) % 2) as u8,
+        first: sums[2 * n],
+        second: sums[2 * n + 1],
     }
 }

@@ -5,6 +5,7 @@ use mathlib.Core.Path.{◌≡◌, sym, ap, ◌∙◌}
 use mathlib.Core.List.{List}
 use native.Mathlib.Omega.{arith}
 use lib.ListN.{length}
+use Rattle.std.specs.declared.result.Result.TheVariants.{Ok as accepted}
 use Rattle.base.specs.Bytes.{pair_of}
 use Rattle.base.proofs.Tables.{table_same}
 use Rattle.gold.specs.Sequence.{c, pair_at}
@@ -19,7 +20,6 @@ use Rattle.phich.specs.Spreading.{spread_length}
 use Rattle.plan.specs.Check.{check_of}
 use Rattle.plan.specs.CommandLists.{his_of}
 use Rattle.plan.specs.declared.Plan.{Plan}
-use Rattle.plan.specs.declared.Checked.TheVariants.{Plan as accepted}
 use Rattle.layout.specs.declared.Owner.TheVariants.{Phich}
 use Rattle.layout.specs.Rules.{quad_symbol, quad_group}
 use Rattle.places.specs.Places.{place_number, places_of, place_of}

@@ -19,14 +19,12 @@ fn read_quad(cell: Cell, m: usize, grid: &[u8], first: &mut [u8; 200])
 {
     let g = places::unit_group(cell, m, 0);
     let port = precoding::own_port(cell.ports, (m % 2) as u8);
-    let own = base::wide(port) * layout::places(cell);
-    let mut i: usize = 0;
-    while i < 4 {
+    let own = usize::from(port) * layout::places(cell);
+    for i in 0..4 {
         let e = grid::get(grid, own + places::quad_place(cell, 0, g, i));
         let at = 2 * (4 * m + i);
         first[at] = e.i;
         first[at + 1] = e.j;
-        i += 1;
     }
 }
 
@@ -35,11 +33,8 @@ pub fn first_sums(cell: Cell, grid: &[u8], first: &mut [u8; 200])
     requires { QuadsIn cell grid.now first.old }
     ensures { FirstRead cell grid.now (4 * mapping_units cell) first.new }
 {
-    let units = plan::units(cell);
-    let mut m: usize = 0;
-    while m < units {
+    for m in 0..plan::units(cell) {
         read_quad(cell, m, grid, first);
-        m += 1;
     }
 }
 
@@ -55,7 +50,7 @@ fn push(part: &mut [u8], n: usize, bit: u8)
         part[m] = bit * weight;
         return;
     }
-    part[m] = part[m] + bit * weight;
+    part[m] += bit * weight;
 }
 
 // The section of the HIs' bits, each from the first quad of its unit, scrambled by the pair r. Callers pass the cell, the HIs and a grid
@@ -77,12 +72,10 @@ pub fn read_his(
     let mut first = [0; 200];
     first_sums(cell, grid, &mut first);
     let mut at = his.at;
-    let mut n: usize = 0;
-    while n < his.count {
+    for n in 0..his.count {
         let bit = phich::bit_of(l, w, plan::hi_at(plan, at), &first);
         push(part, n, bit);
         at = plan::next_at(plan, at);
-        n += 1;
     }
-    gold::skip(r, 3 * control::spread_length(cell))
+    gold::skip(r, 3 * l)
 }

@@ -51,11 +51,9 @@ pub fn fill_pcfich(r: Registers, cell: Cell, cfi: u8, grid: &mut [u8]) -> Regist
     ensures { Written (pcfich_sends cell) (pcfich_sent cell cfi r) grid.old grid.new × (result ≡ after r 32) }
 {
     let mut s = r;
-    let mut n: usize = 0;
-    while n < 8 {
+    for n in 0..8 {
         put_pair(cell, control::pcfich_pair(cell, cfi, s, n), grid);
         s = gold::advance(s, 4);
-        n += 1;
     }
     s
 }
@@ -65,8 +63,7 @@ fn put_unit(cell: Cell, m: usize, sums: [Pair; 12], grid: &mut [u8])
     requires { UnitIn cell m sums × Room cell.ports (places_of cell) grid.old }
     ensures { Written (phich_sends cell m) (unit_sent cell m sums) grid.old grid.new }
 {
-    let mut n: usize = 0;
-    while n < 3 {
+    for n in 0..3 {
         let s = layout::quad_symbol(cell, n);
         let g = places::unit_group(cell, m, n);
         put_pair(cell, control::unit_pair(cell, m, s, g, sums, 2 * n), grid);
@@ -75,7 +72,6 @@ fn put_unit(cell: Cell, m: usize, sums: [Pair; 12], grid: &mut [u8])
             control::unit_pair(cell, m, s, g, sums, 2 * n + 1),
             grid,
         );
-        n += 1;
     }
 }
 

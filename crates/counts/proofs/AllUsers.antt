@@ -1,6 +1,6 @@
 -- The users' kind: its count is the sum of the users' counts, and the loop over the USER commands adds them up. Assumes nothing but that
 -- the plan check answers with the plan.
-use Rattle.std.specs.Prelude.{if◌then◌else◌}
+use Rattle.std.specs.Prelude.{if◌then◌else◌, Ok as accepted}
 use Prim.Native.Nat.{ℕ, zero, suc, ◌+◌, ◌-◌, ◌≤◌, ◌<◌}
 use mathlib.Core.Path.{◌≡◌, refl, sym, ap, ◌∙◌}
 use mathlib.Core.List.{List, [], ◌∷◌}
@@ -17,7 +17,6 @@ use Rattle.plan.specs.declared.Cell.{Cell}
 use Rattle.plan.specs.declared.Frame.{Frame}
 use Rattle.plan.specs.declared.User.{User}
 use Rattle.plan.specs.declared.Plan.{Plan}
-use Rattle.plan.specs.declared.Checked.TheVariants.{Plan as accepted}
 use Rattle.plan.proofs.CommandLists.{commands-next, commands-zero}
 use Rattle.layout.specs.Owners.{above, owners}
 use Rattle.layout.specs.declared.Owner.{Owner}

@@ -1,6 +1,6 @@
 -- PCFICH has 16 places, every PHICH unit 12, and PBCH 240 (extended prefix 216) in subframe 0: half of document 01's 480 (432) bits.
 -- Assumes nothing but that the plan check answers with the plan.
-use Rattle.std.specs.Prelude.{if◌then◌else◌}
+use Rattle.std.specs.Prelude.{if◌then◌else◌, Ok as accepted}
 use Prim.Native.Nat.{ℕ, ◌+◌, ◌-◌, ◌*◌, ◌/◌, ◌%◌, ◌≤◌, ◌<◌}
 use mathlib.Core.Path.{◌≡◌, refl, ap, ◌∙◌}
 use mathlib.Core.Bool.{Bool, not, ◌&&◌}
@@ -12,7 +12,6 @@ use Rattle.base.proofs.Tests.{by-test}
 use Rattle.plan.specs.Fields.{mapping_units, symbol_groups}
 use Rattle.plan.specs.Check.{check_of}
 use Rattle.plan.specs.declared.Plan.{Plan}
-use Rattle.plan.specs.declared.Checked.TheVariants.{Plan as accepted}
 use Rattle.base.specs.Choice.{indicator}
 use Rattle.plan.specs.declared.Cell.{Cell}
 use Rattle.plan.specs.declared.Frame.{Frame}

@@ -1,6 +1,6 @@
 -- The counts of the nine kinds, all but the users' as constants of the cell and the frame. Assumes that the plan check answers with the
 -- plan; idle's, that every place has one owner.
-use Rattle.std.specs.Prelude.{if◌then◌else◌}
+use Rattle.std.specs.Prelude.{if◌then◌else◌, Ok as accepted}
 use Prim.Native.Nat.{ℕ, zero, suc, ◌+◌, ◌-◌, ◌*◌, ◌%◌, ◌≤◌, ◌<◌, min}
 use mathlib.Core.Path.{◌≡◌, refl, sym, ap, ◌∙◌}
 use mathlib.Core.Logic.{◌⊎◌, inl, inr}
@@ -19,7 +19,6 @@ use Rattle.plan.specs.Fields.{mapping_units, port_counts}
 use Rattle.plan.specs.Check.{check_of}
 use Rattle.plan.specs.CommandLists.{users_of}
 use Rattle.plan.specs.declared.Plan.{Plan}
-use Rattle.plan.specs.declared.Checked.TheVariants.{Plan as accepted}
 use Rattle.plan.proofs.Listed.{and_right}
 use Rattle.plan.proofs.Valid.{valid}
 use Rattle.plan.proofs.Counts.{blocks-least}

@@ -10,6 +10,7 @@ use native.Mathlib.Omega.{arith}
 use lib.Dec.{leb, ltb, eqb}
 use lib.ListN.{length, get_or}
 use borrow.Author.Tests.{eq-eqb, ne_eqb, le-leb, lt-ltb, le-ltb, leb-true, ltb-true, ltb-false, eqb-false}
+use Rattle.std.specs.declared.result.Result.TheVariants.{Ok as accepted}
 use Rattle.base.proofs.Tests.{by-test, or_left, or_right, is_false, on-if}
 use Rattle.plan.specs.Lists.{Every, Apart}
 use Rattle.plan.specs.Check.{check_of}
@@ -19,7 +20,6 @@ use Rattle.plan.specs.declared.Cell.{Cell}
 use Rattle.plan.specs.declared.Frame.{Frame}
 use Rattle.plan.specs.declared.User.{User}
 use Rattle.plan.specs.declared.Plan.{Plan}
-use Rattle.plan.specs.declared.Checked.TheVariants.{Plan as accepted}
 use Rattle.plan.proofs.Listed.{and_left, and_right, every-at}
 use Rattle.plan.proofs.Valid.{valid}
 use Rattle.plan.proofs.Counts.{blocks-most}

@@ -2,10 +2,9 @@
 // G) is the number of its places, ports not multiplied"), and all users together: what build and read return.
 #![tactic(auto)]
 
-ghost use Rattle.std.specs.Prelude.{◌≡◌, ◌+◌, ◌-◌, ◌*◌, ◌≤◌, ◌<◌, min, max, ltb};
+ghost use Rattle.std.specs.Prelude.{◌≡◌, ◌+◌, ◌-◌, ◌*◌, ◌≤◌, ◌<◌, ltb, Ok as accepted};
 ghost use Rattle.base.specs.Choice.{indicator};
 ghost use Rattle.plan.specs.Check.{check_of};
-ghost use Rattle.plan.specs.declared.Checked.TheVariants.{Plan as accepted};
 ghost use Rattle.counts.specs.Users.{signals, taken as taken_at, centre_halves};
 ghost use Rattle.counts.specs.Shape.{row_places, centre_places, slot_shape, shape_of, slot_count, count_by, SlotIn, ShapeIn};
 ghost use Rattle.counts.specs.Counts.{kinds, kind_count};
@@ -27,18 +26,6 @@ pub struct SlotShape {
 pub struct Shape {
     pub even: SlotShape,
     pub odd: SlotShape,
-}
-
-fn smaller(a: usize, b: usize) -> usize
-    ensures { result ≡ min a b }
-{
-    if a < b { a } else { b }
-}
-
-fn larger(a: usize, b: usize) -> usize
-    ensures { result ≡ max a b }
-{
-    if a < b { b } else { a }
 }
 
 // The places of six subcarriers that the reference signals of the ports p and p + 1, of n, leave.
@@ -87,8 +74,8 @@ fn centre_halves(cell: Cell, first: u8, count: u8) -> usize
 {
     let n = cell.blocks as usize;
     let start = 2 * (first as usize) + 6;
-    let low = larger(start, n);
-    let high = smaller(start + 2 * (count as usize), n + 12);
+    let low = start.max(n);
+    let high = (start + 2 * (count as usize)).min(n + 12);
     if low < high {
         return high - low;
     }
@@ -124,11 +111,9 @@ fn slot_shape(cell: Cell, frame: Frame, start: usize) -> SlotShape
     let symbols = slot_length(cell);
     let mut whole: usize = 0;
     let mut centre: usize = 0;
-    let mut l: usize = 0;
-    while l < symbols {
+    for l in 0..symbols {
         whole = whole + row_places(cell, frame, start + l);
         centre = centre + centre_places(cell, frame, start + l);
-        l = l + 1;
     }
     SlotShape {
         whole: whole,
@@ -174,12 +159,9 @@ pub fn users_count(plan: &[u8], p: Plan) -> usize
     let shape = shape_of(p.cell, p.frame);
     let mut n: usize = 0;
     let mut at = p.users.at;
-    let mut left = p.users.count;
-    while 0 < left {
-        let u = plan::user_at(plan, at);
-        n = n + user_count(p.cell, shape, u);
+    for _ in 0..p.users.count {
+        n += user_count(p.cell, shape, plan::user_at(plan, at));
         at = plan::next_at(plan, at);
-        left = left - 1;
     }
     n
 }

@@ -4,7 +4,10 @@ use mathlib.Core.Path.{◌≡◌, refl, ap, ◌∙◌}
 use Prim.Native.Nat.{ℕ, zero, suc, ◌+◌, ◌-◌, ◌*◌, ◌/◌, ◌%◌, ◌^◌, ◌≤◌, ◌<◌}
 use native.Mathlib.Nat.{mul-le-mul}
 use native.Mathlib.Omega.{arith}
+use borrow.Author.Tests.{ne_eqb}
+use lib.Dec.{eqb}
 use lib.IntN.{pos}
+use mir.Val.{bool_byte}
 use Rattle.base.specs.Signs.{flip}
 use Rattle.base.proofs.Pairs.{pair-of}
 use Rattle.gold.specs.Sequence.{c, binary}
@@ -43,7 +46,8 @@ unfolding normal_prefix
 prefix-le zero = omega arith
 prefix-le (suc p) = omega arith
 
-pub prefix-extended : (p : ℕ) → (p ≡ 0 → ⊥) → 0 ≡ normal_prefix p
+-- N_CP as the code has it
+pub prefix-flag : (p : ℕ) → bool_byte (eqb p 0) ≡ normal_prefix p
 unfolding normal_prefix
-prefix-extended zero h = absurd (h refl)
-prefix-extended (suc p) h = refl
+prefix-flag zero = refl
+prefix-flag (suc p) = rw (ne_eqb (suc p) 0 (λ e. omega arith)) refl

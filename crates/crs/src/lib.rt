@@ -6,10 +6,11 @@ ghost use Rattle.crs.specs.Crs.{normal_prefix, crs_init, word_value};
 
 use base::Pair;
 
+// The prefix is the plan's byte, 0 for the normal one, as the paper counts them.
 fn n_cp(prefix: u8) -> u32
     ensures { result ≡ normal_prefix prefix }
 {
-    if prefix == 0 { 1 } else { 0 }
+    u32::from(prefix == 0)
 }
 
 // c_init of symbol l of slot n. The plan check gives a cell up to 503, a slot is below 20, and l below 7.

@@ -8,28 +8,15 @@ use std::io;
 
 // 0 for (1, 1), 1 for (1, -1), 2 for (-1, 1), 3 for (-1, -1).
 fn digit(rt: &impl Print, d: Pair) -> io::Result<()> {
-    if d.re < 0 {
-        if d.im < 0 {
-            print::number(rt, 3)
-        } else {
-            print::number(rt, 2)
-        }
-    } else if d.im < 0 {
-        print::number(rt, 1)
-    } else {
-        print::number(rt, 0)
-    }
+    print::number(rt, 2 * u64::from(d.re < 0) + u64::from(d.im < 0))
 }
 
 // The n values of a word of 2n bits of the sequence.
 fn values(rt: &impl Print, word: u32, n: u32) -> io::Result<()>
     requires { n ≤ 14 }
 {
-    let mut left = n;
-    while 0 < left {
-        left -= 1;
-        let low = 2 * left;
-        digit(rt, crs::value((word >> low) % 4))?;
+    for m in (0..n).rev() {
+        digit(rt, crs::value((word >> (2 * m)) % 4))?;
     }
     Ok(())
 }
@@ -44,8 +31,8 @@ fn symbol(rt: &impl Print, prefix: u8, blocks: u8, cell: u16, slot: u8, l: u8) -
     requires { (cell ≤ 503) × (blocks ≤ 110) × (slot < 20) × (l < 7) }
 {
     let c_init = crs::c_init(prefix, cell, slot, l);
-    let first = 2 * (110 - base::wide(blocks));
-    let last = first + 4 * base::wide(blocks) - 8;
+    let first = 2 * (110 - usize::from(blocks));
+    let last = first + 4 * usize::from(blocks) - 8;
     print::text(rt, b"crs ")?;
     field(rt, prefix as u64)?;
     field(rt, blocks as u64)?;

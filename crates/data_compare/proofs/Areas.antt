@@ -1,10 +1,12 @@
 -- THE AREA, run after run: where the loop starts, what a run leaves, and the end. Assumes what an area's runs need.
 use Prim.Native.Nat.{ℕ, ◌+◌, ◌≤◌, ◌<◌}
-use mathlib.Core.Path.{◌≡◌}
+use mathlib.Core.Path.{◌≡◌, refl}
 use mathlib.Core.List.{List}
 use lib.Bits.{bit_or}
 use Rattle.layout.specs.Owners.{symbols, carriers}
 use Rattle.places.specs.Places.{places_of}
+use Rattle.walk.specs.declared.Row.{Row}
+use Rattle.walk.specs.declared.Span.{Span}
 use Rattle.walk.specs.declared.Cursor.{Cursor}
 use Rattle.walk.specs.declared.Run.{Run}
 use Rattle.walk.specs.Runs.{run_count}
@@ -14,10 +16,10 @@ use Rattle.areas.specs.Areas.{area_at, area_count}
 use Rattle.areas.specs.Runs.{AreaRuns}
 use Rattle.areas.proofs.Runs.{area-starts, area-laid, area-next, area-count}
 use Rattle.data_compare.specs.declared.Form.{Form}
-use Rattle.data_compare.specs.Places.{RunSeen, Going, Through}
+use Rattle.data_compare.specs.Places.{RunSeen, Going, Through, RunsWrong}
 use Rattle.data_compare.proofs.Telling.{tells_none, tells-or}
 
-module _ {a : Area} {rows spans g : List ℕ} (h : AreaRuns a rows spans g) where
+module _ {a : Area} {rows : List Row} {spans : List Span} {g : List ℕ} (h : AreaRuns a rows spans g) where
   pub area-begins : {f : Form} {c : Cursor} → c ≡ cursor_start rows → Going a rows spans f g c 0 0
   area-begins e = record { cursor = area-starts h e; done = record { seen = λ q u o. tells_none } }
 
@@ -38,3 +40,6 @@ module _ {a : Area} {rows spans g : List ℕ} (h : AreaRuns a rows spans g) wher
     area-ends {j = j} w l =
         let e : j ≡ area_count a = area-count h es ew ep w.cursor l in
         record { index = e; done = rw e at w.done }
+
+pub runs-wrong : {a : Area} {f : Form} {g : List ℕ} {j bad : ℕ} → (bad ≡ 0 → ⊥) → Through a f g j bad → RunsWrong a f g
+runs-wrong {bad = bad} n t = record { bad = bad; some = n; done = record { index = refl; done = t.done } }

@@ -1,18 +1,16 @@
 -- PLACES ON ONE PORT: side by side, stretch after stretch between holes, and a run by its form. Assumes what a run needs.
-use Prim.Native.Nat.{ℕ, ◌+◌, ◌-◌, ◌*◌, ◌%◌, ◌≤◌, ◌<◌}
+use Prim.Native.Nat.{ℕ, ◌+◌, ◌-◌, ◌*◌, ◌%◌, ◌≤◌, ◌<◌, min}
 use mathlib.Core.Path.{◌≡◌, refl, sym, ap, ◌∙◌, subst}
 use mathlib.Core.List.{List}
 use native.Mathlib.Nat.{zero-mul}
 use native.Mathlib.Omega.{arith}
 use lib.Bits.{bit_or}
-use lib.ListN.{length}
 use Rattle.base.specs.Counts.{nth}
 use Rattle.base.proofs.Counts.{nth_of}
 use Rattle.precoding.specs.Places.{own_port, partner_index}
 use Rattle.grid.specs.Elements.{element_in}
 use Rattle.element_pairs.specs.Numbers.{element_from, upper, OneRead, TwoRead}
 use Rattle.walk.specs.declared.Run.{Run}
-use Rattle.walk.specs.Addresses.{SinglesIn}
 use Rattle.walk.specs.Runs.{run_count, place_at, PlacesAt}
 use Rattle.walk.specs.Forms.{Stretch}
 use Rattle.walk.proofs.Singles.{laid-places}
@@ -25,21 +23,17 @@ use Rattle.data_compare.proofs.Telling.{tells_none, tells_as, tells-or-one, tell
 use Rattle.data_compare.proofs.Numbers.{wrong-one, one-wrong, wrong-both, both-wrong}
 
 -- ---- one place more, or two
-pub singles-start : {start n : ℕ} {f : Form} {g : List ℕ} → Singles start n f g 0 (3 * start) 0
-singles-start = record { few = omega arith; place = omega arith; done = record { seen = λ q u o. tells_none } }
+pub singles-start : {start n : ℕ} {f : Form} {g : List ℕ} → Singles start n f g 0 0
+singles-start = record { few = omega arith; done = record { seen = λ q u o. tells_none } }
 
-module _ {start n : ℕ} {f : Form} {g : List ℕ} (h : SinglesIn start n g) {bad at i : ℕ} (d : Singles start n f g bad at i) (l : i < n) where
-  pub single-fits : (at + 2 < length g) × (at ≤ 50400)
-  single-fits = (omega (arith, d.place, h.0), omega (arith, d.place, h.1))
-
-  pub singles-on : {x w : ℕ} → OneRead at g x → w ≡ wrong_of f x → Singles start n f g (bit_or bad (w % 16777216)) (at + 3) (i + 1)
+module _ {start n : ℕ} {f : Form} {g : List ℕ} {bad i : ℕ} (d : Singles start n f g bad i) (l : i < n) where
+  pub singles-on : {x w : ℕ} → OneRead (3 * (start + i)) g x → w ≡ wrong_of f x → Singles start n f g (bit_or bad (w % 16777216)) (i + 1)
   singles-on {x} {w} r e =
       record {
         few = omega arith;
-        place = omega (arith, d.place);
         done = record {
           seen = λ q u o.
-              let z = r.element (start + i) d.place in
+              let z = r.element (start + i) refl in
               tells-or-one (λ s. rw z (wrong-one o x (ap (λ (v : ℕ). v % 16777216) (sym e) ∙ s))) (λ a. ap (λ (v : ℕ). v % 16777216) e ∙ one-wrong o x (rw z at a))
               (d.done.seen q u o);
         };
@@ -48,32 +42,31 @@ module _ {start n : ℕ} {f : Form} {g : List ℕ} (h : SinglesIn start n g) {ba
 pub all_seen : {n i bad : ℕ} {e : ℕ → ℕ} {f : Form} {g : List ℕ} → i ≤ n → n ≤ i → PlacesSeen i e f g bad → PlacesSeen n e f g bad
 all_seen {n} {i} few l d = let z : n ≡ i = omega arith in rw z d
 
-pub doubles-start : {start n : ℕ} {f : Form} {g : List ℕ} → Doubles start n f g 0 (3 * start) 0
-doubles-start = record { few = omega arith; place = omega arith; done = λ q u o. tells_none }
+pub doubles-start : {start n : ℕ} {f : Form} {g : List ℕ} → Doubles start n f g 0 0
+doubles-start = record { few = omega arith; done = λ q u o. tells_none }
 
-module _ {start n : ℕ} {f : Form} {g : List ℕ} (h : SinglesIn start (2 * n) g) {bad at i : ℕ} (d : Doubles start n f g bad at i) (l : i < n) where
-  pub double-fits : (at + 5 < length g) × (at ≤ 50400) × (i ≤ 16800)
-  double-fits = (omega (arith, d.place, h.0), omega (arith, d.place, h.1), omega (arith, h.1))
-
-  pub doubles-on : {x w : ℕ} → TwoRead 1 at g x → w ≡ wrong_of f x → Doubles start n f g (bit_or bad w) (at + 6) (i + 1)
+module _ {start n : ℕ} {f : Form} {g : List ℕ} {bad i : ℕ} (d : Doubles start n f g bad i) (l : i < n) where
+  pub doubles-on : {x w : ℕ} → TwoRead 1 (3 * (start + 2 * i)) g x → w ≡ wrong_of f x → Doubles start n f g (bit_or bad w) (i + 1)
   doubles-on {x} {w} r e =
       record {
         few = omega arith;
-        place = omega (arith, d.place);
         done = λ q u o.
-            let y = r.first (start + 2 * i) d.place in
+            let y = r.first (start + 2 * i) refl in
             let k : start + (2 * i + 1) ≡ start + 2 * i + 1 = omega arith in
-            let z : element_in g (start + (2 * i + 1)) ≡ element_from (upper x) = ap (element_in g) k ∙ r.second (start + 2 * i) d.place in
+            let z : element_in g (start + (2 * i + 1)) ≡ element_from (upper x) = ap (element_in g) k ∙ r.second (start + 2 * i) refl in
             tells-or-one (λ s. let b = wrong-both o x (sym e ∙ s) in (rw y b.0, rw z b.1)) (λ a. e ∙ both-wrong o x (rw y at a.0, rw z at a.1))
             (d.done q u o);
       }
 
-pub doubles-end : {start n bad at i : ℕ} {f : Form} {g : List ℕ} → Doubles start n f g bad at i → n ≤ i → PlacesSeen (2 * n) (◌+◌ start) f g bad
-doubles-end {start} {n} {bad} {at} {i} {f} {g} d l =
+pub doubles-end : {start n bad i : ℕ} {f : Form} {g : List ℕ} → Doubles start n f g bad i → n ≤ i → PlacesSeen (2 * n) (◌+◌ start) f g bad
+doubles-end {start} {n} {bad} {i} {f} {g} d l =
     let z : i ≡ n = omega (arith, d.few) in
     record { seen = λ q u o. subst (λ (x : ℕ). Tells bad (2 * x) (λ (k : ℕ). Own q u (element_in g (start + k)))) z (tells_both (λ k b a. a) (λ k b v w. (v, w)) (d.done q u o)) }
 
 -- ---- stretches
+pub least : {a b n : ℕ} → n ≡ min a b → Smaller a b n
+least e = record { first = omega arith; second = omega arith; one = λ l. omega arith }
+
 pub holes-start : {first lead each total at left : ℕ} {f : Form} {g : List ℕ} → Stretch first lead each 0 at left → Stretches first lead each total f g 0 at left 0
 holes-start s = record { stretches = stretches-start s; done = record { seen = λ q u o. tells_none } }
 

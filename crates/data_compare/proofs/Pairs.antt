@@ -19,7 +19,7 @@ use Rattle.walk.proofs.Addresses.{own_pair, own-inside, other-inside, own-most, 
 use Rattle.data_compare.specs.declared.Form.{Form}
 use Rattle.data_compare.specs.declared.Sums.{Sums}
 use Rattle.data_compare.specs.declared.Starts.{Starts}
-use Rattle.data_compare.specs.Tests.{no_sums, sums_with, told_by}
+use Rattle.data_compare.specs.Tests.{sums_with, told_by}
 use Rattle.data_compare.specs.Places.{PairRight, RightAt, Starting, PairAt, PairsSeen, Pairs, RunSeen}
 use Rattle.data_compare.proofs.Telling.{tells_none, tells_more, tells_both}
 use Rattle.data_compare.proofs.Numbers.{Both, Partners, sums-right, sums_none}
@@ -62,8 +62,10 @@ module _
       ((rw e at v.own, rw own-second at w.own), (rw (h, own-second) at (v.other n), rw (other-second, e) at (w.other n)))
 
 -- ---- pair after pair
-pub pairs_start : {P T gap j start step m : ℕ} {f : Form} {g : List ℕ} {p : Starts} → Starting P T j start step p → Pairs P T gap j start step m f g no_sums p.at p.next 0
-pairs_start b = record { few = omega arith; round = b.first; done = record { seen = λ q u o. tells_none } }
+pub pairs_start :
+    {P T gap j start step m : ℕ} {f : Form} {g : List ℕ} {p : Starts} {s : Sums} → Starting P T j start step p → s.fixed ≡ 0 → s.same ≡ 0 → s.bad ≡ 0
+    → Pairs P T gap j start step m f g s p.at p.next 0
+pairs_start b x y z = record { few = omega arith; round = b.first; done = record { seen = λ q u o. rw (x, y, z) tells_none } }
 
 module _
     {P T gap j start step m : ℕ} {f : Form} {g : List ℕ} (h : PairsIn P T gap j start step m g) {p : Starts} (b : Starting P T j start step p)

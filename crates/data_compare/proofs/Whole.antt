@@ -1,7 +1,7 @@
 -- THE COMPARISON OF AN AREA: the tests of all its places answer whether the area holds some symbols, with the weight of its elements. Assumes
 -- what comparing an area needs.
 use Prim.Native.Nat.{ℕ, ◌*◌, ◌/◌, ◌≤◌, ◌<◌}
-use mathlib.Core.Path.{◌≡◌, ap, ◌∙◌, subst}
+use mathlib.Core.Path.{◌≡◌, refl, ap, ◌∙◌, subst}
 use mathlib.Core.Bool.{cond}
 use mathlib.Core.List.{List}
 use native.Mathlib.Omega.{arith}
@@ -13,14 +13,14 @@ use Rattle.plan.proofs.Counts.{blocks-least}
 use Rattle.base.proofs.Counts.{cnt-most}
 use Rattle.places.specs.Places.{places_of}
 use Rattle.places.proofs.Numbers.{first-row}
-use Rattle.compare.specs.declared.Seen.TheVariants.{Weight, Differs}
+use Rattle.std.specs.Prelude.{Some, None}
 use Rattle.compare.specs.Comparing.{weight_in}
 use Rattle.areas.specs.declared.Area.{Area}
 use Rattle.areas.specs.Areas.{area_at, area_count, area_index, area_sends}
 use Rattle.data_compare.specs.declared.Form.{Form}
 use Rattle.data_compare.specs.Symbols.{area_place, area_symbol, area_sent, AreaHolds, AreaCompared, CompareIn}
 use Rattle.data_compare.specs.Tests.{FormOf}
-use Rattle.data_compare.specs.Places.{RightAt, Through}
+use Rattle.data_compare.specs.Places.{RightAt, Through, RunsWrong}
 use Rattle.data_compare.proofs.AreaSymbols.{place_in, at_place, index_back, place-back, index_below}
 use Rattle.data_compare.proofs.Holding as holding
 
@@ -70,20 +70,20 @@ module _ {a : Area} {q unit : ℕ} {masks g : List ℕ} (i : CompareIn a q unit 
   right-weights r = holding.right-weights i.area.room some i.area.order i.some places pairs r
 
   -- ---- the answers, from the end of its runs
-  module _ {u : ℕ} {f : Form} {j bad : ℕ} (is-u : u ≡ unit_byte_on a.cell.ports unit) (o : FormOf q u f) (k : Through a f g j bad) where
-    pub count-few : j ≤ 16800
+  module _ {u : ℕ} {f : Form} (is-u : u ≡ unit_byte_on a.cell.ports unit) (o : FormOf q u f) where
+    pub count-few : {j : ℕ} → Through a f g j 0 → j ≤ 16800
     unfolding area_count
-    count-few = omega (arith, k.index, cnt-most (area_at a) (places_of a.cell), i.area.room.fits)
+    count-few k = omega (arith, k.index, cnt-most (area_at a) (places_of a.cell), i.area.room.fits)
 
     form : FormOf q (unit_byte_on a.cell.ports unit) f
     form = subst (λ (x : ℕ). FormOf q x f) is-u o
 
-    pub area_same : bad ≡ 0 → (n : ℕ) → n ≡ cond (eqb a.cell.ports 1) 3 6 * j → AreaCompared a q unit g (Weight n)
+    pub area_same : {j : ℕ} → Through a f g j 0 → (n : ℕ) → n ≡ cond (eqb a.cell.ports 1) 3 6 * j → AreaCompared a q unit g (Some n)
     unfolding AreaCompared area_place
-    area_same e n h =
-        let r : AllRight = (k.done.seen q U form).right e in
+    area_same k n h =
+        let r : AllRight = (k.done.seen q U form).right refl in
         (right-holds r, h ∙ ap (λ (x : ℕ). cond (eqb a.cell.ports 1) 3 6 * x) k.index ∙ right-weights r)
 
-    pub area-differs : (bad ≡ 0 → ⊥) → AreaCompared a q unit g Differs
+    pub area-differs : RunsWrong a f g → AreaCompared a q unit g None
     unfolding AreaCompared area_place
-    area-differs n h = n ((k.done.seen q U form).none (holds-right h))
+    area-differs w h = w.some ((w.done.done.seen q U form).none (holds-right h))

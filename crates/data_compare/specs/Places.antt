@@ -1,10 +1,12 @@
 -- For the inner contracts and loops only: what stands at a channel's places, pairs and runs in a grid, and numbers that tell whether it is right.
-use Rattle.std.specs.Prelude.{ℕ, ◌+◌, ◌*◌, ◌/◌, ◌%◌, ◌≤◌, ◌≡◌, Bool, List}
+use Rattle.std.specs.Prelude.{ℕ, ◌+◌, ◌*◌, ◌/◌, ◌%◌, ◌≤◌, ◌≡◌, Bool, List, Option, Some, None}
 use Rattle.base.specs.Bytes.{element_of, pair_of}
 use Rattle.base.specs.Counts.{nth}
 use Rattle.precoding.specs.Places.{own_port, other_port, partner_of, partner_index}
 use Rattle.places.specs.Places.{places_of}
 use Rattle.grid.specs.Elements.{element_in}
+use Rattle.walk.specs.declared.Row.{Row}
+use Rattle.walk.specs.declared.Span.{Span}
 use Rattle.walk.specs.declared.Cursor.{Cursor}
 use Rattle.walk.specs.declared.Run.{Run}
 use Rattle.walk.specs.Runs.{run_count, Laid}
@@ -58,14 +60,12 @@ pub record Pairs (P T gap j start step m : ℕ) (f : Form) (g : List ℕ) (s : S
 pub record PlacesSeen (n : ℕ) (e : ℕ → ℕ) (f : Form) (g : List ℕ) (r : ℕ) : Type 0 where
   pub seen : (q u : ℕ) → FormOf q u f → Tells r n (λ (i : ℕ). Own q u (element_in g (e i)))
 
-pub record Singles (start n : ℕ) (f : Form) (g : List ℕ) (bad at i : ℕ) : Type 0 where
+pub record Singles (start n : ℕ) (f : Form) (g : List ℕ) (bad i : ℕ) : Type 0 where
   pub few : i ≤ n
-  pub place : at ≡ 3 * (start + i)
   pub done : PlacesSeen i (◌+◌ start) f g bad
 
-pub record Doubles (start n : ℕ) (f : Form) (g : List ℕ) (bad at i : ℕ) : Type 0 where
+pub record Doubles (start n : ℕ) (f : Form) (g : List ℕ) (bad i : ℕ) : Type 0 where
   pub few : i ≤ n
-  pub place : at ≡ 3 * (start + 2 * i)
   pub done :
       (q u : ℕ) → FormOf q u f
       → Tells bad i (λ (k : ℕ). Own q u (element_in g (start + 2 * k)) × Own q u (element_in g (start + (2 * k + 1))))
@@ -83,10 +83,20 @@ pub record RunSeen (P T j : ℕ) (run : Run) (f : Form) (g : List ℕ) (r : ℕ)
 pub record AreaSeen (a : Area) (f : Form) (g : List ℕ) (n r : ℕ) : Type 0 where
   pub seen : (q u : ℕ) → FormOf q u f → Tells r n (Right (area_at a) a.cell.ports (places_of a.cell) q u g)
 
-pub record Going (a : Area) (rows spans : List ℕ) (f : Form) (g : List ℕ) (c : Cursor) (j r : ℕ) : Type 0 where
+pub record Going (a : Area) (rows : List Row) (spans : List Span) (f : Form) (g : List ℕ) (c : Cursor) (j r : ℕ) : Type 0 where
   pub cursor : AreaAt a rows spans c j
   pub done : AreaSeen a f g j r
 
 pub record Through (a : Area) (f : Form) (g : List ℕ) (j r : ℕ) : Type 0 where
   pub index : j ≡ area_count a
   pub done : AreaSeen a f g (area_count a) r
+
+-- all runs: their number of places, or that some are wrong
+pub record RunsWrong (a : Area) (f : Form) (g : List ℕ) : Type 0 where
+  pub bad : ℕ
+  pub some : bad ≡ 0 → ⊥
+  pub done : Through a f g (area_count a) bad
+
+abbrev pub RunsSeen : Area → Form → List ℕ → Option ℕ → Type 0
+RunsSeen a f g (Some j) = Through a f g j 0
+RunsSeen a f g None = RunsWrong a f g

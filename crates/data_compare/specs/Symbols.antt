@@ -1,6 +1,6 @@
 -- For the inner contracts and loops only: the symbols of a channel that fills its places k first, then s, as they stand in a grid, and
 -- the two ports' elements at its places by them. No bits and no sequence are needed for that.
-use Rattle.std.specs.Prelude.{ℕ, ◌+◌, ◌*◌, ◌/◌, ◌%◌, ◌<◌, ◌≡◌, true, List, length}
+use Rattle.std.specs.Prelude.{ℕ, ◌+◌, ◌*◌, ◌/◌, ◌%◌, ◌<◌, ◌≡◌, true, List, length, Option, Some, None}
 use Rattle.base.specs.declared.Pair.{Pair}
 use Rattle.base.specs.declared.Element.{Element}
 use Rattle.base.specs.Bytes.{pair_of}
@@ -9,8 +9,6 @@ use Rattle.precoding.specs.Places.{own_port, placed}
 use Rattle.base.specs.Counts.{nth}
 use Rattle.places.specs.Places.{places_of}
 use Rattle.grid.specs.Elements.{element_in}
-use Rattle.compare.specs.declared.Seen.{Seen}
-use Rattle.compare.specs.declared.Seen.TheVariants.{Weight, Differs}
 use Rattle.compare.specs.Comparing.{Holds, weight_in}
 use Rattle.areas.specs.declared.Area.{Area}
 use Rattle.areas.specs.Areas.{area_at, area_count, area_index, area_sends, AreaIn, SignalsIn}
@@ -35,9 +33,9 @@ pub record AreaHolds (a : Area) (q unit : ℕ) (g : List ℕ) : Type 0 where
   pub holds : Holds (area_sends a) (area_sent a unit (area_symbol a g)) g
 
 -- THE ANSWER of the comparison
-unfoldable pub AreaCompared : Area → ℕ → ℕ → List ℕ → Seen → Type 0
-AreaCompared a q unit g (Weight n) = AreaHolds a q unit g × (n ≡ weight_in (area_sends a) g (length g / 3))
-AreaCompared a q unit g Differs = AreaHolds a q unit g → ⊥
+unfoldable pub AreaCompared : Area → ℕ → ℕ → List ℕ → Option ℕ → Type 0
+AreaCompared a q unit g (Some n) = AreaHolds a q unit g × (n ≡ weight_in (area_sends a) g (length g / 3))
+AreaCompared a q unit g None = AreaHolds a q unit g → ⊥
 
 -- what it needs: the area's masks, and that with two ports or four the places go in pairs
 pub record CompareIn (a : Area) (q unit : ℕ) (masks g : List ℕ) : Type 0 where

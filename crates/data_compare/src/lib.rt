@@ -10,12 +10,11 @@ ghost use Rattle.walk.specs.Runs.{run_count};
 ghost use Rattle.areas.specs.Runs.{AreaRuns};
 ghost use Rattle.data_compare.specs.Symbols.{AreaCompared, CompareIn};
 ghost use Rattle.data_compare.specs.Tests.{FormOf, wrong_of, sums_with, told_by};
-ghost use Rattle.data_compare.specs.Places.{Starting, PairsSeen, PlacesSeen, RunSeen, Through};
+ghost use Rattle.data_compare.specs.Places.{Starting, PairsSeen, PlacesSeen, RunSeen, RunsSeen};
 
 use areas::Area;
-use compare::Seen;
-use element_pairs::{apart_at, six_at, three_at};
-use walk::Run;
+use element_pairs::{pair_at, three_at};
+use walk::{Run, Tables};
 
 // What elements of an order and a unit have in common, for two elements as one number: `fixed` where `fixes` has bits, that is the
 // unit's byte and that levels are odd; and a level's bits from `same` on are alike, so that it is one of the order.
@@ -26,51 +25,55 @@ pub struct Form {
     pub fixes: u64,
 }
 
-pub fn form_of(q: u32, byte: u8) -> Form
-    requires { Order q }
-    ensures { FormOf q byte result }
-{
-    let levels: u64 = 1 << (q / 2);
-    Form {
-        same: (128 - levels) * 0x010100010100,
-        fixed: (byte as u64) * 16777217 + 0x010100010100,
-        fixes: 0x0101FF0101FF,
+impl Form {
+    pub fn of(q: u32, byte: u8) -> Self
+        requires { Order q }
+        ensures { FormOf q byte result }
+    {
+        let levels: u64 = 1 << (q / 2);
+        Self {
+            same: (128 - levels) * 0x010100010100,
+            fixed: u64::from(byte) * 16777217 + 0x010100010100,
+            fixes: 0x0101FF0101FF,
+        }
+    }
+
+    // The bits in which two elements are not of a form.
+    pub fn wrong(self, x: u64) -> u64
+        ensures { result ≡ wrong_of self x }
+    {
+        (x ^ x / 2) & self.same | (x ^ self.fixed) & self.fixes
+    }
+
+    // The bits in which pairs are wrong.
+    pub fn told(self, s: Sums) -> u64
+        ensures { result ≡ told_by self s }
+    {
+        s.bad | s.same & self.same | s.fixed & self.fixes
     }
 }
 
-// The bits in which two elements are not of a form.
-pub fn wrong(f: Form, x: u64) -> u64
-    ensures { result ≡ wrong_of f x }
-{
-    (x ^ x / 2) & f.same | (x ^ f.fixed) & f.fixes
-}
-
 // Bits that were found in pairs, before those of the form are taken.
-#[derive(Clone, Copy)]
+#[derive(Clone, Copy, Default)]
 pub struct Sums {
     pub fixed: u64,
     pub same: u64,
     pub bad: u64,
 }
 
-// One pair more: x on its own port, y on the other, where the partners must stand.
-pub fn with_pair(f: Form, s: Sums, x: u64, y: u64) -> Sums
-    requires { x < 281474976710656 }
-    ensures { result ≡ sums_with f s x y }
-{
-    let crossed = constellation::partners(x % 16777216, x / 16777216);
-    Sums {
-        fixed: s.fixed | x ^ f.fixed,
-        same: s.same | x ^ x / 2,
-        bad: s.bad | y ^ crossed,
+impl Sums {
+    // One pair more: x on its own port, y on the other, where the partners must stand.
+    pub fn with_pair(self, f: Form, x: u64, y: u64) -> Self
+        requires { x < 281474976710656 }
+        ensures { result ≡ sums_with f self x y }
+    {
+        let crossed = constellation::partners(x % 16777216, x / 16777216);
+        Self {
+            fixed: self.fixed | x ^ f.fixed,
+            same: self.same | x ^ x / 2,
+            bad: self.bad | y ^ crossed,
+        }
     }
-}
-
-// The bits in which the pairs are wrong.
-pub fn told(f: Form, s: Sums) -> u64
-    ensures { result ≡ told_by f s }
-{
-    s.bad | s.same & f.same | s.fixed & f.fixes
 }
 
 // Where the first pair and the next one begin, in bytes, and how far the other port is.
@@ -81,20 +84,23 @@ pub struct Starts {
     pub across: usize,
 }
 
-pub fn starts_of(ports: u8, places: usize, j: usize, start: usize, step: usize) -> Starts
-    requires { PairsFit ports places j start step }
-    ensures { Starting ports places j start step result }
-{
-    let p = walk::port_offsets(ports, places, j);
-    Starts {
-        at: 3 * (p.own + start),
-        next: 3 * (p.next + start + step),
-        across: 3 * p.across,
+impl Starts {
+    pub fn of(ports: u8, places: usize, j: usize, start: usize, step: usize) -> Self
+        requires { PairsFit ports places j start step }
+        ensures { Starting ports places j start step result }
+    {
+        let p = walk::port_offsets(ports, places, j);
+        Self {
+            at: 3 * (p.own + start),
+            next: 3 * (p.next + start + step),
+            across: 3 * p.across,
+        }
     }
 }
 
-// n pairs of places side by side, pair i at `start` + `step` × i, on the own ports in turn; 0 where they are right.
-fn sides(
+// n pairs of places, pair i at `start` + `step` × i with its second place `GAP` after the first, on the own ports in turn; 0 where they are right.
+// Parameters one by one here and below: ports, places, index and first place as one struct by value were timed and are slower (docs/DECISIONS.md).
+fn rounds<const GAP: usize>(
     f: Form,
     grid: &[u8],
     ports: u8,
@@ -104,52 +110,25 @@ fn sides(
     step: usize,
     n: usize,
 ) -> u64
-    requires { PairsIn ports places 1 j start step n grid.now }
-    ensures { PairsSeen ports places 1 j start step n f grid.now result }
+    requires { PairsIn ports places GAP j start step n grid.now }
+    ensures { PairsSeen ports places GAP j start step n f grid.now result }
 {
-    let p = starts_of(ports, places, j, start, step);
+    let p = Starts::of(ports, places, j, start, step);
     let across = p.across;
     let mut at = p.at;
     let mut next = p.next;
-    let mut s = Sums {
-        fixed: 0,
-        same: 0,
-        bad: 0,
-    };
-    let mut i: usize = 0;
-    while i < n {
-        s = with_pair(f, s, six_at(grid, at), six_at(grid, at + across));
+    let mut s = Sums::default();
+    for i in 0..n {
+        s = s.with_pair(
+            f,
+            pair_at::<GAP>(grid, at),
+            pair_at::<GAP>(grid, at + across),
+        );
         let then = at + 6 * step;
         at = next;
         next = then;
-        i += 1;
     }
-    told(f, s)
-}
-
-// The same where a hole is between the two places of a pair.
-fn aparts(f: Form, grid: &[u8], ports: u8, places: usize, j: usize, start: usize, n: usize) -> u64
-    requires { PairsIn ports places 2 j start 3 n grid.now }
-    ensures { PairsSeen ports places 2 j start 3 n f grid.now result }
-{
-    let p = starts_of(ports, places, j, start, 3);
-    let across = p.across;
-    let mut at = p.at;
-    let mut next = p.next;
-    let mut s = Sums {
-        fixed: 0,
-        same: 0,
-        bad: 0,
-    };
-    let mut i: usize = 0;
-    while i < n {
-        s = with_pair(f, s, apart_at(grid, at), apart_at(grid, at + across));
-        let then = at + 18;
-        at = next;
-        next = then;
-        i += 1;
-    }
-    told(f, s)
+    f.told(s)
 }
 
 // A run on two ports or four, from the channel's index j on.
@@ -157,19 +136,17 @@ fn compare_pairs(f: Form, grid: &[u8], run: Run, j: usize, ports: u8, places: us
     requires { RunIn ports places j run grid.now }
     ensures { RunSeen ports places j run f grid.now result }
 {
-    let first = run.first;
-    let halves = run.halves;
-    let mask = run.mask;
-    if mask == 63 {
-        return sides(f, grid, ports, places, j, first, 2, 3 * halves);
+    let Run {
+        first,
+        halves,
+        mask,
+    } = run;
+    match mask {
+        63 => rounds::<1>(f, grid, ports, places, j, first, 2, 3 * halves),
+        27 => rounds::<1>(f, grid, ports, places, j, first, 3, 2 * halves),
+        54 => rounds::<1>(f, grid, ports, places, j, first + 1, 3, 2 * halves),
+        _ => rounds::<2>(f, grid, ports, places, j, first, 3, 2 * halves),
     }
-    if mask == 27 {
-        return sides(f, grid, ports, places, j, first, 3, 2 * halves);
-    }
-    if mask == 54 {
-        return sides(f, grid, ports, places, j, first + 1, 3, 2 * halves);
-    }
-    aparts(f, grid, ports, places, j, first, 2 * halves)
 }
 
 // n places side by side on one port.
@@ -178,12 +155,8 @@ fn singles(f: Form, grid: &[u8], start: usize, n: usize) -> u64
     ensures { PlacesSeen n (◌+◌ start) f grid.now result }
 {
     let mut bad: u64 = 0;
-    let mut at = 3 * start;
-    let mut i: usize = 0;
-    while i < n {
-        bad = bad | wrong(f, three_at(grid, at)) % 16777216;
-        at += 3;
-        i += 1;
+    for i in 0..n {
+        bad |= f.wrong(three_at(grid, 3 * (start + i))) % 16777216;
     }
     bad
 }
@@ -194,12 +167,8 @@ fn doubles(f: Form, grid: &[u8], start: usize, n: usize) -> u64
     ensures { PlacesSeen (2 * n) (◌+◌ start) f grid.now result }
 {
     let mut bad: u64 = 0;
-    let mut at = 3 * start;
-    let mut i: usize = 0;
-    while i < n {
-        bad = bad | wrong(f, six_at(grid, at));
-        at += 6;
-        i += 1;
+    for i in 0..n {
+        bad |= f.wrong(pair_at::<1>(grid, 3 * (start + 2 * i)));
     }
     bad
 }
@@ -214,9 +183,10 @@ fn between(f: Form, grid: &[u8], first: usize, lead: usize, each: usize, total: 
     let mut at = s.at;
     let mut left = s.left;
     let mut k: usize = 0;
+    // not a `for`: a stretch is as long as the holes leave it
     while k < total {
-        let n = areas::smaller(left, total - k);
-        bad = bad | singles(f, grid, at, n);
+        let n = left.min(total - k);
+        bad |= singles(f, grid, at, n);
         k += n;
         at += n + 1;
         left = each;
@@ -258,31 +228,25 @@ fn places_of(run: Run) -> usize
     h.count * run.halves
 }
 
-// How many places were compared, and the bits in which they are wrong.
-#[derive(Clone, Copy)]
-struct Sum {
-    j: usize,
-    bad: u64,
-}
-
-// All runs of an area, by its tables.
-fn compare_runs(f: Form, grid: &[u8], a: Area, rows: &[u8; 45], spans: &[u8; 512]) -> Sum
-    requires { AreaRuns a rows.now spans.now grid.now }
-    ensures { Through a f grid.now result.j result.bad }
+// All runs of an area, by its tables: how many places they have, or None where one of them is wrong.
+fn compare_runs(f: Form, grid: &[u8], a: Area, tables: &Tables) -> Option<usize>
+    requires { AreaRuns a tables.now.rows tables.now.spans grid.now }
+    ensures { RunsSeen a f grid.now result }
 {
     let symbols = layout::symbols(a.cell);
     let carriers = layout::carriers(a.cell);
     let places = layout::places(a.cell);
-    let mut c = walk::start(rows);
+    let mut c = tables.start();
     let mut j: usize = 0;
     let mut bad: u64 = 0;
+    // not a `for`: a row has as many runs as its spans say
     while c.s < symbols {
-        let run = walk::run_at(c, carriers, rows, spans);
-        bad = bad | compare_run(f, grid, run, j, a.cell.ports, places);
+        let run = tables.run_at(c, carriers);
+        bad |= compare_run(f, grid, run, j, a.cell.ports, places);
         j += places_of(run);
-        c = walk::next(c, rows);
+        c = tables.next(c);
     }
-    Sum { j: j, bad: bad }
+    if bad == 0 { Some(j) } else { None }
 }
 
 // The bytes of n places that are not 0, where no level is 0: three on each port with a term.
@@ -295,17 +259,13 @@ pub fn weight_of(ports: u8, n: usize) -> usize
 
 // An area's places, with symbols of q bits in a unit. Callers have the area from an accepted plan, its masks from `areas::row_masks`,
 // and have compared the grid's length.
-pub fn compare_area(a: Area, q: u32, unit: u8, masks: &[u8; 14], grid: &[u8]) -> Seen
+pub fn compare_area(a: Area, q: u32, unit: u8, masks: &[u8; 14], grid: &[u8]) -> Option<usize>
     requires { CompareIn a q unit masks.now grid.now }
     ensures { AreaCompared a q unit grid.now result }
 {
-    let mut rows: [u8; 45] = [0; 45];
-    let mut spans: [u8; 512] = [0; 512];
-    areas::set_tables(a, masks, &mut rows, &mut spans);
-    let f = form_of(q, precoding::unit_byte_on(a.cell.ports, unit));
-    let w = compare_runs(f, grid, a, &rows, &spans);
-    if w.bad == 0 {
-        return Seen::Weight(weight_of(a.cell.ports, w.j));
-    }
-    Seen::Differs
+    let mut tables = Tables::new();
+    areas::set_tables(a, masks, &mut tables);
+    let f = Form::of(q, precoding::unit_byte_on(a.cell.ports, unit));
+    let n = compare_runs(f, grid, a, &tables)?;
+    Some(weight_of(a.cell.ports, n))
 }

@@ -5,10 +5,10 @@ use mathlib.Core.List.{List}
 use native.Mathlib.Nat.{mul-add, mul_comm, mul-zero, mul-le-mul_left}
 use native.Mathlib.Decide.{dec_le}
 use native.Mathlib.Omega.{arith}
-use lib.ListN.{get_or}
 use Rattle.gold.specs.Sequence.{binary}
 use Rattle.codeword.specs.Bits48.{Groups}
 use Rattle.codeword.proofs.Taking.{few-left}
+use Rattle.section_bits.specs.declared.SectionBits.{SectionBits}
 use Rattle.section_bits.specs.Gathering.{Bits, bits_in, State, GiveIn, Gives}
 use Rattle.data_read.specs.Runs.{Stands, Reading, ReadOn}
 
@@ -17,19 +17,19 @@ pub bits-on : (q a c b : ℕ) → a + c ≡ b → q * a + c * q ≡ q * b
 bits-on q a c b e = ap (λ (x : ℕ). q * a + x) (mul_comm c q) ∙ sym (mul-add q a c) ∙ ap (λ (x : ℕ). q * x) e
 
 -- where whole groups of u bits are taken in, the word has room for n
-room_in : {u n : ℕ} {st : List ℕ} → Groups u n → State st → (k : ℕ) → bits_in st ≡ u * k → get_or st 4 0 + n ≤ 64
-room_in {u} {n} {st} g s k e = pick (dec_le u (48 - get_or st 4 0))
+room_in : {u n : ℕ} {st : SectionBits} → Groups u n → State st → (k : ℕ) → bits_in st ≡ u * k → st.held + n ≤ 64
+room_in {u} {n} {st} g s k e = pick (dec_le u (48 - st.held))
   where
-    sum : u * k + (48 - get_or st 4 0) ≡ 48 * (get_or st 2 0 / 6 + 1)
+    sum : u * k + (48 - st.held) ≡ 48 * (st.at / 6 + 1)
     sum = omega (arith, s.few, s.whole)
 
-    pick : Dec (u ≤ 48 - get_or st 4 0) → get_or st 4 0 + n ≤ 64
+    pick : Dec (u ≤ 48 - st.held) → st.held + n ≤ 64
     pick (yes l) = omega (arith, g.size, g.few, s.few, mul-add u g.before 1)
-    pick (no l) = absurd (omega (arith, few-left u g.words k (get_or st 2 0 / 6) (48 - get_or st 4 0) 0 g.divides sum (omega arith), s.few, mul-zero u))
+    pick (no l) = absurd (omega (arith, few-left u g.words k (st.at / 6) (48 - st.held) 0 g.divides sum (omega arith), s.few, mul-zero u))
 
 -- what `give` needs for c symbols
 pub give-in :
-    {q j c n u v : ℕ} {d st part : List ℕ} → Reading q j c d st part → n ≡ c * q → Groups u n → (k : ℕ) → q * j ≡ u * k → v < 2 ^ n → GiveIn n v st part
+    {q j c n u v : ℕ} {d : List ℕ} {st : SectionBits} {part : List ℕ} → Reading q j c d st part → n ≡ c * q → Groups u n → (k : ℕ) → q * j ≡ u * k → v < 2 ^ n → GiveIn n v st part
 give-in {q} {j} {c} h en g k ek less =
     record {
       state = h.state;
@@ -39,18 +39,18 @@ give-in {q} {j} {c} h en g k ek less =
       room = omega (arith, h.stands, h.room, bits-on q j c (j + c) refl);
     }
 
-pub read-fewer : {q j n m : ℕ} {d st part : List ℕ} → Reading q j n d st part → m ≤ n → Reading q j m d st part
+pub read-fewer : {q j n m : ℕ} {d : List ℕ} {st : SectionBits} {part : List ℕ} → Reading q j n d st part → m ≤ n → Reading q j m d st part
 read-fewer {q} {j} {n} {m} h l =
     let k : q * (j + m) ≤ q * (j + n) = mul-le-mul_left q (omega arith) in
     record { table = h.table; state = h.state; stands = h.stands; room = omega (arith, h.room) }
 
-module _ {q j : ℕ} {e : ℕ → ℕ} {d g st part : List ℕ} where
+module _ {q j : ℕ} {e : ℕ → ℕ} {d g : List ℕ} {st : SectionBits} {part : List ℕ} where
   pub read_none : {n : ℕ} → Reading q j n d st part → ReadOn q j 0 e d g st part st part
   read_none h =
       let z : j ≡ j + 0 = omega arith in
       record { state = h.state; size = refl; stands = h.stands ∙ ap (λ (x : ℕ). q * x) z; gathers = λ b r two s k. k }
 
-  pub read_same : {n : ℕ} {f : ℕ → ℕ} {st' part' : List ℕ} → ((i : ℕ) → i < n → e i ≡ f i) → ReadOn q j n e d g st part st' part' → ReadOn q j n f d g st part st' part'
+  pub read_same : {n : ℕ} {f : ℕ → ℕ} {st' : SectionBits} {part' : List ℕ} → ((i : ℕ) → i < n → e i ≡ f i) → ReadOn q j n e d g st part st' part' → ReadOn q j n f d g st part st' part'
   read_same same o =
       record {
         state = o.state;
@@ -59,7 +59,7 @@ module _ {q j : ℕ} {e : ℕ → ℕ} {d g st part : List ℕ} where
         gathers = λ b r two s k. o.gathers b r two (λ i l. subst (Stands q d g b (j + i)) (sym (same i l)) (s i l)) k;
       }
 
-  module _ {m : ℕ} {st' part' : List ℕ} (o : ReadOn q j m e d g st part st' part') where
+  module _ {m : ℕ} {st' : SectionBits} {part' : List ℕ} (o : ReadOn q j m e d g st part st' part') where
     -- c more may be read
     pub read-later : {n : ℕ} → Reading q j n d st part → (c : ℕ) → m + c ≤ n → Reading q (j + m) c d st' part'
     read-later {n} h c l =
@@ -68,7 +68,7 @@ module _ {q j : ℕ} {e : ℕ → ℕ} {d g st part : List ℕ} where
 
     -- c more are given
     pub read-give :
-        {n v : ℕ} {st'' part'' : List ℕ} (c to : ℕ) → n ≡ c * q → to ≡ m + c → Gives n v st' part' st'' part''
+        {n v : ℕ} {st'' : SectionBits} {part'' : List ℕ} (c to : ℕ) → n ≡ c * q → to ≡ m + c → Gives n v st' part' st'' part''
         → ((b : ℕ → ℕ) → Bits b → ((k : ℕ) → m ≤ k → k < to → Stands q d g b (j + k) (e k)) → v ≡ binary b (q * (j + m)) n)
         → ReadOn q j to e d g st part st'' part''
     read-give {n} {v} c to en et x is =
@@ -83,7 +83,7 @@ module _ {q j : ℕ} {e : ℕ → ℕ} {d g st part : List ℕ} where
 
     -- c more are read
     pub read_join :
-        {c to : ℕ} {f : ℕ → ℕ} {st'' part'' : List ℕ} → to ≡ m + c → ReadOn q (j + m) c f d g st' part' st'' part'' → ((i : ℕ) → i < c → f i ≡ e (m + i))
+        {c to : ℕ} {f : ℕ → ℕ} {st'' : SectionBits} {part'' : List ℕ} → to ≡ m + c → ReadOn q (j + m) c f d g st' part' st'' part'' → ((i : ℕ) → i < c → f i ≡ e (m + i))
         → ReadOn q j to e d g st part st'' part''
     read_join {c} {to} {f} et x same =
         record {

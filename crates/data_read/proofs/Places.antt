@@ -11,6 +11,7 @@ use Rattle.codeword.proofs.Orders.{single-groups, double-groups, pair-groups, qu
 use Rattle.precoding.specs.Places.{own_port}
 use Rattle.constellation.specs.Axis.{word_of}
 use Rattle.element_pairs.specs.Numbers.{OneRead, TwoRead}
+use Rattle.section_bits.specs.declared.SectionBits.{SectionBits}
 use Rattle.section_bits.specs.Gathering.{Bits, GiveIn, Gives}
 use Rattle.walk.specs.declared.PortOffsets.{PortOffsets}
 use Rattle.walk.specs.declared.Run.{Run}
@@ -57,7 +58,7 @@ pair-bits q j e =
     ap (λ (x : ℕ). q * x) h ∙ sym (mul_assoc q 2 (j / 2)) ∙ ap (λ (x : ℕ). x * (j / 2)) (mul_comm q 2)
 
 -- rounds of two pairs: those of i rounds are read
-pub record Rounds (P T gap j start step n q : ℕ) (d g st part : List ℕ) (at next i : ℕ) (st' part' : List ℕ) : Type 0 where
+pub record Rounds (P T gap j start step n q : ℕ) (d g : List ℕ) (st : SectionBits) (part : List ℕ) (at next i : ℕ) (st' : SectionBits) (part' : List ℕ) : Type 0 where
   pub pairs : PairsIn P T gap j start step (2 * n) g
   pub reading : Reading q j (4 * n) d st part
   pub offsets : PortOffsets
@@ -66,13 +67,14 @@ pub record Rounds (P T gap j start step n q : ℕ) (d g st part : List ℕ) (at 
   pub read : ReadOn q j (4 * i) (pair_element P T j start step gap) d g st part st' part'
 
 pub rounds-begin :
-    {P T gap j start step q : ℕ} {d g st part : List ℕ} {r : PortOffsets} (n : ℕ) → PairsIn P T gap j start step (2 * n) g → Reading q j (4 * n) d st part
+    {P T gap j start step q : ℕ} {d g : List ℕ} {st : SectionBits} {part : List ℕ} {r : PortOffsets} (n : ℕ) → PairsIn P T gap j start step (2 * n) g → Reading q j (4 * n) d st part
     → OffsetsAt P T j r → Rounds P T gap j start step n q d g st part (3 * (r.own + start)) (3 * (r.next + start + step)) 0 st part
 rounds-begin {r = r} n h s p =
     record { pairs = h; reading = s; offsets = r; here = p; round = rounds-start h p; read = read_none s }
 
 module _
-    {P T gap j start step n q at next i : ℕ} {d g st part st' part' : List ℕ} (x : Rounds P T gap j start step n q d g st part at next i st' part') (l : i < n) where
+    {P T gap j start step n q at next i : ℕ} {d g : List ℕ} {st : SectionBits} {part : List ℕ} {st' : SectionBits} {part' : List ℕ}
+    (x : Rounds P T gap j start step n q d g st part at next i st' part') (l : i < n) where
   pub round-fits : (at + (3 * gap + 2) < length g) × (next + (3 * gap + 2) < length g) × (at ≤ 100800) × (next ≤ 100800) × (i < 16800)
   round-fits =
       let f = round-small x.pairs x.here x.round l in (
@@ -89,7 +91,7 @@ module _
       (pair-bits q (j + 4 * i) (omega (arith, x.pairs.even))) less
 
   pub round-on :
-      {u v w : ℕ} {st'' part'' : List ℕ} → TwoRead gap at g u → TwoRead gap next g v → w ≡ both_of q d u * 2 ^ (2 * q) + both_of q d v
+      {u v w : ℕ} {st'' : SectionBits} {part'' : List ℕ} → TwoRead gap at g u → TwoRead gap next g v → w ≡ both_of q d u * 2 ^ (2 * q) + both_of q d v
       → Gives (4 * q) w st' part' st'' part'' → Rounds P T gap j start step n q d g st part (at + 6 * step) (next + 6 * step) (i + 1) st'' part''
   round-on {w = w} {st''} {part''} a c ew y =
       record {
@@ -120,14 +122,19 @@ module _
           (z (4 * i + 2) (omega arith) (omega arith)) (z (4 * i + 2 + 1) (omega arith) (omega arith))
           ∙ ap (λ (y : ℕ). binary b (q * y) (2 * q)) k')
 
+pub rounds-at :
+    {P T gap j start step n q at next at' next' i : ℕ} {d g : List ℕ} {st : SectionBits} {part : List ℕ} {st' : SectionBits} {part' : List ℕ} → at ≡ at' → next ≡ next'
+    → Rounds P T gap j start step n q d g st part at next i st' part' → Rounds P T gap j start step n q d g st part at' next' i st' part'
+rounds-at e f x = rw (e, f) at x
+
 -- one pair
 module _
-    {P T j start q : ℕ} {d g st part : List ℕ} (h : PairsIn P T 1 j start 2 1 g) (s : Reading q j 2 d st part) {r : PortOffsets} (p : OffsetsAt P T j r) where
+    {P T j start q : ℕ} {d g : List ℕ} {st : SectionBits} {part : List ℕ} (h : PairsIn P T 1 j start 2 1 g) (s : Reading q j 2 d st part) {r : PortOffsets} (p : OffsetsAt P T j r) where
   pub one-gives : {w : ℕ} → w < 2 ^ (2 * q) → GiveIn (2 * q) w st part
   one-gives = give-in s refl (pair-groups q s.table.order) (j / 2) (pair-bits q j h.even)
 
   pub one_on :
-      {x w : ℕ} {st' part' : List ℕ} → TwoRead 1 (3 * (r.own + start)) g x → w ≡ both_of q d x → Gives (2 * q) w st part st' part'
+      {x w : ℕ} {st' : SectionBits} {part' : List ℕ} → TwoRead 1 (3 * (r.own + start)) g x → w ≡ both_of q d x → Gives (2 * q) w st part st' part'
       → ReadOn q j 2 (pair_element P T j start 2 1) d g st part st' part'
   one_on t ew x =
       let k : j + 0 ≡ j = omega arith in
@@ -137,12 +144,14 @@ module _
       (z 0 (omega arith) (omega arith)) (z 1 (omega arith) (omega arith)))
 
 -- half blocks with all six open: one pair after the rounds, or none
-module _ (halves P T first : ℕ) {q j : ℕ} {d g st part st' part' : List ℕ} (o : ReadOn q j (4 * (3 * halves / 2)) (pair_element P T j first 2 1) d g st part st' part') where
+module _
+    (halves P T first : ℕ) {q j : ℕ} {d g : List ℕ} {st : SectionBits} {part : List ℕ} {st' : SectionBits} {part' : List ℕ}
+    (o : ReadOn q j (4 * (3 * halves / 2)) (pair_element P T j first 2 1) d g st part st' part') where
   pub sixes-reading : 3 * halves % 2 ≡ 1 → Reading q j (6 * halves) d st part → Reading q (j + 4 * (3 * halves / 2)) 2 d st' part'
   sixes-reading e h = read-later o h 2 (omega arith)
 
   pub sixes-odd :
-      {st'' part'' : List ℕ} → 3 * halves % 2 ≡ 1
+      {st'' : SectionBits} {part'' : List ℕ} → 3 * halves % 2 ≡ 1
       → ReadOn q (j + 4 * (3 * halves / 2)) 2 (pair_element P T (j + 4 * (3 * halves / 2)) (first + 4 * (3 * halves / 2)) 2 1) d g st' part' st'' part''
       → ReadOn q j (6 * halves) (pair_element P T j first 2 1) d g st part st'' part''
   sixes-odd e x =
@@ -160,38 +169,39 @@ module _ (halves P T first : ℕ) {q j : ℕ} {d g st part st' part' : List ℕ}
       subst (λ (x : ℕ). ReadOn q j x (pair_element P T j first 2 1) d g st part st' part') k o
 
 -- ---- side by side on one port, one or two in each round
-module _ (start : ℕ) {j q n : ℕ} {d g st part : List ℕ} (s : Reading q j n d st part) where
-  module _ {at i : ℕ} {st' part' : List ℕ} (o : ReadOn q j i (◌+◌ start) d g st part st' part') (is : at ≡ 3 * (start + i)) (l : i < n) where
+module _ (start : ℕ) {j q n : ℕ} {d g : List ℕ} {st : SectionBits} {part : List ℕ} (s : Reading q j n d st part) where
+  module _ {i : ℕ} {st' : SectionBits} {part' : List ℕ} (o : ReadOn q j i (◌+◌ start) d g st part st' part') (l : i < n) where
     pub single-gives : {w : ℕ} → w < 2 ^ q → GiveIn q w st' part'
     single-gives = give-in (read-later o s 1 (omega arith)) (omega arith) (single-groups q s.table.order) (j + i) refl
 
     pub single-on :
-        {x w : ℕ} {st'' part'' : List ℕ} → OneRead at g x → w ≡ word_of d x → Gives q w st' part' st'' part''
+        {x w : ℕ} {st'' : SectionBits} {part'' : List ℕ} → OneRead (3 * (start + i)) g x → w ≡ word_of d x → Gives q w st' part' st'' part''
         → ReadOn q j (i + 1) (◌+◌ start) d g st part st'' part''
     single-on {x} t ew y =
-        read-give o 1 (i + 1) (omega arith) refl y (λ b two z. ew ∙ (z i (omega arith) (omega arith)).word x (t.element (start + i) is))
+        read-give o 1 (i + 1) (omega arith) refl y (λ b two z. ew ∙ (z i (omega arith) (omega arith)).word x (t.element (start + i) refl))
 
-module _ (start n : ℕ) {j q : ℕ} {d g st part : List ℕ} (s : Reading q j (2 * n) d st part) where
-  module _ {at i : ℕ} {st' part' : List ℕ} (o : ReadOn q j (2 * i) (◌+◌ start) d g st part st' part') (is : at ≡ 3 * (start + 2 * i)) (l : i < n) where
+module _ (start n : ℕ) {j q : ℕ} {d g : List ℕ} {st : SectionBits} {part : List ℕ} (s : Reading q j (2 * n) d st part) where
+  module _ {i : ℕ} {st' : SectionBits} {part' : List ℕ} (o : ReadOn q j (2 * i) (◌+◌ start) d g st part st' part') (l : i < n) where
     pub double-gives : {w : ℕ} → w < 2 ^ (2 * q) → GiveIn (2 * q) w st' part'
     double-gives = give-in (read-later o s 2 (omega arith)) refl (double-groups q s.table.order) (j + 2 * i) refl
 
     pub double-on :
-        {x w : ℕ} {st'' part'' : List ℕ} → TwoRead 1 at g x → w ≡ both_of q d x → Gives (2 * q) w st' part' st'' part''
+        {x w : ℕ} {st'' : SectionBits} {part'' : List ℕ} → TwoRead 1 (3 * (start + 2 * i)) g x → w ≡ both_of q d x → Gives (2 * q) w st' part' st'' part''
         → ReadOn q j (2 * (i + 1)) (◌+◌ start) d g st part st'' part''
     double-on t ew y =
         read-give o 2 (2 * (i + 1)) refl (omega arith) y
         (λ b two z.
-        ew ∙ two-bits (◌+◌ start) j (2 * i) t is (omega arith) b (z (2 * i) (omega arith) (omega arith)) (z (2 * i + 1) (omega arith) (omega arith)))
+        ew ∙ two-bits (◌+◌ start) j (2 * i) t refl (omega arith) b (z (2 * i) (omega arith) (omega arith)) (z (2 * i + 1) (omega arith) (omega arith)))
 
 -- all n are read
 pub all_read :
-    {q j : ℕ} {e : ℕ → ℕ} {d g st part st' part' : List ℕ} {i n : ℕ} → i ≤ n → n ≤ i → ReadOn q j i e d g st part st' part' → ReadOn q j n e d g st part st' part'
+    {q j : ℕ} {e : ℕ → ℕ} {d g : List ℕ} {st : SectionBits} {part : List ℕ} {st' : SectionBits} {part' : List ℕ} {i n : ℕ} → i ≤ n → n ≤ i
+    → ReadOn q j i e d g st part st' part' → ReadOn q j n e d g st part st' part'
 all_read {q} {j} {e} {d} {g} {st} {part} {st'} {part'} {i} {n} few l o =
     let k : i ≡ n = omega arith in subst (λ (x : ℕ). ReadOn q j x e d g st part st' part') k o
 
 -- ---- stretches between holes
-pub record Stretches (q j first lead each total : ℕ) (d g st part : List ℕ) (at left k : ℕ) (st' part' : List ℕ) : Type 0 where
+pub record Stretches (q j first lead each total : ℕ) (d g : List ℕ) (st : SectionBits) (part : List ℕ) (at left k : ℕ) (st' : SectionBits) (part' : List ℕ) : Type 0 where
   pub holes : HolesIn first lead each total g
   pub index : j + total ≤ 16800
   pub reading : Reading q j total d st part
@@ -199,18 +209,19 @@ pub record Stretches (q j first lead each total : ℕ) (d g st part : List ℕ) 
   pub read : ReadOn q j k (holed_place first lead each) d g st part st' part'
 
 pub holes-start :
-    {q j first lead each total at left : ℕ} {d g st part : List ℕ} → HolesIn first lead each total g → j + total ≤ 16800 → Reading q j total d st part
+    {q j first lead each total at left : ℕ} {d g : List ℕ} {st : SectionBits} {part : List ℕ} → HolesIn first lead each total g → j + total ≤ 16800 → Reading q j total d st part
     → Stretch first lead each 0 at left → Stretches q j first lead each total d g st part at left 0 st part
 holes-start h i s x = record { holes = h; index = i; reading = s; stretches = stretches-start x; read = read_none s }
 
 module _
-    {q j first lead each total at left k n : ℕ} {d g st part st' part' : List ℕ} (x : Stretches q j first lead each total d g st part at left k st' part')
+    {q j first lead each total at left k n : ℕ} {d g : List ℕ} {st : SectionBits} {part : List ℕ} {st' : SectionBits} {part' : List ℕ}
+    (x : Stretches q j first lead each total d g st part at left k st' part')
     (l : k < total) (m : Smaller left (total - k) n) where
   pub holes-next : SinglesIn at n g × Reading q (j + k) n d st' part'
   holes-next = (stretch-in x.stretches l m x.holes, read-later x.read x.reading n (omega (arith, m.second)))
 
   pub holes-on :
-      {st'' part'' : List ℕ} → ReadOn q (j + k) n (◌+◌ at) d g st' part' st'' part''
+      {st'' : SectionBits} {part'' : List ℕ} → ReadOn q (j + k) n (◌+◌ at) d g st' part' st'' part''
       → Stretches q j first lead each total d g st part (at + (n + 1)) each (k + n) st'' part''
   holes-on o =
       record {
@@ -236,7 +247,7 @@ module _ (P T j : ℕ) {run : Run} {gap start step m : ℕ} (p : RunPairs run ga
           omega (arith, p.place, p.paired.odd (i / 2), ap (place_at run.mask) k, ap (λ (x : ℕ). gap * x) o, mul-one gap)
 
   pub paired-read :
-      {q n : ℕ} {d g st part st' part' : List ℕ} → 2 * m ≡ n → ReadOn q j n (pair_element P T j start step gap) d g st part st' part'
+      {q n : ℕ} {d g : List ℕ} {st : SectionBits} {part : List ℕ} {st' : SectionBits} {part' : List ℕ} → 2 * m ≡ n → ReadOn q j n (pair_element P T j start step gap) d g st part st' part'
       → ReadOn q j (run_count run) (run_element P T j run) d g st part st' part'
   paired-read is o = rw (run-total p ∙ is) (read_same (λ i l. paired-element i) o)
 
@@ -256,12 +267,14 @@ beside-run run {off} f a b o =
 
 -- on one port
 pub single-read :
-    (T : ℕ) (run : Run) {q j n : ℕ} {d g st part st' part' : List ℕ} {e : ℕ → ℕ} → n ≡ run_count run → ((k : ℕ) → e k ≡ run.first + place_at run.mask k)
+    (T : ℕ) (run : Run) {q j n : ℕ} {d g : List ℕ} {st : SectionBits} {part : List ℕ} {st' : SectionBits} {part' : List ℕ} {e : ℕ → ℕ}
+    → n ≡ run_count run → ((k : ℕ) → e k ≡ run.first + place_at run.mask k)
     → ReadOn q j n e d g st part st' part' → ReadOn q j (run_count run) (run_element 1 T j run) d g st part st' part'
 unfolding own_port
 single-read T run is here x = rw (← is) (read_same (λ i l. omega (arith, here i, zero-mul T)) x)
 
 pub one-read :
-    (T : ℕ) (run : Run) {P q j : ℕ} {d g st part st' part' : List ℕ} → P ≡ 1 → ReadOn q j (run_count run) (run_element 1 T j run) d g st part st' part'
+    (T : ℕ) (run : Run) {P q j : ℕ} {d g : List ℕ} {st : SectionBits} {part : List ℕ} {st' : SectionBits} {part' : List ℕ}
+    → P ≡ 1 → ReadOn q j (run_count run) (run_element 1 T j run) d g st part st' part'
     → ReadOn q j (run_count run) (run_element P T j run) d g st part st' part'
 one-read T run e x = rw e x

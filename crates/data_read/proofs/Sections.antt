@@ -20,7 +20,10 @@ use Rattle.layout.specs.Owners.{symbols, carriers}
 use Rattle.payload.specs.Sections.{section_bytes}
 use Rattle.places.specs.Places.{places_of}
 use Rattle.recovery.specs.Recovery.{word_of, section_of}
+use Rattle.section_bits.specs.declared.SectionBits.{SectionBits}
 use Rattle.section_bits.specs.Gathering.{up_to, Bits, bits_in, Begun, Flushed}
+use Rattle.walk.specs.declared.Row.{Row}
+use Rattle.walk.specs.declared.Span.{Span}
 use Rattle.walk.specs.declared.Cursor.{Cursor}
 use Rattle.walk.specs.declared.Run.{Run}
 use Rattle.walk.specs.Addresses.{RunOpen}
@@ -38,7 +41,7 @@ use Rattle.data_read.proofs.SymbolBits.{known-stands}
 use Rattle.data_read.proofs.Gatherings.{read_none, read-later, read_join}
 
 -- ---- run after run
-module _ {a : Area} {q : ℕ} {rows spans d g st part : List ℕ} (h : RunsIn a q rows spans d g st part) where
+module _ {a : Area} {q : ℕ} {rows : List Row} {spans : List Span} {d g : List ℕ} {st : SectionBits} {part : List ℕ} (h : RunsIn a q rows spans d g st part) where
   abbrev P : ℕ
   P = a.cell.ports
 
@@ -50,7 +53,7 @@ module _ {a : Area} {q : ℕ} {rows spans d g st part : List ℕ} (h : RunsIn a 
 
   module _ {S W places : ℕ} (es : S ≡ symbols a.cell) (ew : W ≡ carriers a.cell) (ep : places ≡ places_of a.cell) where
     module _
-        {c : Cursor} {j : ℕ} {st' part' : List ℕ} (k : Going a q rows spans d g st part c j st' part') (less : c.s < S) {run : Run}
+        {c : Cursor} {j : ℕ} {st' : SectionBits} {part' : List ℕ} (k : Going a q rows spans d g st part c j st' part') (less : c.s < S) {run : Run}
         (er : run ≡ cursor_run W rows spans c) where
       laid : Laid (area_at a) T j run
       laid = area-laid h.runs es ew ep k.cursor less er
@@ -71,7 +74,7 @@ module _ {a : Area} {q : ℕ} {rows spans d g st part : List ℕ} (h : RunsIn a 
           (sym (nth_of (area_at a) T (run.first + place_at run.mask i) (laid.owned i m) (laid.within i m)) ∙ ap (area_place a) (laid.index i m))
 
       pub area_on :
-          {c' : Cursor} {j' : ℕ} {st'' part'' : List ℕ} → c' ≡ cursor_next rows c
+          {c' : Cursor} {j' : ℕ} {st'' : SectionBits} {part'' : List ℕ} → c' ≡ cursor_next rows c
           → RunRead q P (places) j run d g st' part' j' st'' part''
           → Going a q rows spans d g st part c' j' st'' part''
       area_on {c'} {j'} {st''} {part''} ec x =
@@ -85,7 +88,7 @@ module _ {a : Area} {q : ℕ} {rows spans d g st part : List ℕ} (h : RunsIn a 
           })
 
     pub area-ends :
-        {c : Cursor} {j : ℕ} {st' part' : List ℕ} → Going a q rows spans d g st part c j st' part' → S ≤ c.s
+        {c : Cursor} {j : ℕ} {st' : SectionBits} {part' : List ℕ} → Going a q rows spans d g st part c j st' part' → S ≤ c.s
         → ReadOn q 0 (area_count a) (symbol_element a) d g st part st' part'
     area-ends {c} {j} {st'} {part'} k m =
         subst (λ (x : ℕ). ReadOn q 0 x (symbol_element a) d g st part st' part') (area-count h.runs es ew ep k.cursor m) k.read
@@ -107,8 +110,8 @@ module _ {a : Area} {q : ℕ} {d masks g : List ℕ} (h : AreaReads a q d masks 
   taken-off r i = refl
 
   -- ---- the section
-  module _ {part : List ℕ} (size : length part ≡ section_bytes (q * area_count a)) {r : Registers} {st : List ℕ} (b : Begun r st) where
-    pub runs-in : {rows spans : List ℕ} → AreaTables a rows spans → RunsIn a q rows spans d g st part
+  module _ {part : List ℕ} (size : length part ≡ section_bytes (q * area_count a)) {r : Registers} {st : SectionBits} (b : Begun r st) where
+    pub runs-in : {rows : List Row} {spans : List Span} → AreaTables a rows spans → RunsIn a q rows spans d g st part
     runs-in t =
         record {
           runs = record { cell = h.section.area.cell; room = h.section.area.room; signals = h.signals; tables = t };
@@ -122,7 +125,7 @@ module _ {a : Area} {q : ℕ} {d masks g : List ℕ} (h : AreaReads a q d masks 
         }
 
     pub section-read :
-        {st' part' part'' : List ℕ} → ReadOn q 0 (area_count a) (symbol_element a) d g st part st' part' → Flushed st' part' part''
+        {st' : SectionBits} {part' part'' : List ℕ} → ReadOn q 0 (area_count a) (symbol_element a) d g st part st' part' → Flushed st' part' part''
         → part'' ≡ section_of (area_bit a q g r) (q * area_count a)
     unfolding section_of
     section-read {st'} {part'} {part''} o f =

@@ -11,6 +11,7 @@ use Rattle.precoding.specs.Places.{own_port}
 use Rattle.constellation.specs.Axis.{Axis, word_of}
 use Rattle.grid.specs.Elements.{element_in}
 use Rattle.element_pairs.specs.Numbers.{element_from, upper}
+use Rattle.section_bits.specs.declared.SectionBits.{SectionBits}
 use Rattle.section_bits.specs.Gathering.{Bits, bits_in, State, Gathered}
 use Rattle.walk.specs.declared.Run.{Run}
 use Rattle.walk.specs.Runs.{run_count, place_at}
@@ -35,14 +36,14 @@ pub record Stands (q : ℕ) (d g : List ℕ) (b : ℕ → ℕ) (k e : ℕ) : Typ
 
 -- ---- n symbols, from index j on
 -- what reading them needs: the bits of those before are taken in, and the section has room for theirs
-pub record Reading (q j n : ℕ) (d st part : List ℕ) : Type 0 where
+pub record Reading (q j n : ℕ) (d : List ℕ) (st : SectionBits) (part : List ℕ) : Type 0 where
   pub table : Table q d
   pub state : State st
   pub stands : bits_in st ≡ q * j
   pub room : q * (j + n) ≤ 8 * length part
 
 -- they are read, the i-th of them from element e i
-pub record ReadOn (q j n : ℕ) (e : ℕ → ℕ) (d g st part st' part' : List ℕ) : Type 0 where
+pub record ReadOn (q j n : ℕ) (e : ℕ → ℕ) (d g : List ℕ) (st : SectionBits) (part : List ℕ) (st' : SectionBits) (part' : List ℕ) : Type 0 where
   pub state : State st'
   pub size : length part' ≡ length part
   pub stands : bits_in st' ≡ q * (j + n)
@@ -64,5 +65,5 @@ pub record BeforePairs (mask off : ℕ) : Type 0 where
   pub left : (mask ≡ 54 → ⊥) → off ≡ 0
 
 -- a run is read, and the index after it
-abbrev pub RunRead : ℕ → ℕ → ℕ → ℕ → Run → List ℕ → List ℕ → List ℕ → List ℕ → ℕ → List ℕ → List ℕ → Type 0
+abbrev pub RunRead : ℕ → ℕ → ℕ → ℕ → Run → List ℕ → List ℕ → SectionBits → List ℕ → ℕ → SectionBits → List ℕ → Type 0
 RunRead q P T j run d g st part x st' part' = (x ≡ j + run_count run) × ReadOn q j (run_count run) (run_element P T j run) d g st part st' part'

@@ -15,10 +15,10 @@ ghost use Rattle.data_read.specs.Areas.{symbol_element, RunsIn};
 
 use areas::Area;
 use constellation::symbol_of;
-use element_pairs::{apart_at, six_at, three_at};
+use element_pairs::{pair_at, three_at};
 use gold::Registers;
-use section_bits::give;
-use walk::{Holes, Run, port_offsets};
+use section_bits::SectionBits;
+use walk::{Holes, Run, Tables, port_offsets};
 
 // The bits of two symbols, whose elements are one number.
 fn two_symbols(d: &[u8; 32], q: u64, v: u64) -> u64
@@ -36,9 +36,10 @@ pub fn four(d: &[u8; 32], q: u64, x: u64, y: u64) -> u64
     (two_symbols(d, q, x) << (2 * q)) + two_symbols(d, q, y)
 }
 
-// Twice n pairs of places side by side: pair i at `start` + `step` × i.
-fn sides(
-    st: &mut [u64; 8],
+// Twice n pairs of places, two in each round: pair i at `start` + `step` × i, its second place `GAP` after the first.
+// Parameters one by one here and below: ports, places, index and first place as one struct by value were timed and are slower (docs/DECISIONS.md).
+fn rounds<const GAP: usize>(
+    st: &mut SectionBits,
     q: u64,
     d: &[u8; 32],
     grid: &[u8],
@@ -50,57 +51,23 @@ fn sides(
     step: usize,
     n: usize,
 )
-    requires { PairsIn ports places 1 j start step (2 * n) grid.now × Reading q j (4 * n) d.now st.old part.old }
-    ensures { ReadOn q j (4 * n) (pair_element ports places j start step 1) d.now grid.now st.old part.old st.new part.new }
+    requires { PairsIn ports places GAP j start step (2 * n) grid.now × Reading q j (4 * n) d.now st.old part.old }
+    ensures { ReadOn q j (4 * n) (pair_element ports places j start step GAP) d.now grid.now st.old part.old st.new part.new }
 {
     let p = port_offsets(ports, places, j);
-    let mut at = 3 * (p.own + start);
-    let mut next = 3 * (p.next + start + step);
-    let hop = 6 * step;
-    let mut i: usize = 0;
-    while i < n {
-        let x = six_at(grid, at);
-        let y = six_at(grid, next);
-        give(st, 4 * q, four(d, q, x, y), part);
-        at += hop;
-        next += hop;
-        i += 1;
-    }
-}
-
-// The same where a hole is between the two places of a pair.
-fn aparts(
-    st: &mut [u64; 8],
-    q: u64,
-    d: &[u8; 32],
-    grid: &[u8],
-    part: &mut [u8],
-    ports: u8,
-    places: usize,
-    j: usize,
-    start: usize,
-    n: usize,
-)
-    requires { PairsIn ports places 2 j start 3 (2 * n) grid.now × Reading q j (4 * n) d.now st.old part.old }
-    ensures { ReadOn q j (4 * n) (pair_element ports places j start 3 2) d.now grid.now st.old part.old st.new part.new }
-{
-    let p = port_offsets(ports, places, j);
-    let mut at = 3 * (p.own + start);
-    let mut next = 3 * (p.next + start + 3);
-    let mut i: usize = 0;
-    while i < n {
-        let x = apart_at(grid, at);
-        let y = apart_at(grid, next);
-        give(st, 4 * q, four(d, q, x, y), part);
-        at += 18;
-        next += 18;
-        i += 1;
+    let at = 3 * (p.own + start);
+    let next = 3 * (p.next + start + step);
+    for i in 0..n {
+        let on = 6 * step * i;
+        let x = pair_at::<GAP>(grid, at + on);
+        let y = pair_at::<GAP>(grid, next + on);
+        st.give(4 * q, four(d, q, x, y), part);
     }
 }
 
 // One pair, side by side.
 fn pair(
-    st: &mut [u64; 8],
+    st: &mut SectionBits,
     q: u64,
     d: &[u8; 32],
     grid: &[u8],
@@ -114,13 +81,13 @@ fn pair(
     ensures { ReadOn q j 2 (pair_element ports places j start 2 1) d.now grid.now st.old part.old st.new part.new }
 {
     let p = port_offsets(ports, places, j);
-    let x = six_at(grid, 3 * (p.own + start));
-    give(st, 2 * q, two_symbols(d, q, x), part);
+    let x = pair_at::<1>(grid, 3 * (p.own + start));
+    st.give(2 * q, two_symbols(d, q, x), part);
 }
 
 // Half blocks with all six places open: where their number is odd, one pair is left after those read two by two.
 fn all_six(
-    st: &mut [u64; 8],
+    st: &mut SectionBits,
     q: u64,
     d: &[u8; 32],
     grid: &[u8],
@@ -135,7 +102,7 @@ fn all_six(
     ensures { ReadOn q j (6 * halves) (pair_element ports places j first 2 1) d.now grid.now st.old part.old st.new part.new }
 {
     let n = 3 * halves / 2;
-    sides(st, q, d, grid, part, ports, places, j, first, 2, n);
+    rounds::<1>(st, q, d, grid, part, ports, places, j, first, 2, n);
     if 3 * halves % 2 == 1 {
         pair(
             st,
@@ -155,12 +122,12 @@ fn all_six(
 fn before_pairs(mask: usize) -> usize
     ensures { BeforePairs mask result }
 {
-    if mask == 54 { 1 } else { 0 }
+    usize::from(mask == 54)
 }
 
 // A run on two ports or four, from the channel's index j on.
 fn read_pairs(
-    st: &mut [u64; 8],
+    st: &mut SectionBits,
     q: u64,
     d: &[u8; 32],
     grid: &[u8],
@@ -173,24 +140,24 @@ fn read_pairs(
     requires { RunIn ports places j run grid.now × Reading q j (run_count run) d.now st.old part.old }
     ensures { ReadOn q j (run_count run) (run_element ports places j run) d.now grid.now st.old part.old st.new part.new }
 {
-    let first = run.first;
-    let halves = run.halves;
-    let mask = run.mask;
-    if mask == 63 {
-        all_six(st, q, d, grid, part, ports, places, j, first, halves);
-        return;
+    let Run {
+        first,
+        halves,
+        mask,
+    } = run;
+    match mask {
+        63 => all_six(st, q, d, grid, part, ports, places, j, first, halves),
+        45 => rounds::<2>(st, q, d, grid, part, ports, places, j, first, 3, halves),
+        _ => {
+            let start = first + before_pairs(mask);
+            rounds::<1>(st, q, d, grid, part, ports, places, j, start, 3, halves);
+        }
     }
-    if mask == 45 {
-        aparts(st, q, d, grid, part, ports, places, j, first, halves);
-        return;
-    }
-    let start = first + before_pairs(mask);
-    sides(st, q, d, grid, part, ports, places, j, start, 3, halves);
 }
 
 // n places side by side on one port.
 fn singles(
-    st: &mut [u64; 8],
+    st: &mut SectionBits,
     q: u64,
     d: &[u8; 32],
     grid: &[u8],
@@ -202,19 +169,15 @@ fn singles(
     requires { SinglesIn start n grid.now × Reading q j n d.now st.old part.old }
     ensures { ReadOn q j n (◌+◌ start) d.now grid.now st.old part.old st.new part.new }
 {
-    let mut at = 3 * start;
-    let mut i: usize = 0;
-    while i < n {
-        let x = three_at(grid, at);
-        give(st, q, symbol_of(d, x), part);
-        at += 3;
-        i += 1;
+    for i in 0..n {
+        let x = three_at(grid, 3 * (start + i));
+        st.give(q, symbol_of(d, x), part);
     }
 }
 
 // Twice n places side by side on one port, two in each round.
 fn doubles(
-    st: &mut [u64; 8],
+    st: &mut SectionBits,
     q: u64,
     d: &[u8; 32],
     grid: &[u8],
@@ -226,19 +189,15 @@ fn doubles(
     requires { SinglesIn start (2 * n) grid.now × Reading q j (2 * n) d.now st.old part.old }
     ensures { ReadOn q j (2 * n) (◌+◌ start) d.now grid.now st.old part.old st.new part.new }
 {
-    let mut at = 3 * start;
-    let mut i: usize = 0;
-    while i < n {
-        let x = six_at(grid, at);
-        give(st, 2 * q, two_symbols(d, q, x), part);
-        at += 6;
-        i += 1;
+    for i in 0..n {
+        let x = pair_at::<1>(grid, 3 * (start + 2 * i));
+        st.give(2 * q, two_symbols(d, q, x), part);
     }
 }
 
 // The places of a run with holes on one port, stretch after stretch between them: `lead` places before the first hole, then `each`.
 fn between(
-    st: &mut [u64; 8],
+    st: &mut SectionBits,
     q: u64,
     d: &[u8; 32],
     grid: &[u8],
@@ -256,8 +215,9 @@ fn between(
     let mut at = s.at;
     let mut left = s.left;
     let mut k: usize = 0;
+    // not a `for`: a stretch is as long as the holes leave it
     while k < total {
-        let n = areas::smaller(left, total - k);
+        let n = left.min(total - k);
         singles(st, q, d, grid, part, j + k, at, n);
         k += n;
         at += n + 1;
@@ -267,7 +227,7 @@ fn between(
 
 // A run on one port, from the channel's index j on, by its holes.
 fn read_single(
-    st: &mut [u64; 8],
+    st: &mut SectionBits,
     q: u64,
     d: &[u8; 32],
     grid: &[u8],
@@ -292,7 +252,7 @@ fn read_single(
 
 // A run of half blocks, from the channel's index j on; the index after it.
 fn read_run(
-    st: &mut [u64; 8],
+    st: &mut SectionBits,
     q: u64,
     d: &[u8; 32],
     grid: &[u8],
@@ -317,27 +277,27 @@ fn read_run(
 
 // All runs of an area, by its tables.
 fn read_runs(
-    st: &mut [u64; 8],
+    st: &mut SectionBits,
     q: u64,
     d: &[u8; 32],
     grid: &[u8],
     part: &mut [u8],
     a: Area,
-    rows: &[u8; 45],
-    spans: &[u8; 512],
+    tables: &Tables,
 )
-    requires { RunsIn a q rows.now spans.now d.now grid.now st.old part.old }
+    requires { RunsIn a q tables.now.rows tables.now.spans d.now grid.now st.old part.old }
     ensures { ReadOn q 0 (area_count a) (symbol_element a) d.now grid.now st.old part.old st.new part.new }
 {
     let symbols = layout::symbols(a.cell);
     let carriers = layout::carriers(a.cell);
     let places = layout::places(a.cell);
-    let mut c = walk::start(rows);
+    let mut c = tables.start();
     let mut j: usize = 0;
+    // not a `for`: a row has as many runs as its spans say
     while c.s < symbols {
-        let run = walk::run_at(c, carriers, rows, spans);
+        let run = tables.run_at(c, carriers);
         j = read_run(st, q, d, grid, part, run, j, a.cell.ports, places);
-        c = walk::next(c, rows);
+        c = tables.next(c);
     }
 }
 
@@ -356,10 +316,9 @@ pub fn read_area(
     requires { AreaReads a q d.now masks.now grid.now × (length part.old ≡ section_bytes (q * area_count a)) }
     ensures { part.new ≡ section_of (area_bit a q grid.now r) (q * area_count a) }
 {
-    let mut rows: [u8; 45] = [0; 45];
-    let mut spans: [u8; 512] = [0; 512];
-    areas::set_tables(a, masks, &mut rows, &mut spans);
-    let mut st = section_bits::begin(r);
-    read_runs(&mut st, q as u64, d, grid, part, a, &rows, &spans);
-    section_bits::flush(&st, part);
+    let mut tables = Tables::new();
+    areas::set_tables(a, masks, &mut tables);
+    let mut st = SectionBits::begin(r);
+    read_runs(&mut st, u64::from(q), d, grid, part, a, &tables);
+    st.flush(part);
 }

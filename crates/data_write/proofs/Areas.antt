@@ -10,6 +10,7 @@ use borrow.Author.Tests.{ne_eqb}
 use Rattle.base.specs.declared.Element.{Element}
 use Rattle.gold.specs.declared.Registers.{Registers}
 use Rattle.modulation.specs.Symbols.{unit_of}
+use Rattle.codeword.specs.declared.ScrambledBits.{ScrambledBits}
 use Rattle.codeword.specs.Streams.{symbols_of}
 use Rattle.codeword.specs.Bits48.{Standing, Begins48, Ends}
 use Rattle.precoding.specs.Matrices.{unit_byte_on}
@@ -17,6 +18,8 @@ use Rattle.precoding.proofs.Ports.{unit-byte-on}
 use Rattle.layout.specs.Owners.{symbols, carriers}
 use Rattle.places.specs.Places.{places_of}
 use Rattle.grid.proofs.Writing.{same}
+use Rattle.walk.specs.declared.Span.{Span}
+use Rattle.walk.specs.declared.Row.{Row}
 use Rattle.walk.specs.declared.Cursor.{Cursor}
 use Rattle.walk.specs.declared.Run.{Run}
 use Rattle.walk.specs.Runs.{run_count}
@@ -41,14 +44,14 @@ one-group q e = ap (λ (x : ℕ). bits_at_once x q) e
 pair-group : {P : ℕ} (q : ℕ) → (P ≡ 1 → ⊥) → bits_at_once P q ≡ 2 * q
 pair-group {P} q n = ap (λ (b : Bool). cond b q (2 * q)) (ne_eqb P 1 n)
 
-module _ {P q j : ℕ} {t bits st : List ℕ} (s : Sending (bits_at_once P q) q j t bits st) where
+module _ {P q j : ℕ} {t bits : List ℕ} {st : ScrambledBits} (s : Sending (bits_at_once P q) q j t bits st) where
   pub one-sending : P ≡ 1 → Sending q q j t bits st
   one-sending e = subst (λ (x : ℕ). Sending x q j t bits st) (one-group q e) s
 
   pub pairs-sending : (P ≡ 1 → ⊥) → Sending (2 * q) q j t bits st
   pairs-sending n = subst (λ (x : ℕ). Sending x q j t bits st) (pair-group q n) s
 
-module _ {P T j q next : ℕ} {run : Run} {t bits st before st' after : List ℕ} where
+module _ {P T j q next : ℕ} {run : Run} {t bits : List ℕ} {st : ScrambledBits} {before : List ℕ} {st' : ScrambledBits} {after : List ℕ} where
   pub one-filled : P ≡ 1 → RunFilled q 1 T j run q t bits st before next st' after → RunFilled (bits_at_once P q) P T j run q t bits st before next st' after
   one-filled e f =
       subst (λ (x : ℕ). RunFilled x P T j run q t bits st before next st' after) (sym (one-group q e))
@@ -59,7 +62,7 @@ module _ {P T j q next : ℕ} {run : Run} {t bits st before st' after : List ℕ
   pairs-filled n f = subst (λ (x : ℕ). RunFilled x P T j run q t bits st before next st' after) (sym (pair-group q n)) f
 
 -- ---- run after run
-module _ {a : Area} {q : ℕ} {rows spans t bits st before : List ℕ} (h : RunsIn a q rows spans t bits st before) where
+module _ {a : Area} {q : ℕ} {rows : List Row} {spans : List Span} {t bits : List ℕ} {st : ScrambledBits} {before : List ℕ} (h : RunsIn a q rows spans t bits st before) where
   abbrev P : ℕ
   P = ports_of a
 
@@ -80,13 +83,13 @@ module _ {a : Area} {q : ℕ} {rows spans t bits st before : List ℕ} (h : Runs
 
   module _ {S W places : ℕ} (es : S ≡ symbols a.cell) (ew : W ≡ carriers a.cell) (ep : places ≡ places_of a.cell) where
     module _
-        {c : Cursor} {j : ℕ} {st' grid : List ℕ} (g : Going a q rows spans t bits st before c j st' grid) (l : c.s < S) {run : Run}
+        {c : Cursor} {j : ℕ} {st' : ScrambledBits} {grid : List ℕ} (g : Going a q rows spans t bits st before c j st' grid) (l : c.s < S) {run : Run}
         (er : run ≡ cursor_run W rows spans c) where
       pub area-run : run.halves ≤ 255 → RunOpen P (places) j run grid × Sending (group_in a q) q j t bits st'
       area-run short = (area-open (runs-later h.runs g.size) es ew ep g.cursor l er short, later-sending h.sending g.stands)
 
       pub area_on :
-          {c' : Cursor} {j' : ℕ} {st'' after : List ℕ} → c' ≡ cursor_next rows c
+          {c' : Cursor} {j' : ℕ} {st'' : ScrambledBits} {after : List ℕ} → c' ≡ cursor_next rows c
           → RunFilled (group_in a q) P (places) j run q t bits st' grid j' st'' after → Going a q rows spans t bits st before c' j' st'' after
       area_on {c'} {j'} {st''} {after} ec x =
           let f : RunFilled (group_in a q) P T j run q t bits st' grid j' st'' after = rw ep at x in
@@ -102,7 +105,7 @@ module _ {a : Area} {q : ℕ} {rows spans t bits st before : List ℕ} (h : Runs
           })
 
     pub area-ends :
-        {c : Cursor} {j : ℕ} {st' grid : List ℕ} → Going a q rows spans t bits st before c j st' grid → S ≤ c.s
+        {c : Cursor} {j : ℕ} {st' : ScrambledBits} {grid : List ℕ} → Going a q rows spans t bits st before c j st' grid → S ≤ c.s
         → RunsDone a q rows spans t bits st before st' grid
     unfolding area_count area_index area_sends area_element own_sends sent_element
     area-ends {j = j} {st'} g l =
@@ -115,13 +118,13 @@ module _ {a : Area} {q : ℕ} {rows spans t bits st before : List ℕ} (h : Runs
         }
 
 -- ---- the state and the tables as they are made
-pub begins : {u : ℕ} (q : ℕ) {bits st : List ℕ} {r : Registers} → Begins48 bits r st → Standing u bits r (q * 0) st
+pub begins : {u : ℕ} (q : ℕ) {bits : List ℕ} {st : ScrambledBits} {r : Registers} → Begins48 bits r st → Standing u bits r (q * 0) st
 begins {u} q {bits} {st} {r} b =
     subst (λ (x : ℕ). Standing u bits r x st) (sym (mul-zero q))
     (record { ready = b.ready; most = omega (arith, b.full); groups = 0; whole = sym (mul-zero u) })
 
 module _ {a : Area} {q : ℕ} {t masks grid : List ℕ} (h : FillIn a q t masks grid) where
-  pub runs-in : {rows spans bits st : List ℕ} {r : Registers} → AreaTables a rows spans → Begins48 bits r st → RunsIn a q rows spans t bits st grid
+  pub runs-in : {rows : List Row} {spans : List Span} {bits : List ℕ} {st : ScrambledBits} {r : Registers} → AreaTables a rows spans → Begins48 bits r st → RunsIn a q rows spans t bits st grid
   runs-in {r = r} x b =
       record {
         runs = record { cell = h.area.cell; room = h.area.room; signals = h.signals; tables = x };
@@ -137,7 +140,8 @@ module _ {a : Area} {q : ℕ} {t masks grid : List ℕ} (h : FillIn a q t masks 
       }
 
   pub area-filled :
-      {rows spans bits st st' after : List ℕ} {r x : Registers} → Begins48 bits r st → RunsDone a q rows spans t bits st grid st' after → Ends r st' x
+      {rows : List Row} {spans : List Span} {bits : List ℕ} {st st' : ScrambledBits} {after : List ℕ} {r x : Registers}
+      → Begins48 bits r st → RunsDone a q rows spans t bits st grid st' after → Ends r st' x
       → AreaFilled a q t bits r grid x after
   area-filled {bits = bits} {r = r} b d e =
       record {

@@ -4,6 +4,7 @@ use mathlib.Core.Path.{◌≡◌, sym, ◌∙◌, subst}
 use mathlib.Core.List.{List}
 use native.Mathlib.Omega.{arith}
 use Rattle.gold.specs.declared.Registers.{Registers}
+use Rattle.codeword.specs.declared.ScrambledBits.{ScrambledBits}
 use Rattle.codeword.specs.Streams.{symbols_of}
 use Rattle.codeword.specs.Bits48.{Standing, CanTake, Takes}
 use Rattle.codeword.proofs.Orders.{pair-groups}
@@ -24,13 +25,13 @@ use Rattle.data_write.proofs.Rounds.{pair-filled}
 
 -- ---- one pair
 module _
-    {P T j start q : ℕ} {t bits st grid : List ℕ} (h : PairsIn P T 1 j start 2 1 grid) (s : Sending (2 * q) q j t bits st) {r : PortOffsets}
+    {P T j start q : ℕ} {t bits : List ℕ} {st : ScrambledBits} {grid : List ℕ} (h : PairsIn P T 1 j start 2 1 grid) (s : Sending (2 * q) q j t bits st) {r : PortOffsets}
     (p : OffsetsAt P T j r) where
   pub one-takes : CanTake (2 * q) bits st
   one-takes = can-take {j = j} (pair-groups q s.order) s.order (omega (arith, h.index)) s.standing
 
   pub one-done :
-      {z v u : ℕ} {st' after : List ℕ} → Takes (2 * q) bits st z st' → FromTable t (z / 2 ^ q) z v u
+      {z v u : ℕ} {st' : ScrambledBits} {after : List ℕ} → Takes (2 * q) bits st z st' → FromTable t (z / 2 ^ q) z v u
       → PairPut 1 (3 * (r.own + start)) (3 * r.across) v u grid after → PairsDone P T 1 j start 2 1 1 q t bits st grid st' after
   one-done {z} {v} {u} {st'} {after} tk x a =
       record {
@@ -48,13 +49,14 @@ module _
 
 -- ---- pairs after pairs
 pub later-sending :
-    {u q j j' : ℕ} {t bits st st' : List ℕ} → Sending u q j t bits st → ((r : Registers) → Standing u bits r (q * j) st → Standing u bits r (q * j') st')
+    {u q j j' : ℕ} {t bits : List ℕ} {st st' : ScrambledBits} → Sending u q j t bits st → ((r : Registers) → Standing u bits r (q * j) st → Standing u bits r (q * j') st')
     → Sending u q j' t bits st'
 later-sending s f =
     record { order = s.order; byte = s.byte; small = s.small; table = s.table; pair = s.pair; standing = f s.pair s.standing }
 
 pub done-join :
-    {P T gap j start step j' start' q : ℕ} {t bits st f st' g st'' k : List ℕ} (a b m : ℕ) → j' ≡ j + 2 * a → start' ≡ start + step * a → a + b ≡ m
+    {P T gap j start step j' start' q : ℕ} {t bits : List ℕ} {st : ScrambledBits} {f : List ℕ} {st' : ScrambledBits} {g : List ℕ} {st'' : ScrambledBits} {k : List ℕ}
+    (a b m : ℕ) → j' ≡ j + 2 * a → start' ≡ start + step * a → a + b ≡ m
     → PairsDone P T gap j start step a a q t bits st f st' g → PairsDone P T gap j' start' step b b q t bits st' g st'' k
     → PairsDone P T gap j start step m m q t bits st f st'' k
 done-join {P} {T} {gap} {j} {start} {step} {j'} {start'} {q} {t} {bits} {st} {f} {st'} {g} {st''} {k} a b m ej es em p s =
@@ -78,7 +80,7 @@ done-join {P} {T} {gap} {j} {start} {step} {j'} {start'} {q} {t} {bits} {st} {f}
 
 -- half blocks with all six open
 module _
-    (j first halves : ℕ) {P T q : ℕ} {t bits st f st' g : List ℕ}
+    (j first halves : ℕ) {P T q : ℕ} {t bits : List ℕ} {st : ScrambledBits} {f : List ℕ} {st' : ScrambledBits} {g : List ℕ}
     (d : PairsDone P T 1 j first 2 (2 * (3 * halves / 2)) (2 * (3 * halves / 2)) q t bits st f st' g) where
   pub sixes-sending : Sending (2 * q) q j t bits st → Sending (2 * q) q (j + 4 * (3 * halves / 2)) t bits st'
   sixes-sending s =
@@ -86,7 +88,7 @@ module _
       later-sending s (λ r c. subst (λ (x : ℕ). Standing (2 * q) bits r (q * x) st') e (d.stands r c))
 
   pub sixes-odd :
-      {st'' k : List ℕ} → 3 * halves % 2 ≡ 1 → PairsDone P T 1 (j + 4 * (3 * halves / 2)) (first + 4 * (3 * halves / 2)) 2 1 1 q t bits st' g st'' k
+      {st'' : ScrambledBits} {k : List ℕ} → 3 * halves % 2 ≡ 1 → PairsDone P T 1 (j + 4 * (3 * halves / 2)) (first + 4 * (3 * halves / 2)) 2 1 1 q t bits st' g st'' k
       → PairsDone P T 1 j first 2 (3 * halves) (3 * halves) q t bits st f st'' k
   sixes-odd e s = done-join (2 * (3 * halves / 2)) 1 (3 * halves) (omega arith) (omega arith) (omega arith) d s
 
@@ -95,7 +97,7 @@ module _
 
 -- ---- a run, by its form
 pub run-done :
-    {P T gap start step m j q next : ℕ} {run : Run} {t bits st grid st' after : List ℕ} → RunPairs run gap start step m → next ≡ j + 2 * m
+    {P T gap start step m j q next : ℕ} {run : Run} {t bits : List ℕ} {st : ScrambledBits} {grid : List ℕ} {st' : ScrambledBits} {after : List ℕ} → RunPairs run gap start step m → next ≡ j + 2 * m
     → PairsDone P T gap j start step m m q t bits st grid st' after → RunFilled (2 * q) P T j run q t bits st grid next st' after
 run-done p on d =
     let total = run-total p in

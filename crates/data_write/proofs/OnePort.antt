@@ -7,6 +7,7 @@ use native.Mathlib.Omega.{arith}
 use lib.ListN.{length}
 use Rattle.base.specs.Counts.{cnt}
 use Rattle.gold.specs.declared.Registers.{Registers}
+use Rattle.codeword.specs.declared.ScrambledBits.{ScrambledBits}
 use Rattle.codeword.specs.Streams.{symbols_of}
 use Rattle.codeword.specs.Bits48.{Standing, CanTake, Takes}
 use Rattle.codeword.proofs.Orders.{single-groups, double-groups}
@@ -29,7 +30,7 @@ use Rattle.data_write.specs.OnePort.{PlacesDone, SingleRounds, Stretches}
 use Rattle.data_write.proofs.Source.{stands_on, can-take, two-symbols, single-has, double-first, double-second}
 
 -- ---- none yet, and all
-module _ {j n : ℕ} {e : ℕ → ℕ} {q : ℕ} {t bits st before : List ℕ} where
+module _ {j n : ℕ} {e : ℕ → ℕ} {q : ℕ} {t bits : List ℕ} {st : ScrambledBits} {before : List ℕ} where
   none-placed : PlacesDone j n e 0 q t bits st before st before
   none-placed =
       record {
@@ -38,10 +39,10 @@ module _ {j n : ℕ} {e : ℕ → ℕ} {q : ℕ} {t bits st before : List ℕ} w
         done = λ own T unit r tb s a. written_none own 1 T (sent_element own 1 T unit (symbols_of q bits r)) j before;
       }
 
-  pub all_placed : {i : ℕ} {st' after : List ℕ} → i ≤ n → n ≤ i → PlacesDone j n e i q t bits st before st' after → PlacesDone j n e n q t bits st before st' after
+  pub all_placed : {i : ℕ} {st' : ScrambledBits} {after : List ℕ} → i ≤ n → n ≤ i → PlacesDone j n e i q t bits st before st' after → PlacesDone j n e n q t bits st before st' after
   all_placed {i} {st'} {after} few l d = let z : i ≡ n = omega arith in subst (λ (x : ℕ). PlacesDone j n e x q t bits st before st' after) z d
 
-pub singles-start : {j start n each q : ℕ} {t bits st before : List ℕ} → SingleRounds j start n each q t bits st before (3 * start) 0 st before
+pub singles-start : {j start n each q : ℕ} {t bits : List ℕ} {st : ScrambledBits} {before : List ℕ} → SingleRounds j start n each q t bits st before (3 * start) 0 st before
 singles-start {j} {start} {n} {each} {q} {t} {bits} {st} {before} =
     let e : 0 ≡ each * 0 = omega arith in
     record {
@@ -50,9 +51,16 @@ singles-start {j} {start} {n} {each} {q} {t} {bits} {st} {before} =
       done = subst (λ (x : ℕ). PlacesDone j (each * n) (◌+◌ start) x q t bits st before st before) e none-placed;
     }
 
+-- the byte in another form
+pub singles-at :
+    {j start n each q : ℕ} {t bits : List ℕ} {st : ScrambledBits} {before : List ℕ} {at at' i : ℕ} {st' : ScrambledBits} {grid : List ℕ} → at' ≡ at
+    → SingleRounds j start n each q t bits st before at i st' grid → SingleRounds j start n each q t bits st before at' i st' grid
+singles-at e d = record { rounds = d.rounds; place = e ∙ d.place; done = d.done }
+
 -- ---- one place in each round
 module _
-    {j start n q : ℕ} {t bits st before : List ℕ} (h : SinglesIn start n before × (j + n ≤ 16800) × Sending q q j t bits st) {at i : ℕ} {st' grid : List ℕ}
+    {j start n q : ℕ} {t bits : List ℕ} {st : ScrambledBits} {before : List ℕ} (h : SinglesIn start n before × (j + n ≤ 16800) × Sending q q j t bits st)
+    {at i : ℕ} {st' : ScrambledBits} {grid : List ℕ}
     (d : SingleRounds j start n 1 q t bits st before at i st' grid) (l : i < n) where
   pub single-takes : CanTake q bits st'
   single-takes = can-take {j = j + 1 * i} (single-groups q h.2.order) h.2.order (omega (arith, h.1)) (d.done.stands h.2.pair h.2.standing)
@@ -61,7 +69,7 @@ module _
   single-fits = (omega (arith, d.place, h.0.0, d.done.size), omega (arith, d.place, h.0.1))
 
   pub singles-on :
-      {z v : ℕ} {st'' k : List ℕ} → Takes q bits st' z st'' → v ≡ entry_of t z → length k ≡ length grid → OnePut at v grid k
+      {z v : ℕ} {st'' : ScrambledBits} {k : List ℕ} → Takes q bits st' z st'' → v ≡ entry_of t z → length k ≡ length grid → OnePut at v grid k
       → SingleRounds j start n 1 q t bits st before (at + 3) (i + 1) st'' k
   singles-on {z} {v} {st''} {k} tk ev same p =
       record {
@@ -92,7 +100,7 @@ module _
           d.place p))
 
 pub singles-end :
-    {j start n q at i : ℕ} {t bits st before st' grid : List ℕ} → SingleRounds j start n 1 q t bits st before at i st' grid → n ≤ i
+    {j start n q at i : ℕ} {t bits : List ℕ} {st : ScrambledBits} {before : List ℕ} {st' : ScrambledBits} {grid : List ℕ} → SingleRounds j start n 1 q t bits st before at i st' grid → n ≤ i
     → PlacesDone j n (◌+◌ start) n q t bits st before st' grid
 singles-end {j} {start} {n} {q} {t = t} {bits} {st} {before} {st'} {grid} d l =
     let e : 1 * n ≡ n = omega arith in
@@ -100,7 +108,8 @@ singles-end {j} {start} {n} {q} {t = t} {bits} {st} {before} {st'} {grid} d l =
 
 -- ---- two
 module _
-    {j start n q : ℕ} {t bits st before : List ℕ} (h : SinglesIn start (2 * n) before × (j + 2 * n ≤ 16800) × Sending q q j t bits st) {at i : ℕ} {st' grid : List ℕ}
+    {j start n q : ℕ} {t bits : List ℕ} {st : ScrambledBits} {before : List ℕ} (h : SinglesIn start (2 * n) before × (j + 2 * n ≤ 16800) × Sending q q j t bits st)
+    {at i : ℕ} {st' : ScrambledBits} {grid : List ℕ}
     (d : SingleRounds j start n 2 q t bits st before at i st' grid) (l : i < n) where
   pub double-takes : CanTake (2 * q) bits st'
   double-takes = can-take {j = j + 2 * i} (double-groups q h.2.order) h.2.order (omega (arith, h.1)) (d.done.stands h.2.pair h.2.standing)
@@ -109,7 +118,7 @@ module _
   double-fits = (omega (arith, d.place, h.0.0, d.done.size), omega (arith, d.place, h.0.1))
 
   pub doubles-on :
-      {z v : ℕ} {st'' k : List ℕ} → Takes (2 * q) bits st' z st'' → v ≡ joint_of (entry_of t (z / 2 ^ q)) (entry_of t z) → length k ≡ length grid
+      {z v : ℕ} {st'' : ScrambledBits} {k : List ℕ} → Takes (2 * q) bits st' z st'' → v ≡ joint_of (entry_of t (z / 2 ^ q)) (entry_of t z) → length k ≡ length grid
       → TwoPut 1 at v grid k → SingleRounds j start n 2 q t bits st before (at + 6) (i + 1) st'' k
   doubles-on {z} {v} {st''} {k} tk ev same p =
       record {
@@ -147,24 +156,24 @@ module _
           d.place p))
 
 pub doubles-end :
-    {j start n q at i : ℕ} {t bits st before st' grid : List ℕ} → SingleRounds j start n 2 q t bits st before at i st' grid → n ≤ i
+    {j start n q at i : ℕ} {t bits : List ℕ} {st : ScrambledBits} {before : List ℕ} {st' : ScrambledBits} {grid : List ℕ} → SingleRounds j start n 2 q t bits st before at i st' grid → n ≤ i
     → PlacesDone j (2 * n) (◌+◌ start) (2 * n) q t bits st before st' grid
 doubles-end d l = all_placed (omega (arith, d.rounds)) (omega arith) d.done
 
 -- ---- stretches
 pub holes-start :
-    {j first lead each total q start c : ℕ} {t bits st before : List ℕ} → Stretch first lead each 0 start c
+    {j first lead each total q start c : ℕ} {t bits : List ℕ} {st : ScrambledBits} {before : List ℕ} → Stretch first lead each 0 start c
     → Stretches j first lead each total q t bits st before start c 0 st before
 holes-start s = record { stretches = stretches-start s; done = none-placed }
 
 module _
-    {j first lead each total q at left k n : ℕ} {t bits st before st' grid : List ℕ} (h : HolesIn first lead each total before)
+    {j first lead each total q at left k n : ℕ} {t bits : List ℕ} {st : ScrambledBits} {before : List ℕ} {st' : ScrambledBits} {grid : List ℕ} (h : HolesIn first lead each total before)
     (d : Stretches j first lead each total q t bits st before at left k st' grid) (l : k < total) (m : Smaller left (total - k) n) where
   pub holes-next : SinglesIn at n grid
   holes-next = let s = stretch-in d.stretches l m h in (omega (arith, s.0, d.done.size), s.1)
 
   pub holes-on :
-      {st'' g : List ℕ} → PlacesDone (j + k) n (◌+◌ at) n q t bits st' grid st'' g
+      {st'' : ScrambledBits} {g : List ℕ} → PlacesDone (j + k) n (◌+◌ at) n q t bits st' grid st'' g
       → Stretches j first lead each total q t bits st before (at + (n + 1)) each (k + n) st'' g
   holes-on {st''} s =
       record {
@@ -183,7 +192,8 @@ module _
 
 -- ---- a run on one port
 pub single-filled :
-    {T j n q next : ℕ} {run : Run} {e : ℕ → ℕ} {t bits st grid st' after : List ℕ} → n ≡ run_count run → ((k : ℕ) → e k ≡ run.first + place_at run.mask k)
+    {T j n q next : ℕ} {run : Run} {e : ℕ → ℕ} {t bits : List ℕ} {st : ScrambledBits} {grid : List ℕ} {st' : ScrambledBits} {after : List ℕ}
+    → n ≡ run_count run → ((k : ℕ) → e k ≡ run.first + place_at run.mask k)
     → next ≡ run_count run → PlacesDone j n e n q t bits st grid st' after → RunFilled q 1 T j run q t bits st grid (j + next) st' after
 single-filled {T} {j} is at last d =
     record {

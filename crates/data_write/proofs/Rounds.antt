@@ -6,6 +6,7 @@ use mathlib.Core.List.{List}
 use native.Mathlib.Omega.{arith}
 use Rattle.gold.specs.declared.Registers.{Registers}
 use Rattle.modulation.specs.Symbols.{Order}
+use Rattle.codeword.specs.declared.ScrambledBits.{ScrambledBits}
 use Rattle.codeword.specs.Streams.{symbols_of}
 use Rattle.codeword.specs.Bits48.{Standing, CanTake, Takes}
 use Rattle.codeword.proofs.Orders.{quad-groups}
@@ -24,7 +25,7 @@ use Rattle.data_write.proofs.Source.{stands_on, can-take, SymbolsAt, pair-has, f
 
 module _ {P T gap j start step m : ℕ} {before : List ℕ} (h : PairsIn P T gap j start step m before) where
   -- none yet
-  pub none_done : {q : ℕ} {t bits st : List ℕ} → PairsDone P T gap j start step m 0 q t bits st before st before
+  pub none_done : {q : ℕ} {t bits : List ℕ} {st : ScrambledBits} → PairsDone P T gap j start step m 0 q t bits st before st before
   none_done {q} {t} {bits} {st} =
       record {
         size = refl;
@@ -67,14 +68,29 @@ round-made {own = own} {other} {own'} {other'} {middle = middle} x y a b =
 
 -- ---- and rounds after rounds, from a state that is the first one on
 pub rounds-first :
-    {P T gap j start step : ℕ} (n : ℕ) {q : ℕ} {t bits st st' before : List ℕ} {x : FirstRound} → PairsIn P T gap j start step (2 * n) before × Sending (2 * q) q j t bits st
+    {P T gap j start step : ℕ} (n : ℕ) {q : ℕ} {t bits : List ℕ} {st st' : ScrambledBits} {before : List ℕ} {x : FirstRound}
+    → PairsIn P T gap j start step (2 * n) before × Sending (2 * q) q j t bits st
     → FirstAt P T j start step x → st' ≡ st → Rounds P T gap j start step n q t bits st before x x.at x.next 0 st' before
 rounds-first {P} {T} {gap} {j} {start} {step} n {q} {t} {bits} {st} {before = before} {x} h p e =
-    subst (λ (s : List ℕ). Rounds P T gap j start step n q t bits st before x x.at x.next 0 s before) (sym e)
+    subst (λ (s : ScrambledBits). Rounds P T gap j start step n q t bits st before x x.at x.next 0 s before) (sym e)
     (record { pairs = h.0; sending = h.1; first = p; round = rw (p.at, p.next) (rounds-start h.0 p.ports); done = none_done h.0 })
 
+-- the bytes in another form
+pub rounds-at :
+    {P T gap j start step n q : ℕ} {t bits : List ℕ} {st : ScrambledBits} {before : List ℕ} {x : FirstRound} {at next at' next' i : ℕ} {st' : ScrambledBits}
+    {grid : List ℕ} → at' ≡ at → next' ≡ next → Rounds P T gap j start step n q t bits st before x at next i st' grid
+    → Rounds P T gap j start step n q t bits st before x at' next' i st' grid
+rounds-at e f d =
+    record {
+      pairs = d.pairs;
+      sending = d.sending;
+      first = d.first;
+      round = record { rounds = d.round.rounds; at_pair = e ∙ d.round.at_pair; next-pair = f ∙ d.round.next-pair };
+      done = d.done;
+    }
+
 module _
-    {P T gap j start step n q : ℕ} {t bits st before : List ℕ} {x : FirstRound} {at next i : ℕ} {st' grid : List ℕ}
+    {P T gap j start step n q : ℕ} {t bits : List ℕ} {st : ScrambledBits} {before : List ℕ} {x : FirstRound} {at next i : ℕ} {st' : ScrambledBits} {grid : List ℕ}
     (d : Rounds P T gap j start step n q t bits st before x at next i st' grid) (l : i < n) where
   pub round-takes : CanTake (4 * q) bits st'
   round-takes =
@@ -92,7 +108,7 @@ module _
   few_bytes = let b = round-small d.pairs d.first.ports d.round l in (b.0, b.1, omega (arith, d.pairs.index))
 
   filled_on :
-      {z v u v' u' : ℕ} {st'' f k : List ℕ} → Takes (4 * q) bits st' z st'' → FromTable t (z / 2 ^ q / 2 ^ q / 2 ^ q) (z / 2 ^ q / 2 ^ q) v u
+      {z v u v' u' : ℕ} {st'' : ScrambledBits} {f k : List ℕ} → Takes (4 * q) bits st' z st'' → FromTable t (z / 2 ^ q / 2 ^ q / 2 ^ q) (z / 2 ^ q / 2 ^ q) v u
       → FromTable t (z / 2 ^ q) z v' u' → PairPut gap at x.across v u grid f → PairPut gap next x.across v' u' f k
       → Rounds P T gap j start step n q t bits st before x (at + 6 * step) (next + 6 * step) (i + 1) st'' k
   filled_on {z} {v} {u} {v'} {u'} {st''} {f} {k} tk y y' a b =
@@ -138,15 +154,15 @@ module _
           (far next ∙ next-other d.pairs d.first.ports d.round l) second y' b.own b.other)))
 
   pub round-on :
-      {z : ℕ} {st'' k : List ℕ} → Takes (4 * q) bits st' z st'' → RoundDone gap z q t at next x.across grid k
+      {z : ℕ} {st'' : ScrambledBits} {k : List ℕ} → Takes (4 * q) bits st' z st'' → RoundDone gap z q t at next x.across grid k
       → Rounds P T gap j start step n q t bits st before x (at + 6 * step) (next + 6 * step) (i + 1) st'' k
   round-on tk y = filled_on tk y.first y.second y.put y.put_next
 
 pub filled-end :
-    {P T gap j start step n q at next i : ℕ} {x : FirstRound} {t bits st before st' st'' grid : List ℕ}
+    {P T gap j start step n q at next i : ℕ} {x : FirstRound} {t bits : List ℕ} {st : ScrambledBits} {before : List ℕ} {st' st'' : ScrambledBits} {grid : List ℕ}
     → Rounds P T gap j start step n q t bits st before x at next i st' grid → n ≤ i → st'' ≡ st'
     → PairsDone P T gap j start step (2 * n) (2 * n) q t bits st before st'' grid
 filled-end {P} {T} {gap} {j} {start} {step} {n} {q} {i = i} {t = t} {bits} {st} {before} {st'} {grid = grid} d l f =
     let e : 2 * i ≡ 2 * n = omega (arith, d.round.rounds) in
-    subst (λ (s : List ℕ). PairsDone P T gap j start step (2 * n) (2 * n) q t bits st before s grid) (sym f)
+    subst (λ (s : ScrambledBits). PairsDone P T gap j start step (2 * n) (2 * n) q t bits st before s grid) (sym f)
     (subst (λ (x : ℕ). PairsDone P T gap j start step (2 * n) x q t bits st before st' grid) e d.done)

@@ -12,6 +12,7 @@ use Rattle.base.specs.Counts.{cnt}
 use Rattle.gold.specs.declared.Registers.{Registers}
 use Rattle.gold.proofs.Window.{Holds}
 use Rattle.modulation.specs.Symbols.{Order, modulation_symbol}
+use Rattle.codeword.specs.declared.ScrambledBits.{ScrambledBits}
 use Rattle.codeword.specs.Streams.{outputs, symbols_of}
 use Rattle.codeword.specs.Bits48.{scrambled_bits, Standing, Groups, CanTake}
 use Rattle.codeword.proofs.Laws.{scrambled-lt}
@@ -31,7 +32,7 @@ pub stands_on : (q a c b : ℕ) → a + c ≡ b → q * a + c * q ≡ q * b
 stands_on q a c b e = ap (λ (x : ℕ). q * a + x) (mul_comm c q) ∙ sym (mul-add q a c) ∙ ap (λ (x : ℕ). q * x) e
 
 pub can-take :
-    {u n q j : ℕ} {bits st : List ℕ} {r : Registers} → Groups u n → Order q → j ≤ 16800 → Standing u bits r (q * j) st → CanTake n bits st
+    {u n q j : ℕ} {bits : List ℕ} {st : ScrambledBits} {r : Registers} → Groups u n → Order q → j ≤ 16800 → Standing u bits r (q * j) st → CanTake n bits st
 can-take {u} {n} {q} {j} {bits} {st} {r} g o few s =
     record { group = u; step = g; pair = r; taken = q * j; early = bits-early q o j few; standing = s }
 

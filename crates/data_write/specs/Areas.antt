@@ -2,10 +2,13 @@
 use Rattle.std.specs.Prelude.{ℕ, ◌*◌, ◌≡◌, List, length}
 use Rattle.gold.specs.declared.Registers.{Registers}
 use Rattle.gold.specs.Steps.{after as after_bits}
+use Rattle.codeword.specs.declared.ScrambledBits.{ScrambledBits}
 use Rattle.codeword.specs.Bits48.{Standing}
 use Rattle.codeword.specs.Streams.{symbols_of}
 use Rattle.places.specs.Places.{places_of}
 use Rattle.grid.specs.Writing.{Written}
+use Rattle.walk.specs.declared.Span.{Span}
+use Rattle.walk.specs.declared.Row.{Row}
 use Rattle.walk.specs.declared.Cursor.{Cursor}
 use Rattle.walk.specs.Parts.{sent_part}
 use Rattle.areas.specs.declared.Area.{Area}
@@ -22,12 +25,13 @@ abbrev pub group_in : Area → ℕ → ℕ
 group_in a q = bits_at_once (ports_of a) q
 
 -- what all runs of an area need
-pub record RunsIn (a : Area) (q : ℕ) (rows spans t bits st grid : List ℕ) : Type 0 where
+pub record RunsIn (a : Area) (q : ℕ) (rows : List Row) (spans : List Span) (t bits : List ℕ) (st : ScrambledBits) (grid : List ℕ) : Type 0 where
   pub runs : AreaRuns a rows spans grid
   pub sending : Sending (group_in a q) q 0 t bits st
 
 -- the cursor has come to index j, the places before it are filled, and the bits stand after their symbols
-pub record Going (a : Area) (q : ℕ) (rows spans t bits st before : List ℕ) (c : Cursor) (j : ℕ) (st' grid : List ℕ) : Type 0 where
+pub record Going (a : Area) (q : ℕ) (rows : List Row) (spans : List Span) (t bits : List ℕ) (st : ScrambledBits) (before : List ℕ)
+    (c : Cursor) (j : ℕ) (st' : ScrambledBits) (grid : List ℕ) : Type 0 where
   pub cursor : AreaAt a rows spans c j
   pub size : length grid ≡ length before
   pub stands : (r : Registers) → Standing (group_in a q) bits r (q * 0) st → Standing (group_in a q) bits r (q * j) st'
@@ -37,7 +41,7 @@ pub record Going (a : Area) (q : ℕ) (rows spans t bits st before : List ℕ) (
       (sent_element (area_at a) (ports_of a) (places_of a.cell) unit (symbols_of q bits r)) before grid
 
 -- what is done with all of them
-pub record RunsDone (a : Area) (q : ℕ) (rows spans t bits st before st' after : List ℕ) : Type 0 where
+pub record RunsDone (a : Area) (q : ℕ) (rows : List Row) (spans : List Span) (t bits : List ℕ) (st : ScrambledBits) (before : List ℕ) (st' : ScrambledBits) (after : List ℕ) : Type 0 where
   pub size : length after ≡ length before
   pub stands : (r : Registers) → Standing (group_in a q) bits r (q * 0) st → Standing (group_in a q) bits r (q * area_count a) st'
   pub written :

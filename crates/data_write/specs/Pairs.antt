@@ -1,6 +1,7 @@
 -- For the inner contracts and loops only: pairs and runs of a channel's places, filled whatever channel they belong to.
 use Rattle.std.specs.Prelude.{ℕ, ◌+◌, ◌*◌, ◌/◌, ◌^◌, ◌≤◌, ◌<◌, ◌≡◌, Bool, List, length}
 use Rattle.gold.specs.declared.Registers.{Registers}
+use Rattle.codeword.specs.declared.ScrambledBits.{ScrambledBits}
 use Rattle.codeword.specs.Bits48.{Standing}
 use Rattle.element_pairs.specs.Numbers.{PairPut}
 use Rattle.codeword.specs.Streams.{symbols_of}
@@ -39,7 +40,7 @@ pub record FirstAt (P T j start step : ℕ) (x : FirstRound) : Type 0 where
   pub across : x.across ≡ 3 * offsets.across
 
 -- of m pairs i are filled, and the bits stand after their symbols
-pub record PairsDone (P T gap j start step m i q : ℕ) (t bits st before st' after : List ℕ) : Type 0 where
+pub record PairsDone (P T gap j start step m i q : ℕ) (t bits : List ℕ) (st : ScrambledBits) (before : List ℕ) (st' : ScrambledBits) (after : List ℕ) : Type 0 where
   pub size : length after ≡ length before
   pub stands : (r : Registers) → Standing (2 * q) bits r (q * j) st → Standing (2 * q) bits r (q * (j + 2 * i)) st'
   pub done :
@@ -47,7 +48,7 @@ pub record PairsDone (P T gap j start step m i q : ℕ) (t bits st before st' af
       → Written (sent_part own P T j (2 * i)) (sent_element own P T unit (symbols_of q bits r)) before after
 
 -- two pairs in each round, those of i rounds are filled
-pub record Rounds (P T gap j start step n q : ℕ) (t bits st before : List ℕ) (f : FirstRound) (at next i : ℕ) (st' grid : List ℕ) : Type 0 where
+pub record Rounds (P T gap j start step n q : ℕ) (t bits : List ℕ) (st : ScrambledBits) (before : List ℕ) (f : FirstRound) (at next i : ℕ) (st' : ScrambledBits) (grid : List ℕ) : Type 0 where
   pub pairs : PairsIn P T gap j start step (2 * n) before
   pub sending : Sending (2 * q) q j t bits st
   pub first : FirstAt P T j start step f
@@ -55,7 +56,7 @@ pub record Rounds (P T gap j start step n q : ℕ) (t bits st before : List ℕ)
   pub done : PairsDone P T gap j start step (2 * n) (2 * i) q t bits st before st' grid
 
 -- what is done with a run, whatever channel it belongs to; bits are taken in groups of u
-pub record RunFilled (u P T j : ℕ) (run : Run) (q : ℕ) (t bits st before : List ℕ) (next : ℕ) (st' after : List ℕ) : Type 0 where
+pub record RunFilled (u P T j : ℕ) (run : Run) (q : ℕ) (t bits : List ℕ) (st : ScrambledBits) (before : List ℕ) (next : ℕ) (st' : ScrambledBits) (after : List ℕ) : Type 0 where
   pub next-index : next ≡ j + run_count run
   pub size : length after ≡ length before
   pub stands : (r : Registers) → Standing u bits r (q * j) st → Standing u bits r (q * (j + run_count run)) st'

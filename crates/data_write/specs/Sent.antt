@@ -5,6 +5,7 @@ use Rattle.base.specs.declared.Pair.{Pair}
 use Rattle.base.specs.Counts.{cnt}
 use Rattle.gold.specs.declared.Registers.{Registers}
 use Rattle.modulation.specs.Symbols.{Order}
+use Rattle.codeword.specs.declared.ScrambledBits.{ScrambledBits}
 use Rattle.codeword.specs.Bits48.{Standing}
 use Rattle.precoding.specs.Matrices.{unit_byte_on}
 use Rattle.precoding.specs.Places.{placed}
@@ -24,7 +25,7 @@ pub record TableOf (P q unit : ℕ) (t : List ℕ) : Type 0 where
   pub table : Elements q (unit_byte_on P unit) t
 
 -- what sending from index j on needs, in groups of u bits
-pub record Sending (u q j : ℕ) (t bits st : List ℕ) : Type 0 where
+pub record Sending (u q j : ℕ) (t bits : List ℕ) (st : ScrambledBits) : Type 0 where
   pub order : Order q
   pub byte : ℕ
   pub small : byte < 256

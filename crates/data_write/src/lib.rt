@@ -12,30 +12,17 @@ ghost use Rattle.data_write.specs.OnePort.{PlacesDone};
 ghost use Rattle.data_write.specs.Areas.{RunsIn, RunsDone, FillIn, AreaFilled};
 
 use areas::Area;
-use codeword::{take, take_rest};
+use codeword::ScrambledBits;
 use constellation::{joint, number, partners};
-use element_pairs::{put_pair, put_pair_apart, put_six, put_three};
+use element_pairs::{put_pair, put_six, put_three};
 use gold::Registers;
-use walk::{Run, port_offsets};
+use walk::{Run, Tables, port_offsets};
+
+// Ports, places, index and first place stay parameters of their own: as one struct by value they cost 0.02 to 0.05 of the plain mapper's time.
 
 // Four symbols, those of the lowest 4q bits of z, at two pairs of places, at bytes `at` and `next` of their own ports and `across` further on the
-// others. The table is read before the grid is written, since the compiler cannot tell the two apart.
-pub fn round(z: u64, q: u64, t: &[u32; 256], grid: &mut [u8], at: usize, next: usize, across: usize)
-    requires { RoundIn 1 q at next across grid.old }
-    ensures { RoundDone 1 z q t.now at next across grid.old grid.new }
-{
-    let y = z >> q;
-    let x = y >> q;
-    let a = number(t, x >> q);
-    let b = number(t, x);
-    let c = number(t, y);
-    let d = number(t, z);
-    put_pair(grid, at, across, joint(a, b), partners(a, b));
-    put_pair(grid, next, across, joint(c, d), partners(c, d));
-}
-
-// The same where a hole is between the two places of a pair.
-pub fn round_apart(
+// others, a pair's second place GAP after its first. The table is read before the grid is written, since the compiler cannot tell the two apart.
+pub fn round<const GAP: usize>(
     z: u64,
     q: u64,
     t: &[u32; 256],
@@ -44,8 +31,8 @@ pub fn round_apart(
     next: usize,
     across: usize,
 )
-    requires { RoundIn 2 q at next across grid.old }
-    ensures { RoundDone 2 z q t.now at next across grid.old grid.new }
+    requires { (0 < GAP) × RoundIn GAP q at next across grid.old }
+    ensures { RoundDone GAP z q t.now at next across grid.old grid.new }
 {
     let y = z >> q;
     let x = y >> q;
@@ -53,8 +40,8 @@ pub fn round_apart(
     let b = number(t, x);
     let c = number(t, y);
     let d = number(t, z);
-    put_pair_apart(grid, at, across, joint(a, b), partners(a, b));
-    put_pair_apart(grid, next, across, joint(c, d), partners(c, d));
+    put_pair::<GAP>(grid, at, across, joint(a, b), partners(a, b));
+    put_pair::<GAP>(grid, next, across, joint(c, d), partners(c, d));
 }
 
 // The bytes of the first round's pairs on their own ports, and how much further their other ports are.
@@ -78,10 +65,10 @@ fn first_round(ports: u8, places: usize, j: usize, start: usize, step: usize) ->
     }
 }
 
-// Half blocks with all six places open, two pairs in each round: twice n pairs, pair i at `start` + 2i. A loop of its own beside `quads`:
-// with one loop for both, the processor foresees its end less often.
-fn sixes(
-    st: &mut [u64; 8],
+// Twice n pairs, two in each round: pair i at `start` + STEP i and GAP further. Each GAP and STEP is a loop of its own: with one for all, the
+// processor foresees its end less often.
+fn pairs<const GAP: usize, const STEP: usize>(
+    st: &mut ScrambledBits,
     q: u64,
     t: &[u32; 256],
     bits: &[u8],
@@ -92,89 +79,30 @@ fn sixes(
     start: usize,
     n: usize,
 )
-    requires { PairsIn ports places 1 j start 2 (2 * n) grid.old × Sending (2 * q) q j t.now bits.now st.old }
-    ensures { PairsDone ports places 1 j start 2 (2 * n) (2 * n) q t.now bits.now st.old grid.old st.new grid.new }
+    requires { (0 < GAP) × PairsIn ports places GAP j start STEP (2 * n) grid.old × Sending (2 * q) q j t.now bits.now st.old }
+    ensures { PairsDone ports places GAP j start STEP (2 * n) (2 * n) q t.now bits.now st.old grid.old st.new grid.new }
 {
-    let f = first_round(ports, places, j, start, 2);
-    let mut at = f.at;
-    let mut next = f.next;
-    let mut i: usize = 0;
-    let mut h = codeword::rest_of(st);
-    while i < n {
-        h = take_rest(st, h, 4 * q, bits);
-        round(h.word >> h.left, q, t, grid, at, next, f.across);
-        at += 12;
-        next += 12;
-        i += 1;
+    let f = first_round(ports, places, j, start, STEP);
+    let mut h = st.rest;
+    for i in 0..n {
+        let on = 6 * STEP * i;
+        h = st.take_rest(h, 4 * q, bits);
+        round::<GAP>(
+            h.word >> h.left,
+            q,
+            t,
+            grid,
+            f.at + on,
+            f.next + on,
+            f.across,
+        );
     }
-    codeword::put_rest(st, h);
-}
-
-// Twice n pairs with holes between them: pair i at `start` + 3i and beside it.
-fn quads(
-    st: &mut [u64; 8],
-    q: u64,
-    t: &[u32; 256],
-    bits: &[u8],
-    grid: &mut [u8],
-    ports: u8,
-    places: usize,
-    j: usize,
-    start: usize,
-    n: usize,
-)
-    requires { PairsIn ports places 1 j start 3 (2 * n) grid.old × Sending (2 * q) q j t.now bits.now st.old }
-    ensures { PairsDone ports places 1 j start 3 (2 * n) (2 * n) q t.now bits.now st.old grid.old st.new grid.new }
-{
-    let f = first_round(ports, places, j, start, 3);
-    let mut at = f.at;
-    let mut next = f.next;
-    let mut i: usize = 0;
-    let mut h = codeword::rest_of(st);
-    while i < n {
-        h = take_rest(st, h, 4 * q, bits);
-        round(h.word >> h.left, q, t, grid, at, next, f.across);
-        at += 18;
-        next += 18;
-        i += 1;
-    }
-    codeword::put_rest(st, h);
-}
-
-// The same where a hole is between the two places of a pair.
-fn quads_apart(
-    st: &mut [u64; 8],
-    q: u64,
-    t: &[u32; 256],
-    bits: &[u8],
-    grid: &mut [u8],
-    ports: u8,
-    places: usize,
-    j: usize,
-    start: usize,
-    n: usize,
-)
-    requires { PairsIn ports places 2 j start 3 (2 * n) grid.old × Sending (2 * q) q j t.now bits.now st.old }
-    ensures { PairsDone ports places 2 j start 3 (2 * n) (2 * n) q t.now bits.now st.old grid.old st.new grid.new }
-{
-    let f = first_round(ports, places, j, start, 3);
-    let mut at = f.at;
-    let mut next = f.next;
-    let mut i: usize = 0;
-    let mut h = codeword::rest_of(st);
-    while i < n {
-        h = take_rest(st, h, 4 * q, bits);
-        round_apart(h.word >> h.left, q, t, grid, at, next, f.across);
-        at += 18;
-        next += 18;
-        i += 1;
-    }
-    codeword::put_rest(st, h);
+    st.rest = h;
 }
 
 // One pair, side by side.
 fn pair(
-    st: &mut [u64; 8],
+    st: &mut ScrambledBits,
     q: u64,
     t: &[u32; 256],
     bits: &[u8],
@@ -188,10 +116,10 @@ fn pair(
     ensures { PairsDone ports places 1 j start 2 1 1 q t.now bits.now st.old grid.old st.new grid.new }
 {
     let p = port_offsets(ports, places, j);
-    let y = take(st, 2 * q, bits);
+    let y = st.take(2 * q, bits);
     let a = number(t, y >> q);
     let b = number(t, y);
-    put_pair(
+    put_pair::<1>(
         grid,
         3 * (p.own + start),
         3 * p.across,
@@ -202,7 +130,7 @@ fn pair(
 
 // Half blocks with all six places open: where their number is odd, one pair is left after the rounds.
 fn all_six(
-    st: &mut [u64; 8],
+    st: &mut ScrambledBits,
     q: u64,
     t: &[u32; 256],
     bits: &[u8],
@@ -217,7 +145,7 @@ fn all_six(
     ensures { PairsDone ports places 1 j first 2 (3 * halves) (3 * halves) q t.now bits.now st.old grid.old st.new grid.new }
 {
     let n = 3 * halves / 2;
-    sixes(st, q, t, bits, grid, ports, places, j, first, n);
+    pairs::<1, 2>(st, q, t, bits, grid, ports, places, j, first, n);
     if 3 * halves % 2 == 1 {
         pair(
             st,
@@ -235,7 +163,7 @@ fn all_six(
 
 // A run on two ports or four, from the channel's index j on; the index after it.
 fn fill_pairs(
-    st: &mut [u64; 8],
+    st: &mut ScrambledBits,
     q: u64,
     t: &[u32; 256],
     bits: &[u8],
@@ -248,28 +176,34 @@ fn fill_pairs(
     requires { RunIn ports places j run grid.old × Sending (2 * q) q j t.now bits.now st.old }
     ensures { RunFilled (2 * q) ports places j run q t.now bits.now st.old grid.old result st.new grid.new }
 {
-    let first = run.first;
-    let halves = run.halves;
-    let mask = run.mask;
-    if mask == 63 {
-        all_six(st, q, t, bits, grid, ports, places, j, first, halves);
-        return j + 6 * halves;
+    let Run {
+        first,
+        halves,
+        mask,
+    } = run;
+    match mask {
+        63 => {
+            all_six(st, q, t, bits, grid, ports, places, j, first, halves);
+            j + 6 * halves
+        }
+        27 => {
+            pairs::<1, 3>(st, q, t, bits, grid, ports, places, j, first, halves);
+            j + 4 * halves
+        }
+        54 => {
+            pairs::<1, 3>(st, q, t, bits, grid, ports, places, j, first + 1, halves);
+            j + 4 * halves
+        }
+        _ => {
+            pairs::<2, 3>(st, q, t, bits, grid, ports, places, j, first, halves);
+            j + 4 * halves
+        }
     }
-    if mask == 27 {
-        quads(st, q, t, bits, grid, ports, places, j, first, halves);
-        return j + 4 * halves;
-    }
-    if mask == 54 {
-        quads(st, q, t, bits, grid, ports, places, j, first + 1, halves);
-        return j + 4 * halves;
-    }
-    quads_apart(st, q, t, bits, grid, ports, places, j, first, halves);
-    j + 4 * halves
 }
 
 // n places side by side on one port.
 fn singles(
-    st: &mut [u64; 8],
+    st: &mut ScrambledBits,
     q: u64,
     t: &[u32; 256],
     bits: &[u8],
@@ -281,19 +215,15 @@ fn singles(
     requires { SinglesIn start n grid.old × (j + n ≤ 16800) × Sending q q j t.now bits.now st.old }
     ensures { PlacesDone j n (◌+◌ start) n q t.now bits.now st.old grid.old st.new grid.new }
 {
-    let mut at = 3 * start;
-    let mut i: usize = 0;
-    while i < n {
-        let x = take(st, q, bits);
-        put_three(grid, at, number(t, x));
-        at += 3;
-        i += 1;
+    for i in 0..n {
+        let x = st.take(q, bits);
+        put_three(grid, 3 * (start + i), number(t, x));
     }
 }
 
 // Twice n places side by side on one port, two in each round.
 fn doubles(
-    st: &mut [u64; 8],
+    st: &mut ScrambledBits,
     q: u64,
     t: &[u32; 256],
     bits: &[u8],
@@ -305,22 +235,17 @@ fn doubles(
     requires { SinglesIn start (2 * n) grid.old × (j + 2 * n ≤ 16800) × Sending q q j t.now bits.now st.old }
     ensures { PlacesDone j (2 * n) (◌+◌ start) (2 * n) q t.now bits.now st.old grid.old st.new grid.new }
 {
-    let two = 2 * q;
-    let mut at = 3 * start;
-    let mut i: usize = 0;
-    while i < n {
-        let y = take(st, two, bits);
-        let a = number(t, y >> q);
-        let b = number(t, y);
-        put_six(grid, at, joint(a, b));
-        at += 6;
-        i += 1;
+    for i in 0..n {
+        let x = st.take(2 * q, bits);
+        let a = number(t, x >> q);
+        let b = number(t, x);
+        put_six(grid, 3 * (start + 2 * i), joint(a, b));
     }
 }
 
 // The places of a run with holes on one port, stretch after stretch between them: `lead` places before the first hole, then `each`.
 fn between(
-    st: &mut [u64; 8],
+    st: &mut ScrambledBits,
     q: u64,
     t: &[u32; 256],
     bits: &[u8],
@@ -338,8 +263,9 @@ fn between(
     let mut at = s.at;
     let mut left = s.left;
     let mut k: usize = 0;
+    // A `while`: each stretch has a length of its own.
     while k < total {
-        let n = areas::smaller(left, total - k);
+        let n = left.min(total - k);
         singles(st, q, t, bits, grid, j + k, at, n);
         k += n;
         at += n + 1;
@@ -349,7 +275,7 @@ fn between(
 
 // A run on one port, from the channel's index j on; the index after it.
 fn fill_single(
-    st: &mut [u64; 8],
+    st: &mut ScrambledBits,
     q: u64,
     t: &[u32; 256],
     bits: &[u8],
@@ -375,7 +301,7 @@ fn fill_single(
 
 // A run of half blocks, from the channel's index j on; the index after it.
 fn fill_run(
-    st: &mut [u64; 8],
+    st: &mut ScrambledBits,
     q: u64,
     t: &[u32; 256],
     bits: &[u8],
@@ -396,27 +322,27 @@ fn fill_run(
 
 // All runs of an area, by its tables.
 fn fill_runs(
-    st: &mut [u64; 8],
+    st: &mut ScrambledBits,
     q: u64,
     t: &[u32; 256],
     bits: &[u8],
     grid: &mut [u8],
     a: Area,
-    rows: &[u8; 45],
-    spans: &[u8; 512],
+    tables: &Tables,
 )
-    requires { RunsIn a q rows.now spans.now t.now bits.now st.old grid.old }
-    ensures { RunsDone a q rows.now spans.now t.now bits.now st.old grid.old st.new grid.new }
+    requires { RunsIn a q tables.now.rows tables.now.spans t.now bits.now st.old grid.old }
+    ensures { RunsDone a q tables.now.rows tables.now.spans t.now bits.now st.old grid.old st.new grid.new }
 {
     let symbols = layout::symbols(a.cell);
     let carriers = layout::carriers(a.cell);
     let places = layout::places(a.cell);
-    let mut c = walk::start(rows);
+    let mut c = tables.start();
     let mut j: usize = 0;
+    // A `while`: where the cursor goes next stands in the tables.
     while c.s < symbols {
-        let run = walk::run_at(c, carriers, rows, spans);
+        let run = tables.run_at(c, carriers);
         j = fill_run(st, q, t, bits, grid, run, j, a.cell.ports, places);
-        c = walk::next(c, rows);
+        c = tables.next(c);
     }
 }
 
@@ -434,12 +360,11 @@ pub fn fill_by_tables(
     requires { FillIn a q t.now masks.now grid.old }
     ensures { AreaFilled a q t.now bits.now r grid.old result grid.new }
 {
-    let mut rows: [u8; 45] = [0; 45];
-    let mut spans: [u8; 512] = [0; 512];
-    areas::set_tables(a, masks, &mut rows, &mut spans);
-    let mut st = codeword::begin(r, bits);
-    fill_runs(&mut st, q as u64, t, bits, grid, a, &rows, &spans);
-    codeword::end(r, &st)
+    let mut tables = Tables::new();
+    areas::set_tables(a, masks, &mut tables);
+    let mut st = ScrambledBits::begin(r, bits);
+    fill_runs(&mut st, u64::from(q), t, bits, grid, a, &tables);
+    st.end(r)
 }
 
 // The table of an order's elements in the unit that the ports have.

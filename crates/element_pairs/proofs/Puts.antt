@@ -160,20 +160,19 @@ two-beside {at} {v} {g} {h} p =
     pick m s t (no d) = p.early m (omega arith)
 
 pub two-apart :
-    {at v : ℕ} {g h k : List ℕ} → Put at 3 (v % 16777216) g h → Put (at + 6) 3 (v / 16777216 % 16777216) h k → TwoPut 2 at v g k
-two-apart {at} {v} {g} {h} {k} p q =
-    two-put (omega arith) (q.size ∙ p.size)
+    {gap at v : ℕ} {g h k : List ℕ} → 0 < gap → Put at 3 (v % 16777216) g h → Put (at + 3 * gap) 3 (v / 16777216 % 16777216) h k → TwoPut gap at v g k
+two-apart {gap} {at} {v} {g} {h} {k} some p q =
+    two-put some (q.size ∙ p.size)
     (λ b l. q.early (at + b) (omega arith) ∙ p.here b l ∙ first-bytes (v % 16777216) b l ∙ ap (λ (y : Element). byte_in y b) (cut v))
-    (λ b l. let z : at + 3 * 2 + b ≡ at + 6 + b = omega arith in
-    rw z (q.here b l ∙ first-bytes (v / 16777216 % 16777216) b l ∙ ap (λ (y : Element). byte_in y b) (cut (v / 16777216))))
-    (λ m s t. second m t (dec_le (at + 6) m) (dec_le (at + 9) m) ∙ first m s (dec_le at m) (dec_le (at + 3) m))
+    (λ b l. q.here b l ∙ first-bytes (v / 16777216 % 16777216) b l ∙ ap (λ (y : Element). byte_in y b) (cut (v / 16777216)))
+    (λ m s t. second m t (dec_le (at + 3 * gap) m) (dec_le (at + 3 * gap + 3) m) ∙ first m s (dec_le at m) (dec_le (at + 3) m))
   where
     first : (m : ℕ) → (at ≤ m → m < at + 3 → ⊥) → Dec (at ≤ m) → Dec (at + 3 ≤ m) → get_or h m 0 ≡ get_or g m 0
     first m s (yes x) (yes y) = p.late m y
     first m s (yes x) (no y) = absurd (s x (omega arith))
     first m s (no x) y = p.early m (omega arith)
 
-    second : (m : ℕ) → (at + 3 * 2 ≤ m → m < at + 3 * 2 + 3 → ⊥) → Dec (at + 6 ≤ m) → Dec (at + 9 ≤ m) → get_or k m 0 ≡ get_or h m 0
+    second : (m : ℕ) → (at + 3 * gap ≤ m → m < at + 3 * gap + 3 → ⊥) → Dec (at + 3 * gap ≤ m) → Dec (at + 3 * gap + 3 ≤ m) → get_or k m 0 ≡ get_or h m 0
     second m s (yes x) (yes y) = q.late m (omega arith)
     second m s (yes x) (no y) = absurd (s (omega arith) (omega arith))
     second m s (no x) y = q.early m (omega arith)

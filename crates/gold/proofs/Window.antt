@@ -10,7 +10,7 @@ use lib.Ieee.Fits.{and_l, and_r}
 use lib.Pow.{mod-pow-add}
 use Rattle.base.specs.Digits.{dig, dig-xor, dig-shr, dig-mod}
 use Rattle.gold.specs.Sequence.{binary}
-use Rattle.gold.specs.Window.{window, sums, offsets1, offsets2}
+use Rattle.gold.specs.Window.{window, sums}
 use Rattle.gold.proofs.Binary.{binary-same, binary-split, binary-lt, binary-digit}
 use Rattle.gold.proofs.Jumps.{sum_at, within}
 
@@ -101,10 +101,3 @@ pub added : (x y : ℕ → ℕ) → ((i : ℕ) → x i < 2) → ((i : ℕ) → y
 added x y s t w u v h g =
     spelled (λ (i : ℕ). (x i + y i) % 2) 0 w (bit_xor u v)
     (λ i j e. dig-xor u v j ∙ (λ a. (digit x s 0 w u h i j e a + digit y t 0 w v g i j e a) % 2))
-
--- what `fed1` and `fed2` compute
-pub fed1-is : (x : ℕ) → bit_xor x (x / 8) ≡ sums x 3 offsets1
-fed1-is x = ap (λ (v : ℕ). bit_xor v (x / 8)) {x = x} {y = x / 1} (omega arith)
-
-pub fed2-is : (x : ℕ) → bit_xor (bit_xor (bit_xor x (x / 2)) (x / 4)) (x / 8) ≡ sums x 3 offsets2
-fed2-is x = ap (λ (v : ℕ). bit_xor (bit_xor (bit_xor v (x / 2)) (x / 4)) (x / 8)) {x = x} {y = x / 1} (omega arith)

@@ -52,7 +52,7 @@ fn top(v: u32, n: u32) -> u32
     (v % 2147483648) >> (31 - n)
 }
 
-// The pair n steps on, all at once. Callers pass a constant or a modulation order for n.
+// The pair n steps on, all at once. Callers pass a constant or a modulation order for n, so that a type for numbers to 28 would be no plainer.
 pub fn advance(r: Registers, n: u32) -> Registers
     requires { (1 ≤ n) × (n ≤ 28) }
     ensures { result ≡ after r n }
@@ -78,15 +78,13 @@ pub fn skip(r: Registers, n: usize) -> Registers
     ensures { result ≡ after r n }
 {
     let mut s = r;
-    let mut left = n;
-    while left > 28 {
+    for _ in 0..n / 28 {
         s = advance(s, 28);
-        left -= 28;
     }
-    if left == 0 {
-        return s;
+    match (n % 28) as u32 {
+        0 => s,
+        rest => advance(s, rest),
     }
-    advance(s, left as u32)
 }
 
 // The 31 low bits of c, the lowest most significant: a register that holds the start of x2.
@@ -94,10 +92,8 @@ fn mirrored(c: u32) -> u32
     ensures { result ≡ binary (start2 c) 0 31 }
 {
     let mut x: u32 = 0;
-    let mut k: u32 = 0;
-    while k < 31 {
+    for k in 0..31u32 {
         x = x * 2 + (c >> k) % 2;
-        k += 1;
     }
     x
 }

@@ -28,11 +28,9 @@ fn part(rt: &impl Print, c_init: u32, first: usize, r: Registers) -> io::Result<
 // The first four parts one after the other, then two further on.
 fn parts(rt: &impl Print, c_init: u32) -> io::Result<()> {
     let mut r = gold::pair_at(c_init, 0);
-    let mut first: usize = 0;
-    while first < 112 {
-        part(rt, c_init, first, r)?;
+    for k in 0..4usize {
+        part(rt, c_init, 28 * k, r)?;
         r = gold::advance(r, 28);
-        first += 28;
     }
     part(rt, c_init, 5000, gold::pair_at(c_init, 5000))?;
     part(rt, c_init, 20001, gold::pair_at(c_init, 20001))
@@ -50,10 +48,8 @@ fn word(rt: &impl Print, n: u32) -> io::Result<()>
 }
 
 fn words(rt: &impl Print) -> io::Result<()> {
-    let mut n: u32 = 1;
-    while n <= 28 {
+    for n in 1..=28 {
         word(rt, n)?;
-        n += 1;
     }
     Ok(())
 }

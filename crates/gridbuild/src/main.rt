@@ -4,46 +4,28 @@
 
 ghost use Rattle.std.specs.Prelude.{◌≤◌, length};
 
-use build::Built;
-use mapper::Number;
+use plan::Refusal;
 use std::io;
 
-fn fill(
-    rt: &(impl Print + Eprint),
-    plan: &[u8],
-    payload: &[u8],
-    grid: &mut [u8],
-) -> io::Result<()> {
-    match mapper::build_grid(plan, payload, grid) {
-        Built::Elements(_) => words::output(rt, grid),
-        Built::Refused(r) => words::refused(rt, plan::number(r)),
-    }
-}
-
-// Lends as many bytes as the plan's grid has.
-fn lend(
-    rt: &(impl Print + Eprint),
-    plan: &[u8],
-    payload: &[u8],
-    buffer: &mut [u8],
-) -> io::Result<()>
+// The grid of the input's plan and payload, in the front of a buffer.
+fn grid_in<'a>(input: &[u8], buffer: &'a mut [u8]) -> Result<&'a [u8], Refusal>
     requires { 201600 ≤ length buffer.old }
 {
-    match mapper::grid_length(plan) {
-        Number::Is(n) => fill(rt, plan, payload, &mut buffer[..n]),
-        Number::Refused(r) => words::refused(rt, plan::number(r)),
-    }
+    let end = counted::plan_end(input).ok_or(Refusal::Unreadable)?;
+    let plan = &input[2..end];
+    let n = mapper::grid_length(plan)?;
+    let grid = &mut buffer[..n];
+    mapper::build_grid(plan, &input[end..], grid)?;
+    Ok(grid)
 }
 
 fn answer(rt: &(impl Print + Eprint), input: &[u8]) -> io::Result<()> {
-    let end = counted::plan_end(input);
-    if end < 2 {
-        words::refused(rt, 1)?;
-        return Ok(());
-    }
     // The largest grid has 36 bytes for each of 100 blocks, 14 symbols and four ports.
     let mut buffer = [0u8; 201600];
-    lend(rt, &input[2..end], &input[end..], &mut buffer)
+    match grid_in(input, &mut buffer) {
+        Ok(grid) => words::output(rt, grid),
+        Err(r) => words::refusal(rt, r),
+    }
 }
 
 // Two length bytes, the longest plan (65,535 bytes) and the longest payload (below 17,000 bytes) leave bytes over, so a full

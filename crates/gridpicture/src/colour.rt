@@ -1,19 +1,7 @@
 // The colour of each owner, as the number 0xrrggbb.
 ghost use Rattle.std.specs.Prelude.{◌≤◌};
 
-// Signals: dark or pure colours, which neither units nor users have.
-fn of_signal(n: u16) -> u32 {
-    match n {
-        0 => 0xd00000,
-        1 => 0x0000b0,
-        2 => 0x005000,
-        3 => 0x780098,
-        16 => 0xff00ff,
-        17 => 0x00e0e0,
-        32 => 0xffb000,
-        _ => 0x000000,
-    }
-}
+use layout::{Mark, Owner};
 
 // A part of a pure hue, from 0 to 255, taken into a narrower range: 0 to 3 are the users' ranges, 4 to 6 those of PHICH units.
 fn part(v: u32, range: u32) -> u32
@@ -50,18 +38,34 @@ fn of_hue(h: u32, range: u32) -> u32 {
     }
 }
 
-// Hues of neighbours lie far apart (599 of 1536 is near the golden angle), and their ranges differ.
+fn of_port(port: u8) -> u32 {
+    match port {
+        0 => 0xd00000,
+        1 => 0x0000b0,
+        2 => 0x005000,
+        3 => 0x780098,
+        _ => 0x000000,
+    }
+}
+
+// The colour of the owner with a number. Signals have dark or pure colours, which neither units nor users have. Hues of neighbours lie far
+// apart (599 of 1536 is near the golden angle), and their ranges differ.
 pub fn of_owner(n: u16) -> u32 {
-    if n < 64 {
-        return of_signal(n);
+    match legend::owner(n) {
+        Some(Owner::Crs(port)) => of_port(port),
+        Some(Owner::Sync(Mark::Primary)) => 0xff00ff,
+        Some(Owner::Sync(Mark::Secondary)) => 0x00e0e0,
+        Some(Owner::Pbch) => 0xffb000,
+        Some(Owner::Pcfich) | None => 0x000000,
+        Some(Owner::Phich(unit)) => {
+            let m = u32::from(unit);
+            of_hue((m * 187 + 128) % 1536, 4 + m % 3)
+        }
+        Some(Owner::User(i)) => {
+            let i = u32::from(i);
+            of_hue((i * 599 + 560) % 1536, i % 4)
+        }
+        Some(Owner::Held) => 0x505050,
+        Some(Owner::Idle) => 0xececec,
     }
-    if n < 256 {
-        let m = (n - 64) as u32;
-        return of_hue((m * 187 + 128) % 1536, 4 + m % 3);
-    }
-    if n < 512 {
-        let i = (n - 256) as u32;
-        return of_hue((i * 599 + 560) % 1536, i % 4);
-    }
-    if n == 512 { 0x505050 } else { 0xececec }
 }

@@ -7,18 +7,9 @@ mod sheet;
 
 ghost use Rattle.std.specs.Prelude.{◌+◌, ◌≤◌, ◌<◌, IfOk};
 
-use plan::{Cell, Checked, Plan};
+use plan::Plan;
+use sheet::{Sheet, Spot};
 use std::io;
-
-fn number(rt: &impl Print, n: usize) -> io::Result<()> {
-    print::number(rt, n as u64)
-}
-
-// What stands before a number, and the number.
-fn put(rt: &impl Print, before: &[u8], n: usize) -> io::Result<()> {
-    print::text(rt, before)?;
-    number(rt, n)
-}
 
 fn rect(
     rt: &impl Print,
@@ -28,27 +19,14 @@ fn rect(
     height: usize,
     owner: u16,
 ) -> io::Result<()> {
-    put(rt, b"<rect x=\"", x)?;
-    put(rt, b"\" y=\"", y)?;
-    put(rt, b"\" width=\"", width)?;
-    put(rt, b"\" height=\"", height)?;
-    print::text(rt, b"\" fill=\"#")?;
     let colour = colour::of_owner(owner);
-    print!(rt; "{colour:06x}")?;
-    print::text(rt, b"\"/>\n")
-}
-
-// The start of a text; its end is </text>.
-fn text_at(rt: &impl Print, x: usize, y: usize) -> io::Result<()> {
-    put(rt, b"<text x=\"", x)?;
-    put(rt, b"\" y=\"", y)?;
-    print::text(rt, b"\">")
+    println!(rt;
+        "<rect x=\"{x}\" y=\"{y}\" width=\"{width}\" height=\"{height}\" fill=\"#{colour:06x}\"/>"
+    )
 }
 
 fn number_at(rt: &impl Print, x: usize, y: usize, n: usize) -> io::Result<()> {
-    text_at(rt, x, y)?;
-    number(rt, n)?;
-    print::text(rt, b"</text>\n")
+    println!(rt; "<text x=\"{x}\" y=\"{y}\">{n}</text>")
 }
 
 // The end of the run of equal owners that starts at a position, among the first n places.
@@ -57,290 +35,182 @@ fn run_end(row: &[u16; 300], n: usize, at: usize) -> usize
     ensures { (at < result) × (result ≤ n) }
 {
     let owner = row[at];
-    let mut end = at + 1;
-    while end < n {
+    for end in at + 1..n {
         if row[end] != owner {
             return end;
         }
-        end += 1;
     }
-    end
+    n
 }
 
-// One rectangle for each run among the first n places of a row.
-fn runs(rt: &impl Print, cell: Cell, y: usize, row: &[u16; 300], n: usize) -> io::Result<()>
+// One rectangle for each run among the first n places of a row. A run's length is the step, so this is no `for`.
+fn runs(rt: &impl Print, sheet: Sheet, y: usize, row: &[u16; 300], n: usize) -> io::Result<()>
     requires { n ≤ 300 }
 {
     let mut at = 0;
     while at < n {
         let end = run_end(row, n, at);
-        rect(
-            rt,
-            sheet::column(cell, at),
-            y,
-            sheet::across(cell, end - at),
-            14,
-            row[at],
-        )?;
+        rect(rt, sheet.column(at), y, sheet.across(end - at), 14, row[at])?;
         at = end;
     }
     Ok(())
 }
 
-fn symbol_row(rt: &impl Print, plan: &[u8], cell: Cell, band: usize, s: usize) -> io::Result<()>
+fn symbol_row(rt: &impl Print, plan: &[u8], sheet: Sheet, band: usize, s: usize) -> io::Result<()>
     requires { (band ≤ 11) × (s ≤ 14) }
 {
     let mut row = [513u16; 300];
     legend::owner_row(plan, s, 300 * band, &mut row);
     runs(
         rt,
-        cell,
-        sheet::row_top(cell, band, s),
+        sheet,
+        sheet.row_top(band, s),
         &row,
-        12 * sheet::band_blocks(cell),
+        12 * sheet.band_blocks(),
     )
 }
 
-fn symbol_rows(rt: &impl Print, plan: &[u8], cell: Cell, band: usize) -> io::Result<()>
+fn symbol_rows(rt: &impl Print, plan: &[u8], sheet: Sheet, band: usize) -> io::Result<()>
     requires { band ≤ 11 }
 {
-    print::text(rt, b"<g class=\"band\" shape-rendering=\"crispEdges\">\n")?;
-    let end = sheet::symbols(cell);
-    let mut s = 0;
-    while s < end {
-        symbol_row(rt, plan, cell, band, s)?;
-        s += 1;
+    println!(rt; "<g class=\"band\" shape-rendering=\"crispEdges\">")?;
+    for s in 0..sheet.symbols() {
+        symbol_row(rt, plan, sheet, band, s)?;
     }
-    print::text(rt, b"</g>\n")
+    println!(rt; "</g>")
 }
 
-fn symbol_labels(rt: &impl Print, cell: Cell, band: usize) -> io::Result<()>
+fn symbol_labels(rt: &impl Print, sheet: Sheet, band: usize) -> io::Result<()>
     requires { band ≤ 11 }
 {
-    print::text(rt, b"<g text-anchor=\"end\">\n")?;
-    let end = sheet::symbols(cell);
-    let mut s = 0;
-    while s < end {
-        number_at(rt, 58, sheet::row_top(cell, band, s) + 11, s)?;
-        s += 1;
+    println!(rt; "<g text-anchor=\"end\">")?;
+    for s in 0..sheet.symbols() {
+        number_at(rt, 58, sheet.row_top(band, s) + 11, s)?;
     }
-    print::text(rt, b"</g>\n")
+    println!(rt; "</g>")
 }
 
-// A tick through the band at a block's left edge, from its number above to its first subcarrier's below.
-fn block_line(rt: &impl Print, x: usize, top: usize, bottom: usize) -> io::Result<()> {
-    put(rt, b"<path d=\"M", x)?;
-    put(rt, b" ", top)?;
-    put(rt, b"V", bottom)?;
-    print::text(rt, b"\"/>\n")
-}
-
-fn block_lines(rt: &impl Print, cell: Cell, band: usize) -> io::Result<()>
+// Ticks through the band at the blocks' left edges, each from the block's number above to its first subcarrier's below.
+fn block_lines(rt: &impl Print, sheet: Sheet, band: usize) -> io::Result<()>
     requires { band ≤ 11 }
 {
-    let top = sheet::band_top(cell, band) - 4;
-    let bottom = sheet::row_top(cell, band, sheet::symbols(cell)) + 4;
-    print::text(
-        rt,
-        b"<g stroke=\"#000000\" stroke-opacity=\"0.4\" shape-rendering=\"crispEdges\">\n",
-    )?;
-    let end = sheet::band_blocks(cell);
-    let mut b = 0;
-    while b <= end {
-        block_line(rt, sheet::column(cell, 12 * b), top, bottom)?;
-        b += 1;
+    let top = sheet.band_top(band) - 4;
+    let bottom = sheet.band_bottom(band) + 4;
+    println!(rt; "<g stroke=\"#000000\" stroke-opacity=\"0.4\" shape-rendering=\"crispEdges\">")?;
+    for b in 0..sheet.band_blocks() + 1 {
+        let x = sheet.column(12 * b);
+        println!(rt; "<path d=\"M{x} {top}V{bottom}\"/>")?;
     }
-    print::text(rt, b"</g>\n")
+    println!(rt; "</g>")
 }
 
 // Above each block its number, below its left edge its first subcarrier's.
-fn block_labels(rt: &impl Print, cell: Cell, band: usize) -> io::Result<()>
+fn block_labels(rt: &impl Print, sheet: Sheet, band: usize) -> io::Result<()>
     requires { band ≤ 11 }
 {
-    let top = sheet::band_top(cell, band) - 8;
-    let bottom = sheet::row_top(cell, band, sheet::symbols(cell)) + 16;
-    print::text(rt, b"<g text-anchor=\"middle\">\n")?;
-    let end = sheet::band_blocks(cell);
-    let mut b = 0;
-    while b < end {
-        number_at(rt, sheet::column(cell, 12 * b + 6), top, 25 * band + b)?;
-        number_at(rt, sheet::column(cell, 12 * b), bottom, 300 * band + 12 * b)?;
-        b += 1;
+    let top = sheet.band_top(band) - 8;
+    let bottom = sheet.band_bottom(band) + 16;
+    println!(rt; "<g text-anchor=\"middle\">")?;
+    for b in 0..sheet.band_blocks() {
+        number_at(rt, sheet.column(12 * b + 6), top, 25 * band + b)?;
+        number_at(rt, sheet.column(12 * b), bottom, 300 * band + 12 * b)?;
     }
-    print::text(rt, b"</g>\n")
+    println!(rt; "</g>")
 }
 
-fn axis_titles(rt: &impl Print, cell: Cell, band: usize) -> io::Result<()>
+fn axis_titles(rt: &impl Print, sheet: Sheet, band: usize) -> io::Result<()>
     requires { band ≤ 11 }
 {
-    let top = sheet::band_top(cell, band);
-    let bottom = sheet::row_top(cell, band, sheet::symbols(cell));
-    put(rt, b"<text text-anchor=\"end\" x=\"58\" y=\"", top - 8)?;
-    put(
-        rt,
-        b"\">block</text>\n<text text-anchor=\"middle\" x=\"",
-        sheet::column(cell, 6 * sheet::band_blocks(cell)),
-    )?;
-    put(rt, b"\" y=\"", bottom + 32)?;
-    put(
-        rt,
-        b"\">subcarrier k</text>\n<text text-anchor=\"middle\" transform=\"translate(26,",
-        (top + bottom) / 2,
-    )?;
-    print::text(rt, b") rotate(-90)\">symbol s</text>\n")
+    let top = sheet.band_top(band);
+    let bottom = sheet.band_bottom(band);
+    let above = top - 8;
+    println!(rt; "<text text-anchor=\"end\" x=\"58\" y=\"{above}\">block</text>")?;
+    let x = sheet.column(6 * sheet.band_blocks());
+    let below = bottom + 32;
+    println!(rt; "<text text-anchor=\"middle\" x=\"{x}\" y=\"{below}\">subcarrier k</text>")?;
+    let middle = (top + bottom) / 2;
+    println!(rt;
+        "<text text-anchor=\"middle\" transform=\"translate(26,{middle}) rotate(-90)\">symbol s</text>"
+    )
 }
 
-fn bands(rt: &impl Print, plan: &[u8], cell: Cell) -> io::Result<()> {
-    print::text(rt, b"<g font-size=\"11\" fill=\"#202020\">\n")?;
-    let end = sheet::bands(cell);
-    let mut band = 0;
-    while band < end {
-        symbol_rows(rt, plan, cell, band)?;
-        symbol_labels(rt, cell, band)?;
-        block_lines(rt, cell, band)?;
-        block_labels(rt, cell, band)?;
-        axis_titles(rt, cell, band)?;
-        band += 1;
+fn bands(rt: &impl Print, plan: &[u8], sheet: Sheet) -> io::Result<()> {
+    println!(rt; "<g font-size=\"11\" fill=\"#202020\">")?;
+    for band in 0..sheet.bands() {
+        symbol_rows(rt, plan, sheet, band)?;
+        symbol_labels(rt, sheet, band)?;
+        block_lines(rt, sheet, band)?;
+        block_labels(rt, sheet, band)?;
+        axis_titles(rt, sheet, band)?;
     }
-    print::text(rt, b"</g>\n")
-}
-
-// A place of the legend.
-#[derive(Clone, Copy)]
-struct Spot {
-    column: usize,
-    down: usize,
-}
-
-// The next one, in columns of this many rows.
-fn after(spot: Spot, rows: usize) -> Spot
-    requires { (spot.column ≤ 1000) × (spot.down ≤ 1000) }
-    ensures { (result.column ≤ spot.column + 1) × (result.down ≤ spot.down + 1) }
-{
-    if spot.down + 1 < rows {
-        Spot {
-            column: spot.column,
-            down: spot.down + 1,
-        }
-    } else {
-        Spot {
-            column: spot.column + 1,
-            down: 0,
-        }
-    }
-}
-
-fn one_if(b: bool) -> usize
-    ensures { result ≤ 1 }
-{
-    if b { 1 } else { 0 }
+    println!(rt; "</g>")
 }
 
 // How many owners the plan has.
 fn count(plan: &[u8], p: Plan) -> usize
     ensures { result ≤ 514 }
 {
-    let mut owners: usize = 0;
-    let mut n: u16 = 0;
-    while n < legend::NUMBERS {
-        owners += one_if(legend::has(plan, p, n));
-        n += 1;
-    }
-    owners
+    (0..legend::NUMBERS)
+        .filter(|n| legend::has(plan, p, *n))
+        .count()
 }
 
 fn entry(rt: &impl Print, plan: &[u8], p: Plan, n: u16, spot: Spot) -> io::Result<()>
     requires { (spot.column ≤ 1000) × (spot.down ≤ 1000) }
 {
-    let x = sheet::legend_column(p.cell, spot.column);
-    let y = sheet::band_top(p.cell, sheet::bands(p.cell)) + 18 * spot.down - 20;
+    let sheet = Sheet { cell: p.cell };
+    let x = sheet.legend_column(spot.column);
+    let y = sheet.legend_top() + 18 * spot.down - 20;
     rect(rt, x, y, 14, 12, n)?;
-    text_at(rt, x + 20, y + 10)?;
+    print!(rt; "<text x=\"{}\" y=\"{}\">", x + 20, y + 10)?;
     legend::name(rt, plan, p, n)?;
-    print::text(rt, b"</text>\n")
-}
-
-// The entry of the owner with this number, if the plan has it; answers with the place that is free then.
-fn listed(
-    rt: &impl Print,
-    plan: &[u8],
-    p: Plan,
-    n: u16,
-    spot: Spot,
-    rows: usize,
-) -> io::Result<Spot>
-    requires { (spot.column ≤ 1000) × (spot.down ≤ 1000) }
-    ensures { IfOk result (λ next. (next.column ≤ spot.column + 1) × (next.down ≤ spot.down + 1)) }
-{
-    if legend::has(plan, p, n) {
-        entry(rt, plan, p, n, spot)?;
-        return Ok(after(spot, rows));
-    }
-    Ok(spot)
+    println!(rt; "</text>")
 }
 
 // The owners' colours and names, in columns.
 fn entries(rt: &impl Print, plan: &[u8], p: Plan, rows: usize) -> io::Result<()> {
-    print::text(
-        rt,
-        b"<g class=\"legend\" font-size=\"12\" fill=\"#202020\">\n",
-    )?;
-    let mut spot = Spot { column: 0, down: 0 };
-    let mut n: u16 = 0;
-    while n < legend::NUMBERS {
-        spot = listed(rt, plan, p, n, spot, rows)?;
-        n += 1;
+    println!(rt; "<g class=\"legend\" font-size=\"12\" fill=\"#202020\">")?;
+    let mut spot = Spot::default();
+    for n in 0..legend::NUMBERS {
+        if legend::has(plan, p, n) {
+            entry(rt, plan, p, n, spot)?;
+            spot = spot.next(rows);
+        }
     }
-    print::text(rt, b"</g>\n")
+    println!(rt; "</g>")
 }
 
+// The root, the background, and the start of the title; its end is </text>.
 fn head(rt: &impl Print, width: usize, height: usize) -> io::Result<()> {
-    put(
-        rt,
-        b"<svg xmlns=\"http://www.w3.org/2000/svg\" font-family=\"sans-serif\" width=\"",
-        width,
+    print!(rt;
+        "<svg xmlns=\"http://www.w3.org/2000/svg\" font-family=\"sans-serif\" width=\"{width}\" "
     )?;
-    put(rt, b"\" height=\"", height)?;
-    put(rt, b"\" viewBox=\"0 0 ", width)?;
-    put(rt, b" ", height)?;
-    print::text(
-        rt,
-        b"\">\n<rect width=\"100%\" height=\"100%\" fill=\"#ffffff\"/>\n<text x=\"64\" y=\"30\" font-size=\"16\" fill=\"#202020\">",
-    )
+    println!(rt; "height=\"{height}\" viewBox=\"0 0 {width} {height}\">")?;
+    println!(rt; "<rect width=\"100%\" height=\"100%\" fill=\"#ffffff\"/>")?;
+    print!(rt; "<text x=\"64\" y=\"30\" font-size=\"16\" fill=\"#202020\">")
 }
 
 fn picture(rt: &impl Print, plan: &[u8], p: Plan) -> io::Result<()> {
+    let sheet = Sheet { cell: p.cell };
     let rows = sheet::legend_rows(count(plan, p));
-    head(
-        rt,
-        sheet::width(p.cell),
-        sheet::band_top(p.cell, sheet::bands(p.cell)) + 18 * rows,
-    )?;
+    head(rt, sheet.width(), sheet.legend_top() + 18 * rows)?;
     legend::title(rt, p)?;
-    print::text(rt, b"</text>\n")?;
-    bands(rt, plan, p.cell)?;
+    println!(rt; "</text>")?;
+    bands(rt, plan, sheet)?;
     entries(rt, plan, p, rows)?;
-    print::text(rt, b"</svg>\n")
+    println!(rt; "</svg>")
 }
 
-fn answer(rt: &(impl Print + Eprint), plan: &[u8]) -> io::Result<()> {
-    match mapper::check(plan) {
-        Checked::Plan(p) => picture(rt, plan, p),
-        Checked::Refused(r) => words::refused(rt, plan::number(r)),
+fn answer(rt: &(impl Print + Eprint), input: &[u8]) -> io::Result<()> {
+    match legend::plan_of(input) {
+        Ok((plan, p)) => picture(rt, plan, p),
+        Err(r) => words::refusal(rt, r),
     }
-}
-
-fn start(rt: &(impl Print + Eprint), input: &[u8]) -> io::Result<()> {
-    let end = counted::plan_end(input);
-    if end < 2 {
-        return words::refused(rt, 1);
-    }
-    answer(rt, &input[2..end])
 }
 
 // The buffer holds two length bytes and the longest plan; what follows the plan is not looked at.
 fn main(rt: HostRuntime) -> io::Result<()> {
     let mut buffer = [0u8; 65537];
     let n = input::read_full(&mut rt.stdin(), &mut buffer)?;
-    start(&rt, &buffer[..n])
+    answer(&rt, &buffer[..n])
 }

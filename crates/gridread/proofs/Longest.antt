@@ -1,5 +1,5 @@
 -- No accepted plan has a payload of more than 17,000 bytes. Assumes nothing.
-use Rattle.std.specs.Prelude.{if◌then◌else◌}
+use Rattle.std.specs.Prelude.{if◌then◌else◌, Result, Err as refused, Ok, Ok as accepted}
 use Prim.Native.Nat.{ℕ, ◌+◌, ◌*◌, ◌≤◌}
 use mathlib.Core.Path.{◌≡◌, refl, sym, ap, ◌∙◌}
 use mathlib.Core.Bool.{Bool, true, false}
@@ -10,15 +10,14 @@ use lib.ListN.{length, take}
 use lib.Seq.{length-take-le}
 use Rattle.plan.specs.Lists.{Every}
 use Rattle.plan.specs.Answers.{Answer, given}
-use Rattle.plan.specs.Check.{check_of}
+use Rattle.plan.specs.Check.{check_of, number_answer}
 use Rattle.plan.specs.CommandLists.{users_of}
 use Rattle.plan.specs.Valid.{UserIn}
 use Rattle.plan.specs.declared.Cell.{Cell}
 use Rattle.plan.specs.declared.Frame.{Frame}
 use Rattle.plan.specs.declared.User.{User}
 use Rattle.plan.specs.declared.Plan.{Plan}
-use Rattle.plan.specs.declared.Checked.{Checked}
-use Rattle.plan.specs.declared.Checked.TheVariants.{Plan as accepted, Refused as refused}
+use Rattle.plan.specs.declared.Refusal.{Refusal}
 use Rattle.plan.proofs.Answers.{no_number}
 use Rattle.plan.proofs.Valid.{valid}
 use Rattle.plan.proofs.Counts.{his-most, users-most}
@@ -30,9 +29,7 @@ use Rattle.payload.specs.Payload.{pbch_bit_count, heads, payload_length}
 use Rattle.payload.specs.Loops.{computed_sections}
 use Rattle.payload.proofs.Sections.{sections-computed}
 use Rattle.payload.proofs.Lengths.{bits_most}
-use Rattle.mapper.specs.Calls.{answer_with, number_answer, payload_length_of}
-use Rattle.mapper.specs.declared.Number.{Number}
-use Rattle.mapper.specs.declared.Number.TheVariants.{Is}
+use Rattle.mapper.specs.Calls.{answer_with, payload_length_of}
 
 -- ---- sections: at most 480 bits for PBCH, eight for each element of a user, and less than a byte of spare bits each
 broadcast-most : (c : Cell) (f : Frame) → pbch_bit_count c f ≤ 480
@@ -65,11 +62,11 @@ module _ (w : List ℕ) where
         users-most w p e,
       )
 
-  payload-within : (n : ℕ) (a : Checked) → check_of w ≡ a → given n ≡ answer_with (payload_length w) a → n ≤ 17000
+  payload-within : (n : ℕ) (a : Result Plan Refusal) → check_of w ≡ a → given n ≡ answer_with (payload_length w) a → n ≤ 17000
   payload-within n (accepted p) e q = omega (arith, ap (λ (x : Answer). x.value) q, payload-most p e)
   payload-within n (refused r) e q = no_number (sym q)
 
-  module _ (found : Number) (e : number_answer found ≡ payload_length_of w) (n : ℕ) (is : found ≡ Is n) where
+  module _ (found : Result ℕ Refusal) (e : number_answer found ≡ payload_length_of w) (n : ℕ) (is : found ≡ Ok n) where
     pub payload-longest : n ≤ 17000
     unfolding payload_length_of
     payload-longest = payload-within n (check_of w) refl (ap number_answer (sym is) ∙ e)

@@ -4,41 +4,28 @@
 
 ghost use Rattle.std.specs.Prelude.{◌≤◌, length};
 
-use mapper::Number;
-use read::ReadBack;
+use plan::Refusal;
 use std::io;
 
-fn fill(
-    rt: &(impl Print + Eprint),
-    plan: &[u8],
-    grid: &[u8],
-    payload: &mut [u8],
-) -> io::Result<()> {
-    match mapper::read_grid(plan, grid, payload) {
-        ReadBack::Elements(_) => words::output(rt, payload),
-        ReadBack::Refused(r) => words::refused(rt, plan::number(r)),
-    }
-}
-
-// Lends as many bytes as the plan's payload has.
-fn lend(rt: &(impl Print + Eprint), plan: &[u8], grid: &[u8], buffer: &mut [u8]) -> io::Result<()>
+// The payload of the input's plan and grid, in the front of a buffer.
+fn payload_in<'a>(input: &[u8], buffer: &'a mut [u8]) -> Result<&'a [u8], Refusal>
     requires { 17000 ≤ length buffer.old }
 {
-    match mapper::payload_length(plan) {
-        Number::Is(n) => fill(rt, plan, grid, &mut buffer[..n]),
-        Number::Refused(r) => words::refused(rt, plan::number(r)),
-    }
+    let end = counted::plan_end(input).ok_or(Refusal::Unreadable)?;
+    let plan = &input[2..end];
+    let n = mapper::payload_length(plan)?;
+    let payload = &mut buffer[..n];
+    mapper::read_grid(plan, &input[end..], payload)?;
+    Ok(payload)
 }
 
 fn answer(rt: &(impl Print + Eprint), input: &[u8]) -> io::Result<()> {
-    let end = counted::plan_end(input);
-    if end < 2 {
-        words::refused(rt, 1)?;
-        return Ok(());
-    }
     // No plan has a longer payload: 16,800 places of eight bits, PBCH, 200 HIs, and the spare bits of 100 users.
     let mut buffer = [0u8; 17000];
-    lend(rt, &input[2..end], &input[end..], &mut buffer)
+    match payload_in(input, &mut buffer) {
+        Ok(payload) => words::output(rt, payload),
+        Err(r) => words::refusal(rt, r),
+    }
 }
 
 // Two length bytes, the longest plan (65,535 bytes) and the largest grid (201,600 bytes) leave bytes over, so a full buffer is an

@@ -26,6 +26,7 @@ pub fn read_full<R: Read>(input: &mut R, buffer: &mut [u8]) -> io::Result<usize>
     ensures end { IfOk result (λ n. n < length buffer.new → IsAtEnd (R.remaining input.new)) }
 {
     let mut done = 0;
+    // How far a read comes is the input's to say: no count to go over.
     while done < buffer.len() {
         let n = read_at(input, buffer, done)?;
         if n == 0 {

@@ -149,11 +149,6 @@ module _ (R i : ℕ) (in-i : i < R) (left j g : ℕ) (inv : left + j * rows_of R
       let s : (j + 1) * rows_of R ≡ j * rows_of R + rows_of R = ap (λ (x : ℕ). x * rows_of R) (add-one j) ∙ suc-mul j (rows_of R) in
       omega (arith, ap (cnt (empty_in (empty_of R))) (add-one j), cnt-more (empty_in (empty_of R)) j)
 
-  pub last-column : j ≡ 31 → left + g < rows_of R
-  last-column e =
-      omega
-      (arith, ap (λ (x : ℕ). x * rows_of R) e, ap (λ (x : ℕ). cnt (empty_in (empty_of R)) (suc x)) e, cnt-more (empty_in (empty_of R)) j, all-empty (rows_of R) (empty_of R) some few)
-
   -- the column of the position, and its row there
   pub column-found :
       R ≤ 4096 → j < 32 → left + g < rows_of R → (x : ℕ) → x ≡ column_at j
@@ -188,6 +183,12 @@ module _ (R i : ℕ) (in-i : i < R) (left j g : ℕ) (inv : left + j * rows_of R
                 };
             before = ap (cnt (kept (rows_of R) (empty_of R))) same_read ∙ before;
           }
+
+-- the last column is not passed
+pub none_left : (R i left : ℕ) → i < R → left + 32 * rows_of R ≡ i + cnt (empty_in (empty_of R)) 32 → ⊥
+none_left R i left in-i inv =
+    let least : 1 ≤ R = omega arith in
+    omega (arith, all-empty (rows_of R) (empty_of R) (some-rows R least) (few-empty R least))
 
 -- ---- quad and step: what standing says of the fields
 pub record Standing (R i : ℕ) (c : Cursor) : Type 0 where

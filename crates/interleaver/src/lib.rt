@@ -17,7 +17,7 @@ pub struct Cursor {
     pub place: usize,
 }
 
-// The column that is read j-th: five bits, reversed.
+// The column that is read j-th: five bits, reversed. (The library's `reverse_bits` is a loop over the type's bits, and longer here.)
 fn column_at(j: usize) -> usize
     requires { j ≤ 32 }
     ensures { (result ≡ column_at j) × (result < 32) }
@@ -31,40 +31,32 @@ fn empty_in(j: usize, empty: usize) -> usize
     requires { j < 32 }
     ensures { (result ≡ cond (empty_in empty j) 1 0) × (result ≤ 1) }
 {
-    if column_at(j) < empty { 1 } else { 0 }
+    usize::from(column_at(j) < empty)
 }
 
-// The cursor at an output position: the columns before its own are passed one by one. The last needs no test.
+// The cursor at an output position: the columns before its own are passed one by one.
 pub fn start(quads: usize, at: usize) -> Cursor
     requires { (at < quads) × (quads ≤ 4096) }
     ensures { result ≡ cursor_at quads at }
 {
-    let rows = (quads + 31) / 32;
+    let rows = quads.div_ceil(32);
     let empty = 32 * rows - quads;
     let mut left = at;
-    let mut j: usize = 0;
-    while j < 31 {
-        let row = left + empty_in(j, empty);
+    for order in 0..32 {
+        let row = left + empty_in(order, empty);
         if row < rows {
+            let place = 32 * row + column_at(order);
             return Cursor {
                 quads,
                 at,
                 empty,
-                order: j,
-                place: 32 * row + column_at(j),
+                order,
+                place,
             };
         }
         left = row - rows;
-        j += 1;
     }
-    let row = left + empty_in(31, empty);
-    Cursor {
-        quads,
-        at,
-        empty,
-        order: 31,
-        place: 32 * row + column_at(31),
-    }
+    unreachable!()
 }
 
 // The quad at a cursor.
@@ -82,19 +74,17 @@ fn pass(c: Cursor, at: usize) -> Cursor
 {
     if c.place + 32 < c.quads + c.empty {
         return Cursor {
-            quads: c.quads,
             at,
-            empty: c.empty,
-            order: c.order,
             place: c.place + 32,
+            ..c
         };
     }
+    let order = c.order + 1;
     Cursor {
-        quads: c.quads,
         at,
-        empty: c.empty,
-        order: c.order + 1,
-        place: column_at(c.order + 1),
+        order,
+        place: column_at(order),
+        ..c
     }
 }
 
@@ -104,6 +94,7 @@ fn seek(c: Cursor) -> Cursor
     ensures { result ≡ cursor_at c.quads c.at }
 {
     let mut s = c;
+    // How many steps there are depends on the places.
     while s.place < s.empty {
         s = pass(s, s.at);
     }
@@ -117,20 +108,17 @@ pub fn step(c: Cursor) -> Cursor
 {
     if c.place + 32 < c.quads + c.empty {
         return Cursor {
-            quads: c.quads,
             at: c.at + 1,
-            empty: c.empty,
-            order: c.order,
             place: c.place + 32,
+            ..c
         };
     }
     if c.at + 1 == c.quads {
         return seek(Cursor {
-            quads: c.quads,
             at: 0,
-            empty: c.empty,
             order: 0,
             place: column_at(0),
+            ..c
         });
     }
     seek(pass(c, c.at + 1))

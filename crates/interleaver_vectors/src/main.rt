@@ -30,13 +30,11 @@ fn sent(rt: &impl Print, quads: usize, cell: usize) -> io::Result<()>
     requires { (1 ≤ quads) × (quads ≤ 1024) }
 {
     let mut c = interleaver::start(quads, cell % quads);
-    let mut n: usize = 0;
-    while n < quads {
+    for n in 0..quads {
         break_line(rt, quads, cell, n)?;
         print::space(rt)?;
         print::number(rt, interleaver::quad(c) as u64)?;
         c = interleaver::step(c);
-        n += 1;
     }
     print::line(rt)
 }
@@ -44,10 +42,10 @@ fn sent(rt: &impl Print, quads: usize, cell: usize) -> io::Result<()>
 fn cells(rt: &impl Print, quads: usize) -> io::Result<()>
     requires { (1 ≤ quads) × (quads ≤ 1024) }
 {
-    sent(rt, quads, 0)?;
-    sent(rt, quads, 1)?;
-    sent(rt, quads, 17)?;
-    sent(rt, quads, 503)
+    for cell in [0, 1, 17, 503] {
+        sent(rt, quads, cell)?;
+    }
+    Ok(())
 }
 
 fn main(rt: HostRuntime) -> io::Result<()> {

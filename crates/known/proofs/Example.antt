@@ -5,13 +5,13 @@ use mathlib.Core.Path.{◌≡◌, refl, sym, ap, ◌∙◌}
 use mathlib.Core.List.{List, [], ◌∷◌, ◌++◌}
 use lib.ListN.{length, get_or}
 use borrow.Author.Tests.{eq-eqb}
+use Rattle.std.specs.declared.result.Result.TheVariants.{Ok as accepted}
 use Rattle.base.specs.Tables.{table}
 use Rattle.plan.specs.Lists.{one_of, none_of}
 use Rattle.plan.specs.Commands.{cell_with, cell_of, frame_of, hi_of, user_of, entries, entry_in, size_of, command_of, commands_after}
 use Rattle.plan.specs.Fields.{control_symbols, cell_ok, frame_ok, phich_fits, mapping_units, phich_groups, sequences_of, hi_ok, same_pair, user_ok, clash}
 use Rattle.plan.specs.Check.{begin, hi_fault, user_fault, fault, state_after, plan_of, run, check_of}
 use Rattle.plan.specs.declared.Plan.{Plan}
-use Rattle.plan.specs.declared.Checked.TheVariants.{Plan as accepted}
 use Rattle.plan.specs.CommandLists.{commands_from, users_of}
 use Rattle.base.specs.Bits.{bit_at}
 use Rattle.layout.specs.Rules.{slot_length, in_slot, crs_symbol, marked}
@@ -98,7 +98,7 @@ unfolding gridcount_of table
 broadcast-input = refl
 
 counted : (w : List ℕ) (p : Plan) (payload counts : List ℕ) → check_of w ≡ accepted p → AcceptedPayload w p payload → table kinds (kind_count w p) ≡ counts
-    → counted_of w payload ≡ record { refusal = 0; counts = counts }
+    → counted_of w payload ≡ accepted counts
 unfolding counted_of accepted_with
 counted w p payload counts ok a e = rw (ok, eq-eqb (length payload) (payload_length w p) a.size, payload-clear w p payload a, e) refl
 

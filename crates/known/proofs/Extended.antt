@@ -2,6 +2,7 @@
 -- unit, worked out by hand from the paper. Assumes nothing.
 use mathlib.Core.Path.{◌≡◌, refl, sym, ◌∙◌}
 use mathlib.Core.List.{[], ◌∷◌}
+use Rattle.std.specs.declared.result.Result.TheVariants.{Ok as accepted}
 use Rattle.base.specs.Tables.{table}
 use Rattle.base.specs.Bits.{bit_at}
 use Rattle.base.specs.Counts.{cnt, nth}
@@ -9,7 +10,6 @@ use Rattle.plan.specs.Lists.{one_of, none_of}
 use Rattle.plan.specs.Commands.{cell_with, cellx_of, frame_of, hi_of, entries, entry_in, size_of, command_of, commands_after}
 use Rattle.plan.specs.Fields.{cell_ok, frame_ok, control_symbols, phich_fits, mapping_units, phich_groups, sequences_of, hi_ok, same_pair, group_size, symbol_groups}
 use Rattle.plan.specs.Check.{begin, hi_fault, fault, state_after, plan_of, run, check_of}
-use Rattle.plan.specs.declared.Checked.TheVariants.{Plan as accepted}
 use Rattle.plan.specs.CommandLists.{commands_from, users_of}
 use Rattle.layout.specs.Rules.{
   slot_length,

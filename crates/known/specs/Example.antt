@@ -1,14 +1,13 @@
 -- What the witness cites: document 01's example of gridcount, a plan that the plan check accepts, its counts, and a payload accepted
 -- under it. So no premise of the theorems is empty.
-use Rattle.std.specs.Prelude.{ℕ, ◌≡◌, List, [], ◌∷◌, ◌++◌}
+use Rattle.std.specs.Prelude.{ℕ, ◌≡◌, List, [], ◌∷◌, ◌++◌, Result, Ok as accepted}
 use Rattle.base.specs.Tables.{table}
 use Rattle.plan.specs.Check.{check_of}
 use Rattle.plan.specs.declared.Plan.{Plan}
-use Rattle.plan.specs.declared.Checked.TheVariants.{Plan as accepted}
 use Rattle.counts.specs.Counts.{kinds, kind_count}
 use Rattle.payload.specs.Payload.{grid_length, AcceptedPayload}
 use Rattle.counted.specs.Gridcount.{gridcount_of}
-use Rattle.counted.specs.declared.Counted.{Counted}
+use Rattle.plan.specs.declared.Refusal.{Refusal}
 
 -- "plan 10 0000 0F 00 01 01 11 0000 01 01 20 00 00 30 0001 02 00 0F 00"
 abbrev pub example : List ℕ
@@ -44,15 +43,15 @@ zeros n = table n (λ (i : ℕ). 0)
 abbrev pub example_counts : List ℕ
 example_counts = 120 ∷ 0 ∷ 0 ∷ 0 ∷ 16 ∷ 12 ∷ 2250 ∷ 0 ∷ 122 ∷ []
 
-abbrev pub example_lines : Counted
-example_lines = record { refusal = 0; counts = example_counts }
+abbrev pub example_lines : Result (List ℕ) Refusal
+example_lines = accepted example_counts
 
 -- and for the plan with f = 0
 abbrev pub broadcast_counts : List ℕ
 broadcast_counts = 120 ∷ 62 ∷ 62 ∷ 240 ∷ 16 ∷ 12 ∷ 1830 ∷ 56 ∷ 122 ∷ []
 
-abbrev pub broadcast_lines : Counted
-broadcast_lines = record { refusal = 0; counts = broadcast_counts }
+abbrev pub broadcast_lines : Result (List ℕ) Refusal
+broadcast_lines = accepted broadcast_counts
 
 pub record Example : Type 0 where
   pub plan : check_of example ≡ accepted example_plan

@@ -1,11 +1,10 @@
 -- What the witness of document 02's #108 cites: a plan with the extended PHICH duration that the plan check accepts, its counts, two payloads
 -- accepted under it, and where the quads of its unit lie.
-use Rattle.std.specs.Prelude.{ℕ, ◌≡◌, List, [], ◌∷◌}
+use Rattle.std.specs.Prelude.{ℕ, ◌≡◌, List, [], ◌∷◌, Ok as accepted}
 use Rattle.base.specs.Tables.{table}
 use Rattle.plan.specs.Check.{check_of}
 use Rattle.plan.specs.declared.Cell.{Cell}
 use Rattle.plan.specs.declared.Plan.{Plan}
-use Rattle.plan.specs.declared.Checked.TheVariants.{Plan as accepted}
 use Rattle.layout.specs.Rules.{quad_symbol, groups_left, quad_group}
 use Rattle.counts.specs.Counts.{kinds, kind_count}
 use Rattle.payload.specs.Payload.{AcceptedPayload}

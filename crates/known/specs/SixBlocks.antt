@@ -1,10 +1,9 @@
 -- What the witness of document 02's #102 cites: a plan of six blocks that the plan check accepts, its counts, and two payloads accepted
 -- under it, so that the theorems' premises are met there too. It is a setting that leaves a user the fewest elements.
-use Rattle.std.specs.Prelude.{ℕ, ◌≡◌, List, [], ◌∷◌}
+use Rattle.std.specs.Prelude.{ℕ, ◌≡◌, List, [], ◌∷◌, Ok as accepted}
 use Rattle.base.specs.Tables.{table}
 use Rattle.plan.specs.Check.{check_of, verdict_of}
 use Rattle.plan.specs.declared.Plan.{Plan}
-use Rattle.plan.specs.declared.Checked.TheVariants.{Plan as accepted}
 use Rattle.counts.specs.Counts.{kinds, kind_count}
 use Rattle.payload.specs.Payload.{AcceptedPayload}
 use Rattle.known.specs.Example.{zeros}

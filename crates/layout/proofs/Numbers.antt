@@ -1,6 +1,6 @@
 -- Owners of a plan, those that have a place, have different numbers, so that a number names one owner and one kind of owners. Assumes
 -- the plan check's answer.
-use Rattle.std.specs.Prelude.{if◌then◌else◌}
+use Rattle.std.specs.Prelude.{if◌then◌else◌, Ok as accepted}
 use Prim.Native.Nat.{ℕ, ◌+◌, ◌-◌, ◌<◌}
 use mathlib.Core.Path.{◌≡◌, refl, sym, ap, ◌∙◌}
 use mathlib.Core.Bool.{Bool, true, ◌&&◌}
@@ -12,7 +12,6 @@ use Rattle.plan.specs.Check.{check_of}
 use Rattle.plan.specs.Fields.{mapping_units}
 use Rattle.plan.specs.CommandLists.{users_of}
 use Rattle.plan.specs.declared.Plan.{Plan}
-use Rattle.plan.specs.declared.Checked.TheVariants.{Plan as accepted}
 use Rattle.plan.proofs.Listed.{and_left}
 use Rattle.plan.proofs.Valid.{valid}
 use Rattle.plan.proofs.Counts.{units-most, users-most}

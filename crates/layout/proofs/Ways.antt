@@ -306,18 +306,15 @@ module _ (w : List ℕ) (at k i : ℕ) where
     user-found zero l t n = absurd (not-suc-le-zero l)
     user-found (suc m) l t n = rw (commands-next user_of w at m, ← eu, ← er n, t) refl
 
-    pub user-passed : (m : ℕ) → 0 < m → r ≡ false → (to : ℕ) → to ≡ next_of w at → (j : ℕ) → j ≡ i + 1
-        → (n : ℕ) → user_from j (users_from (drop to w) (m - 1)) n k ≡ user_from i (users_from (drop at w) m) n k
+    pub user-passed : (m left : ℕ) → left + 1 ≡ m → r ≡ false → (to : ℕ) → to ≡ next_of w at → (j : ℕ) → j ≡ i + 1
+        → (n : ℕ) → user_from j (users_from (drop to w) left) n k ≡ user_from i (users_from (drop at w) m) n k
     unfolding user_from first_as
-    user-passed zero l t to et j ej n = absurd (not-suc-le-zero l)
-    user-passed (suc m) l t to et j ej n = rw (sub-one, ej, commands-next user_of w at m, ← eu, ← er n, t, ← et) refl
+    user-passed zero left l t to et j ej n = absurd (let z : ⊥ = omega arith in z)
+    user-passed (suc m) left l t to et j ej n = let e : left ≡ m = omega arith in rw (e, ej, commands-next user_of w at m, ← eu, ← er n, t, ← et) refl
 
   pub user-end : (m : ℕ) → m ≡ 0 → (n : ℕ) → Idle ≡ user_from i (users_from (drop at w) m) n k
   unfolding user_from first_as commands_from
   user-end m e n = rw e refl
-
-pub all-users : (us : List User) (k m n : ℕ) → user_from (m - m) us n k ≡ user_from 0 us n k
-all-users us k m n = ap (λ (j : ℕ). user_from j us n k) (let z : m - m ≡ 0 = omega arith in z)
 
 -- ---- the last step: the fixed owner, or nothing fixed
 tag-not-idle : (o : Owner) → OneOf (0 ∷ 1 ∷ 2 ∷ 3 ∷ 4 ∷ 5 ∷ 6 ∷ []) (tag_of the_type o) → is_idle o ≡ false

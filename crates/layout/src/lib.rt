@@ -1,10 +1,9 @@
 // The owner of each place of the grid (document 01, Owners), and the owner query.
 #![tactic(auto)]
 
-ghost use Rattle.std.specs.Prelude.{◌≡◌, ℕ, ◌+◌, ◌-◌, ◌*◌, ◌/◌, ◌%◌, ◌≤◌, ◌<◌, true, ◌&&◌, drop, leb, ltb};
+ghost use Rattle.std.specs.Prelude.{◌≡◌, ℕ, ◌+◌, ◌-◌, ◌*◌, ◌/◌, ◌%◌, ◌≤◌, ◌<◌, true, ◌&&◌, drop, leb, ltb, Ok as accepted};
 ghost use Rattle.plan.specs.Check.{check_of};
 ghost use Rattle.plan.specs.CommandLists.{users_from};
-ghost use Rattle.plan.specs.declared.Checked.TheVariants.{Plan as accepted};
 ghost use Rattle.plan.specs.Fields.{control_symbols, symbol_groups};
 ghost use Rattle.plan.specs.Valid.{CellIn, FrameIn};
 ghost use Rattle.layout.specs.Rules.{slot_length, in_slot, crs_symbol, crs_shift, middle, marked, in_sync_area, in_pbch_area, format_group, groups_left, quad_symbol, start_number};
@@ -14,7 +13,7 @@ ghost use Rattle.layout.specs.Region.{is_vacant, group_quad};
 ghost use Rattle.base.specs.Ring.{between as between_of, ring_below};
 ghost use Rattle.layout.specs.Query.{in_grid, owner_query_of};
 
-use plan::{Cell, Checked, Frame, Plan, Refusal, User};
+use plan::{Cell, Frame, Plan, Refusal, User};
 
 // The synchronisation marks.
 #[derive(Clone, Copy)]
@@ -36,29 +35,22 @@ pub enum Owner {
     Idle,
 }
 
-// What the owner query answers.
-#[derive(Clone, Copy)]
-pub enum OwnerAnswer {
-    Is(Owner),
-    Refused(Refusal),
-}
-
 // The owner's number.
-pub fn owner_number(o: Owner) -> u16
-    ensures { result ≡ owner_number o }
-{
-    match o {
-        Owner::Crs(port) => port as u16,
-        Owner::Sync(m) => match m {
-            Mark::Primary => 16,
-            Mark::Secondary => 17,
-        },
-        Owner::Pbch => 32,
-        Owner::Pcfich => 33,
-        Owner::Phich(unit) => 64 + (unit as u16),
-        Owner::User(i) => 256 + (i as u16),
-        Owner::Held => 512,
-        Owner::Idle => 513,
+impl From<Owner> for u16 {
+    ghost from_gives = { λ o n. n ≡ owner_number o };
+
+    fn from(o: Owner) -> u16 {
+        match o {
+            Owner::Crs(port) => port as u16,
+            Owner::Sync(Mark::Primary) => 16,
+            Owner::Sync(Mark::Secondary) => 17,
+            Owner::Pbch => 32,
+            Owner::Pcfich => 33,
+            Owner::Phich(unit) => 64 + (unit as u16),
+            Owner::User(i) => 256 + (i as u16),
+            Owner::Held => 512,
+            Owner::Idle => 513,
+        }
     }
 }
 
@@ -149,7 +141,8 @@ fn pilot_of(cell: Cell, p: u8, s: usize, k: usize) -> u8
     4
 }
 
-// The port below 4 whose reference signal a four-port cell has at the place, 4 for none.
+// The port below 4 whose reference signal a four-port cell has at the place, 4 for none. 4 and no Option: both questions that are asked of it, whether
+// the port is one of the cell's and whether there is one, are then one comparison (and the laws of `pilot` are about that order).
 fn pilot_at(cell: Cell, s: usize, k: usize) -> u8
     ensures { result ≡ pilot cell s k }
 {
@@ -295,9 +288,7 @@ fn unit_in(cell: Cell, s: usize, d: usize) -> Owner
     ensures { result ≡ unit_at cell s d 3 }
 {
     let h = groups_left(cell, s);
-    let mut i: usize = 3;
-    while 0 < i {
-        i -= 1;
+    for i in (0..3).rev() {
         if quad_in(cell, s, d, i) {
             return Owner::Phich((d - i * h / 3) as u8);
         }
@@ -327,16 +318,7 @@ fn group_at(cell: Cell, s: usize, t: usize) -> Owner
     let b = format_group(cell, 1);
     let c = format_group(cell, 2);
     let d = format_group(cell, 3);
-    if t == a {
-        return Owner::Pcfich;
-    }
-    if t == b {
-        return Owner::Pcfich;
-    }
-    if t == c {
-        return Owner::Pcfich;
-    }
-    if t == d {
+    if t == a || t == b || t == c || t == d {
         return Owner::Pcfich;
     }
     number_at(cell, s, t - formats_below(a, b, c, d, t))
@@ -346,7 +328,7 @@ fn group_at(cell: Cell, s: usize, t: usize) -> Owner
 fn less(a: usize, b: usize) -> usize
     ensures { result ≡ a - b }
 {
-    if b < a { a - b } else { 0 }
+    a.saturating_sub(b)
 }
 
 // How many numbers from lo to hi - 1 stand below x.
@@ -410,12 +392,10 @@ fn vacant_before(cell: Cell, symbols: usize, k: usize, s: usize) -> usize
     ensures { (result ≡ vacant_before cell symbols k s) × (result < 4096) }
 {
     let mut sum: usize = 0;
-    let mut n: usize = 0;
-    while n < symbols {
+    for n in 0..symbols {
         let size = plan::group_size(cell, n);
         let starts = (k + base::one_below(n, s) + (size - 1)) / size;
         sum = sum + vacant_below(cell, n, starts);
-        n = n + 1;
     }
     sum
 }
@@ -490,13 +470,11 @@ fn user_from(plan: &[u8], start: usize, count: usize, k: usize) -> Owner
     ensures { (n : ℕ) → result ≡ user_from 0 (users_from (drop start plan.now) count) n k }
 {
     let mut at = start;
-    let mut left = count;
-    while 0 < left {
+    for i in 0..count {
         if blocks_have(plan::user_at(plan, at), k) {
-            return Owner::User((count - left) as u8);
+            return Owner::User(i as u8);
         }
         at = plan::next_at(plan, at);
-        left = left - 1;
     }
     Owner::Idle
 }
@@ -536,16 +514,16 @@ fn in_grid(cell: Cell, s: usize, k: usize, port: usize) -> bool
 }
 
 // The owner query: the owner of the element (s, k) of a port.
-pub fn owner_query(plan: &[u8], s: usize, k: usize, port: usize) -> OwnerAnswer
+pub fn owner_query(plan: &[u8], s: usize, k: usize, port: usize) -> Result<Owner, Refusal>
     ensures { result ≡ owner_query_of plan.now s k port }
 {
     let checked = plan::check(plan);
-    let Checked::Plan(p) = checked else {
-        return OwnerAnswer::Refused(plan::refusal_in(checked));
+    let Ok(p) = checked else {
+        return Err(checked.unwrap_err());
     };
     if in_grid(p.cell, s, k, port) {
-        OwnerAnswer::Is(owner_at(plan, p, s, k))
+        Ok(owner_at(plan, p, s, k))
     } else {
-        OwnerAnswer::Refused(Refusal::Outside)
+        Err(Refusal::Outside)
     }
 }

@@ -1,5 +1,5 @@
 -- Lengths and counts of accepted plans are small, so that an i64 holds them. Assumes nothing.
-use Rattle.std.specs.Prelude.{if◌then◌else◌}
+use Rattle.std.specs.Prelude.{if◌then◌else◌, Result, Err, Err as refused, Ok, Ok as accepted}
 use Prim.Native.Nat.{ℕ, ◌^◌, ◌≤◌, ◌<◌}
 use mathlib.Core.Path.{◌≡◌, refl, sym, ap, ◌∙◌}
 use mathlib.Core.Bool.{Bool, true, false}
@@ -12,13 +12,11 @@ use lib.Dec.{eqb, ltb}
 use lib.ListN.{length}
 use Rattle.base.proofs.Tests.{by-test}
 use Rattle.plan.specs.Answers.{Answer, given, refused_by}
-use Rattle.plan.specs.Check.{refusal_number, check_of, refused_as, unless_refused}
+use Rattle.plan.specs.Check.{refusal_number, check_of, refused_as, unless_refused, number_answer}
 use Rattle.plan.specs.declared.Plan.{Plan}
 use Rattle.plan.specs.declared.Refusal.{Refusal}
 use Rattle.plan.specs.declared.Refusal.TheVariants.{Unreadable, Order, CellField, FrameField, HiField, UserField, Used, ShortRegion}
 use Rattle.plan.specs.declared.Refusal.TheVariants.{Outside, NoElement, GridLength, PayloadLength, SpareBit, NoPayload}
-use Rattle.plan.specs.declared.Checked.{Checked}
-use Rattle.plan.specs.declared.Checked.TheVariants.{Plan as accepted, Refused as refused}
 use Rattle.plan.proofs.Answers.{no_number}
 use Rattle.plan.proofs.Valid.{valid}
 use Rattle.plan.proofs.Counts.{blocks-most, ports-most}
@@ -29,16 +27,10 @@ use Rattle.base.proofs.Sums.{sum-part}
 use Rattle.payload.specs.Payload.{grid_length, payload_length, spare_clear, unless_lengths, unless_buffers}
 use Rattle.layout.proofs.Pilot.{symbols-most}
 use Rattle.payload.proofs.Lengths.{grid-most, length-room, length_found}
-use Rattle.build.specs.Build.{pdsch_elements, built_of, built_answer}
-use Rattle.build.specs.declared.Built.{Built}
-use Rattle.build.specs.declared.Built.TheVariants.{Elements as built_elements}
-use Rattle.read.specs.Read.{ReadUnder, Reads, read_answer}
-use Rattle.read.specs.declared.ReadBack.{ReadBack}
-use Rattle.read.specs.declared.ReadBack.TheVariants.{Elements as read_elements}
-use Rattle.mapper.specs.Calls.{answer_with, number_answer, grid_length_of, payload_length_of, kind_elements, kind_count_of}
+use Rattle.build.specs.Build.{pdsch_elements, built_of}
+use Rattle.read.specs.Read.{ReadUnder, Reads}
+use Rattle.mapper.specs.Calls.{answer_with, grid_length_of, payload_length_of, kind_elements, kind_count_of}
 use Rattle.mapper.specs.Sizes.{Small}
-use Rattle.mapper.specs.declared.Number.{Number}
-use Rattle.mapper.specs.declared.Number.TheVariants.{Is, Refused}
 
 -- ---- an accepted plan's numbers
 module _ (w : List ℕ) (p : Plan) (e : check_of w ≡ accepted p) where
@@ -80,12 +72,12 @@ refusal-small NoPayload = omega arith
 refusal-small ShortRegion = omega arith
 
 -- ---- and those of the calls
-numbered-small : (f : Plan → ℕ) (a : Checked) → ((p : Plan) → a ≡ accepted p → f p < 2 ^ 63) → (n : Number) → number_answer n ≡ answer_with f a → Small n
-numbered-small f (accepted p) h (Is n) e = omega (arith, ap (λ (x : Answer). x.value) e, h p refl)
-numbered-small f (refused r) h (Is n) e = no_number (sym e)
-numbered-small f a h (Refused x) e = tt
+numbered-small : (f : Plan → ℕ) (a : Result Plan Refusal) → ((p : Plan) → a ≡ accepted p → f p < 2 ^ 63) → (n : Result ℕ Refusal) → number_answer n ≡ answer_with f a → Small n
+numbered-small f (accepted p) h (Ok n) e = omega (arith, ap (λ (x : Answer). x.value) e, h p refl)
+numbered-small f (refused r) h (Ok n) e = no_number (sym e)
+numbered-small f a h (Err x) e = tt
 
-module _ (w : List ℕ) (n : Number) where
+module _ (w : List ℕ) (n : Result ℕ Refusal) where
   small_of : (f : Plan → ℕ) → number_answer n ≡ answer_with f (check_of w) → ((p : Plan) → check_of w ≡ accepted p → f p < 2 ^ 63) → Small n
   small_of f e h = numbered-small f (check_of w) h n e
 
@@ -103,7 +95,7 @@ module _ (w : List ℕ) (n : Number) where
 
 -- ---- the answers of build and read
 module _ (w payload grid : List ℕ) where
-  built-from : (a : Checked) → check_of w ≡ a
+  built-from : (a : Result Plan Refusal) → check_of w ≡ a
       → (unless_refused refused_as (λ (p : Plan). unless_buffers refused_as w p grid payload (given (pdsch_elements w p))) a).value ≤ 16800
   unfolding unless_buffers unless_lengths
   built-from (accepted p) e =
@@ -114,9 +106,9 @@ module _ (w payload grid : List ℕ) where
       (λ a. rw a (omega arith))
   built-from (refused r) e = refusal-small r
 
-  pub built-fits : (b : Built) → built_answer b ≡ built_of w payload grid → (n : ℕ) → b ≡ built_elements n → n < 2 ^ 63
+  pub built-fits : (b : Result ℕ Refusal) → number_answer b ≡ built_of w payload grid → (n : ℕ) → b ≡ Ok n → n < 2 ^ 63
   unfolding built_of
-  built-fits b e n q = omega (arith, ap (λ (a : Answer). a.value) (ap built_answer (sym q) ∙ e), built-from (check_of w) refl)
+  built-fits b e n q = omega (arith, ap (λ (a : Answer). a.value) (ap number_answer (sym q) ∙ e), built-from (check_of w) refl)
 
   lengths-small : (p : Plan) (a : Answer) → a.value ≤ 16800 → (unless_lengths refused_as w p grid payload a).value ≤ 16800
   unfolding unless_lengths
@@ -135,9 +127,9 @@ module _ (w payload grid : List ℕ) where
   read_small : {after : List ℕ} (a : Answer) → Reads w grid payload a after → a.value ≤ 16800
   read_small a h = pick (check_of w) refl
     where
-      pick : (x : Checked) → check_of w ≡ x → a.value ≤ 16800
+      pick : (x : Result Plan Refusal) → check_of w ≡ x → a.value ≤ 16800
       pick (accepted p) e = read_under p e (h.under p e)
       pick (refused r) e = rw (h.first r e) (refusal-small r)
 
-  pub read_fits : {after : List ℕ} (b : ReadBack) → Reads w grid payload (read_answer b) after → (n : ℕ) → b ≡ read_elements n → n < 2 ^ 63
-  read_fits b h n q = omega (arith, ap (λ (a : Answer). a.value) (ap read_answer (sym q)), read_small (read_answer b) h)
+  pub read_fits : {after : List ℕ} (b : Result ℕ Refusal) → Reads w grid payload (number_answer b) after → (n : ℕ) → b ≡ Ok n → n < 2 ^ 63
+  read_fits b h n q = omega (arith, ap (λ (a : Answer). a.value) (ap number_answer (sym q)), read_small (number_answer b) h)

@@ -7,6 +7,7 @@ use native.Mathlib.Omega.{arith}
 use borrow.Author.Tests.{le-leb}
 use lib.IntN.{nat_abs}
 use lib.ListN.{length, get_or}
+use Rattle.std.specs.declared.result.Result.TheVariants.{Ok as accepted}
 use Rattle.base.specs.declared.Pair.{Pair}
 use Rattle.base.specs.declared.Element.{Element}
 use Rattle.base.specs.Bytes.{byte_in, element_of, pair_of, silent}
@@ -14,13 +15,12 @@ use Rattle.base.proofs.Bytes.{element-back}
 use Rattle.plan.specs.Answers.{given}
 use Rattle.plan.specs.Check.{check_of}
 use Rattle.plan.specs.declared.Plan.{Plan}
-use Rattle.plan.specs.declared.Checked.TheVariants.{Plan as accepted}
 use Rattle.layout.specs.Owners.{GridPlace, symbols, carriers}
 use Rattle.sample.specs.Units.{scale_of}
 use Rattle.sample.specs.Refusal.{no_element}
 use Rattle.sample.proofs.Elements.{limit-few, row-elements}
 use Rattle.sample.specs.Answer.{meaning_of, sample_of}
-use Rattle.sample.specs.declared.SampleAnswer.TheVariants.{Is}
+use Rattle.std.specs.declared.option.Option.TheVariants.{Some}
 use Rattle.subframe.specs.Grid.{grid_of, element_numbered}
 use Rattle.subframe.proofs.Bytes.{length-by-port, byte-of, byte_at, grid-size}
 use Rattle.mapper.proofs.EveryElement.{Valued, silence, phase, levels, element-valued, every_element}
@@ -71,5 +71,5 @@ module _ (w payload grid : List ℕ) (n : ℕ) (built : built_of w payload grid 
   -- so the sample call answers with what it means
   pub built-samples :
       let g = grid_after w payload grid in
-      sample_of (get_or g (3 * e) 0) (get_or g (3 * e + 1) 0) (get_or g (3 * e + 2) 0) ≡ Is (meaning_of (get_or g (3 * e) 0) (get_or g (3 * e + 1) 0) (get_or g (3 * e + 2) 0))
+      sample_of (get_or g (3 * e) 0) (get_or g (3 * e + 1) 0) (get_or g (3 * e + 2) 0) ≡ Some (meaning_of (get_or g (3 * e) 0) (get_or g (3 * e + 1) 0) (get_or g (3 * e + 2) 0))
   built-samples = rw built-elements refl

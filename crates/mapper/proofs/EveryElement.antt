@@ -9,6 +9,7 @@ use lib.Dec.{eqb, ltb}
 use lib.IntN.{ℤ, pos, neg_ℤ, nat_abs}
 use lib.ListN.{get_or}
 use borrow.Author.Tests.{ltb-true}
+use Rattle.std.specs.declared.result.Result.TheVariants.{Ok as accepted}
 use Rattle.base.specs.declared.Pair.{Pair}
 use Rattle.base.specs.declared.Element.{Element}
 use Rattle.base.specs.Bytes.{unit_byte, element_of, silent}
@@ -26,7 +27,7 @@ use Rattle.precoding.specs.Matrices.{MatrixRow, no_term, itself, conjugate, minu
 use Rattle.precoding.specs.Phich.{phich_matrix, phich_precoded}
 use Rattle.crs.specs.Crs.{crs_init, in_widest, crs_value}
 use Rattle.sample.specs.declared.UnitRow.{UnitRow}
-use Rattle.sample.specs.declared.Scale.TheVariants.{Levels}
+use Rattle.std.specs.declared.option.Option.TheVariants.{Some}
 use Rattle.sample.specs.Units.{scale_of}
 use Rattle.sync.specs.Pss.{pss_phase}
 use Rattle.sync.specs.Sss.{sss_bit, sss_level}
@@ -35,7 +36,6 @@ use Rattle.plan.specs.CommandLists.{nth_user}
 use Rattle.plan.specs.declared.Cell.{Cell}
 use Rattle.plan.specs.declared.Frame.{Frame}
 use Rattle.plan.specs.declared.Plan.{Plan}
-use Rattle.plan.specs.declared.Checked.TheVariants.{Plan as accepted}
 use Rattle.layout.specs.Owners.{GridPlace, carriers, owns}
 use Rattle.layout.specs.declared.Mark.TheVariants.{Primary, Secondary}
 use Rattle.layout.specs.declared.Owner.{Owner}
@@ -55,7 +55,7 @@ use Rattle.subframe.proofs.OwnerBits.{user-order}
 pub data Valued : Element → Type 0 where
   silence : Valued silent
   phase : (i : ℕ) → i < 63 → Valued (record { byte = 63; i = i; j = 0 })
-  levels : (b : ℕ) (row : UnitRow) (d : Pair) → scale_of b ≡ Levels row → Small row.limit d → Valued (element_of b d)
+  levels : (b : ℕ) (row : UnitRow) (d : Pair) → scale_of b ≡ Some row → Small row.limit d → Valued (element_of b d)
 
 negated : (n : ℕ) (z : ℤ) → nat_abs z ≤ n → nat_abs (neg_ℤ z) ≤ n
 negated n z h = omega (arith, abs_neg z)
@@ -64,7 +64,7 @@ sign : (b : ℕ) → nat_abs (flip b (pos 1)) ≤ 8
 sign b = omega (arith, flip-abs b (pos 1))
 
 -- ---- what precoding sends of symbols within the limit of their unit on the ports
-sent-valued : (b : ℕ) (row : UnitRow) (r : MatrixRow) (x : ℕ → Pair) → scale_of b ≡ Levels row → ((v : ℕ) → Small row.limit (x v)) → Valued (sent b r x)
+sent-valued : (b : ℕ) (row : UnitRow) (r : MatrixRow) (x : ℕ → Pair) → scale_of b ≡ Some row → ((v : ℕ) → Small row.limit (x v)) → Valued (sent b r x)
 unfolding sent
 sent-valued b row no_term x e h = silence
 sent-valued b row (itself v) x e h = levels b row (x v) e (h v)
@@ -74,7 +74,7 @@ sent-valued b row (minus_conjugate v) x e h = levels b row (record { re = neg_�
 -- levels of at most k are within the limit of the unit u on P ports
 record Within (P u k : ℕ) : Type 0 where
   pub row : UnitRow
-  pub known : scale_of (unit_byte_on P u) ≡ Levels row
+  pub known : scale_of (unit_byte_on P u) ≡ Some row
   pub limit : k ≤ row.limit
 
 module _ (P M u k : ℕ) (d : ℕ → Pair) (a : Within P u k) (h : (n : ℕ) → n < M → Small k (d n)) where
@@ -92,11 +92,11 @@ module _ (P M u k : ℕ) (d : ℕ → Pair) (a : Within P u k) (h : (n : ℕ) �
       sent-valued (unit_byte_on P u) a.row (get_or W (P * (j % P) + port) no_term) (λ (v : ℕ). layer P M d v (j / P)) a.known (λ v. layer-small v (j / P))
 
 -- ---- "Units 2, 10, 42" and 170, with one port as they are, else doubled
-doubled : (P u k : ℕ) (r s : UnitRow) → scale_of (unit_byte u) ≡ Levels r → scale_of (unit_byte (2 * u)) ≡ Levels s → k ≤ r.limit → k ≤ s.limit → Within P u k
+doubled : (P u k : ℕ) (r s : UnitRow) → scale_of (unit_byte u) ≡ Some r → scale_of (unit_byte (2 * u)) ≡ Some s → k ≤ r.limit → k ≤ s.limit → Within P u k
 unfolding unit_byte_on unit_on
 doubled P u k r s e f l m = record { row = cond (eqb P 1) r s; known = pick (eqb P 1); limit = most (eqb P 1) }
   where
-    pick : (t : Bool) → scale_of (unit_byte (cond t u (2 * u))) ≡ Levels (cond t r s)
+    pick : (t : Bool) → scale_of (unit_byte (cond t u (2 * u))) ≡ Some (cond t r s)
     pick true = e
     pick false = f
 

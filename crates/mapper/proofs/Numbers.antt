@@ -8,22 +8,20 @@ use lib.Signed.{mag}
 use mir.Syntax.{w64}
 use mir.Val.{SFits, to_z, of_z}
 use mir.Facts.{to_z-of_z, to_z_pos}
+use Rattle.std.specs.declared.result.Result.{Result}
+use Rattle.std.specs.declared.result.Result.TheVariants.{Ok as accepted, Ok, Err as refused}
 use Rattle.base.proofs.Fits.{fits-abs, abs_neg, sub-zero}
 use Rattle.plan.specs.Answers.{Answer, given, refused_by}
-use Rattle.plan.specs.Check.{check_of, refused_as}
+use Rattle.plan.specs.Check.{check_of, refused_as, number_answer}
 use Rattle.plan.specs.declared.Plan.{Plan}
 use Rattle.plan.specs.declared.Refusal.{Refusal}
-use Rattle.plan.specs.declared.Checked.{Checked}
-use Rattle.plan.specs.declared.Checked.TheVariants.{Plan as accepted, Refused as refused}
 use Rattle.layout.specs.Query.{owner_query_of, owner_answer}
-use Rattle.layout.specs.declared.OwnerAnswer.{OwnerAnswer}
 use Rattle.read.specs.Read.{Reads}
-use Rattle.mapper.specs.Calls.{answer_with, check_answer_of, owner_answer_of, checked_answer, number_answer, in_c}
+use Rattle.mapper.specs.Calls.{answer_with, check_answer_of, owner_answer_of, checked_answer, in_c}
 use Rattle.mapper.specs.Sizes.{Small}
-use Rattle.mapper.specs.declared.Number.{Number}
-use Rattle.mapper.specs.declared.Number.TheVariants.{Is}
+use Rattle.layout.specs.declared.Owner.{Owner}
 
-module _ (w : List ℕ) (a : Checked) (e : a ≡ check_of w) where
+module _ (w : List ℕ) (a : Result Plan Refusal) (e : a ≡ check_of w) where
   module _ (p : Plan) (is : a ≡ accepted p) where
     pub number_is : (f : Plan → ℕ) (n : ℕ) → n ≡ f p → given n ≡ answer_with f (check_of w)
     number_is f n q = ap given q ∙ ap (answer_with f) (sym is ∙ e)
@@ -37,7 +35,7 @@ module _ (w : List ℕ) (a : Checked) (e : a ≡ check_of w) where
   check-numbers = ap checked_answer e
 
 -- ---- the owner's number
-pub owner-numbers : (w : List ℕ) (s k port : ℕ) (r : OwnerAnswer) → r ≡ owner_query_of w s k port → owner_answer r ≡ owner_answer_of w s k port
+pub owner-numbers : (w : List ℕ) (s k port : ℕ) (r : Result Owner Refusal) → r ≡ owner_query_of w s k port → owner_answer r ≡ owner_answer_of w s k port
 owner-numbers w s k port r e = ap owner_answer e
 
 -- ---- what read promises of its answer, it promises of its equation's
@@ -64,7 +62,7 @@ module _ (n : ℕ) (x : Answer) where
     pub minus-back : z ≡ neg_ℤ (pos n) → x ≡ refused_by n → to_z w64 (of_z w64 z) ≡ in_c x
     minus-back q e = back z fits ∙ q ∙ minus_is e
 
-pub number-back : (z : ℤ) → mag z < 2 ^ 63 → (n : Number) (a : Answer) → z ≡ in_c (number_answer n) → number_answer n ≡ a → to_z w64 (of_z w64 z) ≡ in_c a
+pub number-back : (z : ℤ) → mag z < 2 ^ 63 → (n : Result ℕ Refusal) (a : Answer) → z ≡ in_c (number_answer n) → number_answer n ≡ a → to_z w64 (of_z w64 z) ≡ in_c a
 number-back z fits n a q e = back z fits ∙ q ∙ ap in_c e
 
 -- ---- minus a number below 2^63
@@ -78,5 +76,5 @@ module _ (n : ℕ) (small : n < 2 ^ 63) where
   pub negated-is : (m : ℕ) → n ≡ m → to_z w64 (of_z w64 (pos 0 -ℤ to_z w64 n)) ≡ neg_ℤ (pos m)
   negated-is m e = to_z-of_z negated_fits ∙ negated ∙ ap (λ (k : ℕ). neg_ℤ (pos k)) e
 
-pub small_is : (n : Number) (v : ℕ) → n ≡ Is v → Small n → v < 2 ^ 63
+pub small_is : (n : Result ℕ Refusal) (v : ℕ) → n ≡ Ok v → Small n → v < 2 ^ 63
 small_is n v e h = rw e at h

@@ -15,8 +15,8 @@ use Rattle.sample.specs.Promise.{Sampled}
 use Rattle.sample.specs.declared.Point.{Point}
 use Rattle.sample.specs.declared.Sample.{Sample}
 use Rattle.sample.specs.declared.Sample.TheVariants.{Silence, Phase, At}
-use Rattle.sample.specs.declared.SampleAnswer.{SampleAnswer}
-use Rattle.sample.specs.declared.SampleAnswer.TheVariants.{Is as element, Refused as no_sample}
+use Rattle.std.specs.declared.option.Option.{Option}
+use Rattle.std.specs.declared.option.Option.TheVariants.{Some, None}
 use Rattle.mapper.specs.Calls.{sample_numbers, sample_answer_of, sample_answer}
 
 no_nan : (u : ℕ) (z : ℤ) (x : Float) → Close u z x → T (not (is_nan x))
@@ -35,17 +35,17 @@ zeros (suc (suc (suc n))) = refl
 pub no-fourth : (a b c n : ℕ) → 3 ≤ n → 0 ≡ get_or (a ∷ b ∷ c ∷ []) n 0
 no-fourth a b c n h = sym (get_or-eq_default (a ∷ b ∷ c ∷ []) 0 h)
 
-module _ (b i j : ℕ) (r : SampleAnswer) (sampled : Sampled b i j r) where
+module _ (b i j : ℕ) (r : Option Sample) (sampled : Sampled b i j r) where
   -- the answer's numbers are those of the three bytes
   pub sample-numbers : (n : ℕ) → sample_answer n r ≡ sample_answer_of n b i j
   sample-numbers n = ap (sample_answer n) sampled.answer
 
-  pub is-refused : (n : ℕ) → r ≡ no_sample → sample_answer_of n b i j ≡ refused_as NoElement
+  pub is-refused : (n : ℕ) → r ≡ None → sample_answer_of n b i j ≡ refused_as NoElement
   is-refused n e = sym (sample-numbers n) ∙ ap (sample_answer n) e
 
-  module _ (s : Sample) (is : r ≡ element s) where
+  module _ (s : Sample) (is : r ≡ Some s) where
     is-sample : (n : ℕ) (t : Sample) → s ≡ t → sample_answer_of n b i j ≡ given (get_or (sample_numbers t) n 0)
-    is-sample n t e = sym (sample-numbers n) ∙ ap (sample_answer n) (is ∙ ap element e)
+    is-sample n t e = sym (sample-numbers n) ∙ ap (sample_answer n) (is ∙ ap Some e)
 
     pub is-silence : (n : ℕ) → s ≡ Silence → sample_answer_of n b i j ≡ given 0
     is-silence n e = is-sample n Silence e ∙ ap given (zeros n)
@@ -59,7 +59,7 @@ module _ (b i j : ℕ) (r : SampleAnswer) (sampled : Sampled b i j r) where
       is-pair n x y m ex ey q = is-sample n (At p) e ∙ rw (q, ex, ey) refl
 
       pub first-no-nan : T (not (is_nan p.re))
-      first-no-nan = no_nan _ _ p.re (sampled.pair p (is ∙ ap element e)).re.bound
+      first-no-nan = no_nan _ _ p.re (sampled.pair p (is ∙ ap Some e)).re.bound
 
       pub second-no-nan : T (not (is_nan p.im))
-      second-no-nan = no_nan _ _ p.im (sampled.pair p (is ∙ ap element e)).im.bound
+      second-no-nan = no_nan _ _ p.im (sampled.pair p (is ∙ ap Some e)).im.bound

@@ -1,27 +1,22 @@
 -- What the promises cite: the public calls' answers in numbers, by the input, where no other crate has them, and the numbers that the functions for C
 -- answer with: a number from 0 on, or minus the refusal's number.
-use Rattle.std.specs.Prelude.{if◌then◌else◌, ℕ, List, [], ◌∷◌, ltb, ℤ, pos, neg_ℤ, get_or}
+use Rattle.std.specs.Prelude.{if◌then◌else◌, ℕ, List, [], ◌∷◌, ltb, ℤ, pos, neg_ℤ, get_or, Option, Some, None, Result, Ok as accepted, Err as refused}
 use Rattle.std.specs.Float.{binary32}
 use Rattle.std.specs.Float.Ieee.{to_bits}
 use Rattle.plan.specs.Answers.{Answer, given}
 use Rattle.plan.specs.Check.{check_of, refused_as, unless_refused}
 use Rattle.plan.specs.declared.Refusal.TheVariants.{NoElement}
 use Rattle.plan.specs.declared.Plan.{Plan}
-use Rattle.plan.specs.declared.Checked.{Checked}
-use Rattle.plan.specs.declared.Checked.TheVariants.{Plan as accepted, Refused as refused}
+use Rattle.plan.specs.declared.Refusal.{Refusal}
 use Rattle.layout.specs.Query.{owner_query_of, owner_answer}
 use Rattle.counts.specs.Counts.{kinds, kind_count}
 use Rattle.payload.specs.Payload.{grid_length, payload_length}
 use Rattle.sample.specs.Answer.{sample_of}
 use Rattle.sample.specs.declared.Sample.{Sample}
 use Rattle.sample.specs.declared.Sample.TheVariants.{Silence, Phase, At}
-use Rattle.sample.specs.declared.SampleAnswer.{SampleAnswer}
-use Rattle.sample.specs.declared.SampleAnswer.TheVariants.{Is as element, Refused as no_sample}
-use Rattle.mapper.specs.declared.Number.{Number}
-use Rattle.mapper.specs.declared.Number.TheVariants.{Is, Refused}
 
 -- ---- a number of an accepted plan, or the plan's refusal
-abbrev pub answer_with : (Plan → ℕ) → Checked → Answer
+abbrev pub answer_with : (Plan → ℕ) → Result Plan Refusal → Answer
 answer_with f a = unless_refused refused_as (λ (p : Plan). given (f p)) a
 
 -- the length that refusal 10 asks of a grid, "grid not 36×N×S×P bytes"
@@ -45,18 +40,14 @@ sample_numbers Silence = 0 ∷ 0 ∷ 0 ∷ []
 sample_numbers (Phase x) = 1 ∷ x ∷ 0 ∷ []
 sample_numbers (At p) = 2 ∷ to_bits binary32 p.re ∷ to_bits binary32 p.im ∷ []
 
--- ---- the numbers of the calls' enums: an accepted plan is 0
-abbrev pub checked_answer : Checked → Answer
+-- ---- the numbers of the calls' answers: an accepted plan is 0
+abbrev pub checked_answer : Result Plan Refusal → Answer
 checked_answer (accepted p) = given 0
 checked_answer (refused r) = refused_as r
 
-abbrev pub number_answer : Number → Answer
-number_answer (Is n) = given n
-number_answer (Refused r) = refused_as r
-
-abbrev pub sample_answer : ℕ → SampleAnswer → Answer
-sample_answer n (element s) = given (get_or (sample_numbers s) n 0)
-sample_answer n no_sample = refused_as NoElement
+abbrev pub sample_answer : ℕ → Option Sample → Answer
+sample_answer n (Some s) = given (get_or (sample_numbers s) n 0)
+sample_answer n None = refused_as NoElement
 
 -- ---- and of the calls, by the input: the plan check's, the owner query's, number n of a sample's three
 abbrev pub check_answer_of : List ℕ → Answer

@@ -4,60 +4,45 @@
 // number; include/mapper.h describes them.
 #![tactic(auto)]
 
-ghost use Rattle.std.specs.Prelude.{◌≡◌, ◌<◌, ◌^◌, [], ◌∷◌, get_or, not, T, pos, neg_ℤ};
+ghost use Rattle.std.specs.Prelude.{◌≡◌, ◌<◌, ◌^◌, [], ◌∷◌, get_or, not, T, pos, neg_ℤ, Ok as accepted};
 ghost use Rattle.std.specs.Float.{binary32};
 ghost use Rattle.std.specs.Float.Ieee.{is_nan, to_bits};
-ghost use Rattle.plan.specs.Check.{refusal_number, check_of};
-ghost use Rattle.plan.specs.declared.Checked.TheVariants.{Plan as accepted};
+ghost use Rattle.plan.specs.Check.{refusal_number, check_of, number_answer};
 ghost use Rattle.layout.specs.Query.{owner_query_of, owner_answer};
 ghost use Rattle.sample.specs.Promise.{Sampled};
 ghost use Rattle.counted.specs.Gridcount.{gridcount_of};
-ghost use Rattle.build.specs.Build.{built_of, grid_after, built_answer};
-ghost use Rattle.read.specs.Read.{Reads, read_answer};
+ghost use Rattle.build.specs.Build.{built_of, grid_after};
+ghost use Rattle.read.specs.Read.{Reads};
 ghost use Rattle.read.specs.Equation.{read_of, payload_after};
 ghost use Rattle.mapper.specs.Calls.{kind_elements, check_answer_of, grid_length_of, payload_length_of, kind_count_of, owner_answer_of, sample_answer_of};
-ghost use Rattle.mapper.specs.Calls.{checked_answer, number_answer, sample_answer, in_c};
+ghost use Rattle.mapper.specs.Calls.{checked_answer, sample_answer, in_c};
 ghost use Rattle.mapper.specs.Sizes.{Small};
 
-use build::Built;
-use counted::Counted;
-use layout::OwnerAnswer;
-use plan::{Checked, Plan, Refusal};
-use read::ReadBack;
-use sample::{Sample, SampleAnswer};
-
-// A length or a count, or the refusal.
-#[derive(Clone, Copy)]
-pub enum Number {
-    Is(usize),
-    Refused(Refusal),
-}
+use layout::Owner;
+use plan::{Plan, Refusal};
+use sample::Sample;
 
 // CHECK: the plan that the bytes are, or its refusal.
-pub fn check(plan: &[u8]) -> Checked
+pub fn check(plan: &[u8]) -> Result<Plan, Refusal>
     ensures { (result ≡ check_of plan.now) × (checked_answer result ≡ check_answer_of plan.now) }
 {
     plan::check(plan)
 }
 
 // The length of a plan's grid.
-pub fn grid_length(plan: &[u8]) -> Number
+pub fn grid_length(plan: &[u8]) -> Result<usize, Refusal>
     ensures { number_answer result ≡ grid_length_of plan.now }
 {
-    match plan::check(plan) {
-        Checked::Plan(p) => Number::Is(payload::grid_length(p)),
-        Checked::Refused(r) => Number::Refused(r),
-    }
+    let p = plan::check(plan)?;
+    Ok(payload::grid_length(p))
 }
 
 // The length of its payload.
-pub fn payload_length(plan: &[u8]) -> Number
+pub fn payload_length(plan: &[u8]) -> Result<usize, Refusal>
     ensures { number_answer result ≡ payload_length_of plan.now }
 {
-    match plan::check(plan) {
-        Checked::Plan(p) => Number::Is(payload::payload_length(plan, p)),
-        Checked::Refused(r) => Number::Refused(r),
-    }
+    let p = plan::check(plan)?;
+    Ok(payload::payload_length(plan, p))
 }
 
 // The elements of a kind of owners. The caller has the plan from the plan check.
@@ -73,31 +58,29 @@ fn count_of(plan: &[u8], p: Plan, kind: usize) -> usize
 }
 
 // COUNT: the elements of a kind of owners, in the order of gridcount's lines.
-pub fn count(plan: &[u8], kind: usize) -> Number
+pub fn count(plan: &[u8], kind: usize) -> Result<usize, Refusal>
     ensures { number_answer result ≡ kind_count_of plan.now kind }
 {
-    match plan::check(plan) {
-        Checked::Plan(p) => Number::Is(count_of(plan, p, kind)),
-        Checked::Refused(r) => Number::Refused(r),
-    }
+    let p = plan::check(plan)?;
+    Ok(count_of(plan, p, kind))
 }
 
 // GRIDCOUNT: the counts of all kinds for an input of plan length, plan and payload.
-pub fn gridcount(input: &[u8]) -> Counted
+pub fn gridcount(input: &[u8]) -> Result<[usize; 9], Refusal>
     ensures { result ≡ gridcount_of input.now }
 {
     counted::gridcount(input)
 }
 
 // OWNER: the owner of a place.
-pub fn owner(plan: &[u8], s: usize, k: usize, port: usize) -> OwnerAnswer
+pub fn owner(plan: &[u8], s: usize, k: usize, port: usize) -> Result<Owner, Refusal>
     ensures { (result ≡ owner_query_of plan.now s k port) × (owner_answer result ≡ owner_answer_of plan.now s k port) }
 {
     layout::owner_query(plan, s, k, port)
 }
 
 // SAMPLE: what an element's three bytes mean.
-pub fn sample_at(byte: u8, i: u8, j: u8) -> SampleAnswer
+pub fn sample_at(byte: u8, i: u8, j: u8) -> Option<Sample>
     ensures { (sample_answer 0 result ≡ sample_answer_of 0 byte i j)
         × (sample_answer 1 result ≡ sample_answer_of 1 byte i j)
         × (sample_answer 2 result ≡ sample_answer_of 2 byte i j)
@@ -107,18 +90,18 @@ pub fn sample_at(byte: u8, i: u8, j: u8) -> SampleAnswer
 }
 
 // BUILD: the grid of a plan and a payload.
-pub fn build_grid(plan: &[u8], payload: &[u8], grid: &mut [u8]) -> Built
-    ensures { (built_answer result ≡ built_of plan.now payload.now grid.old)
+pub fn build_grid(plan: &[u8], payload: &[u8], grid: &mut [u8]) -> Result<usize, Refusal>
+    ensures { (number_answer result ≡ built_of plan.now payload.now grid.old)
         × (grid.new ≡ grid_after plan.now payload.now grid.old) }
 {
     build::build(plan, payload, grid)
 }
 
 // READ: the payload of a grid.
-pub fn read_grid(plan: &[u8], grid: &[u8], payload: &mut [u8]) -> ReadBack
-    ensures { (read_answer result ≡ read_of plan.now grid.now payload.old)
+pub fn read_grid(plan: &[u8], grid: &[u8], payload: &mut [u8]) -> Result<usize, Refusal>
+    ensures { (number_answer result ≡ read_of plan.now grid.now payload.old)
         × (payload.new ≡ payload_after plan.now grid.now payload.old)
-        × Reads plan.now grid.now payload.old (read_answer result) payload.new }
+        × Reads plan.now grid.now payload.old (number_answer result) payload.new }
 {
     read::read(plan, grid, payload)
 }
@@ -137,7 +120,7 @@ fn plus(n: usize) -> i64
 fn minus(r: Refusal) -> i64
     ensures { result ≡ neg_ℤ (pos (refusal_number r)) }
 {
-    -(plan::number(r) as i64)
+    -(u8::from(r) as i64)
 }
 
 // The bits of an f32.
@@ -148,13 +131,13 @@ fn bits(x: f32) -> u32
     f32::to_bits(x)
 }
 
-fn number_in_c(n: Number) -> i64
+fn number_in_c(n: Result<usize, Refusal>) -> i64
     requires { Small n }
     ensures { result ≡ in_c (number_answer n) }
 {
     match n {
-        Number::Is(v) => plus(v),
-        Number::Refused(r) => minus(r),
+        Ok(v) => plus(v),
+        Err(r) => minus(r),
     }
 }
 
@@ -174,12 +157,10 @@ fn sample_number(byte: u8, i: u8, j: u8, n: usize) -> i64
     ensures { result ≡ in_c (sample_answer_of n byte i j) }
 {
     match sample::sample_at(byte, i, j) {
-        SampleAnswer::Is(s) => match s {
-            Sample::Silence => 0,
-            Sample::Phase(x) => plus(nth(n, 1, x as u32, 0) as usize),
-            Sample::At(p) => plus(nth(n, 2, bits(p.re), bits(p.im)) as usize),
-        },
-        SampleAnswer::Refused => minus(Refusal::NoElement),
+        Some(Sample::Silence) => 0,
+        Some(Sample::Phase(x)) => plus(nth(n, 1, x as u32, 0) as usize),
+        Some(Sample::At(p)) => plus(nth(n, 2, bits(p.re), bits(p.im)) as usize),
+        None => minus(Refusal::NoElement),
     }
 }
 
@@ -187,8 +168,8 @@ pub fn mapper_check(plan: &[u8]) -> i64
     ensures { result ≡ in_c (check_answer_of plan.now) }
 {
     match plan::check(plan) {
-        Checked::Plan(_) => 0,
-        Checked::Refused(r) => minus(r),
+        Ok(_) => 0,
+        Err(r) => minus(r),
     }
 }
 
@@ -215,8 +196,8 @@ pub fn mapper_build(plan: &[u8], payload: &[u8], grid: &mut [u8]) -> i64
         × (grid.new ≡ grid_after plan.now payload.now grid.old) }
 {
     match build::build(plan, payload, grid) {
-        Built::Elements(n) => plus(n),
-        Built::Refused(r) => minus(r),
+        Ok(n) => plus(n),
+        Err(r) => minus(r),
     }
 }
 
@@ -226,8 +207,8 @@ pub fn mapper_read(plan: &[u8], grid: &[u8], payload: &mut [u8]) -> i64
         × Reads plan.now grid.now payload.old (read_of plan.now grid.now payload.old) payload.new }
 {
     match read::read(plan, grid, payload) {
-        ReadBack::Elements(n) => plus(n),
-        ReadBack::Refused(r) => minus(r),
+        Ok(n) => plus(n),
+        Err(r) => minus(r),
     }
 }
 
@@ -235,8 +216,8 @@ pub fn mapper_owner(plan: &[u8], s: usize, k: usize, port: usize) -> i64
     ensures { result ≡ in_c (owner_answer_of plan.now s k port) }
 {
     match layout::owner_query(plan, s, k, port) {
-        OwnerAnswer::Is(o) => plus(layout::owner_number(o) as usize),
-        OwnerAnswer::Refused(r) => minus(r),
+        Ok(o) => plus(usize::from(u16::from(o))),
+        Err(r) => minus(r),
     }
 }
 

@@ -17,7 +17,7 @@ pub fn qpsk(w: u32) -> Pair
     }
 }
 
-// The unit of an order, and 0 of no order.
+// The unit of an order, and 0 of no order (`unit_of`, which contracts above cite: the plan's check lets no other number through).
 pub fn unit(q: u32) -> u8
     ensures { result ≡ unit_of q }
 {

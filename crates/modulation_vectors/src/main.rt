@@ -19,13 +19,14 @@ fn start(rt: &impl Print, name: &[u8], q: u32) -> io::Result<()> {
     print::space(rt)
 }
 
-// The levels of an element that is a number.
+// The levels of an element that is a number: its bytes are the unit's, I and J.
 fn levels(rt: &impl Print, v: u64) -> io::Result<()> {
+    let [_, i, j, ..] = v.to_le_bytes();
     show::pair(
         rt,
         Pair {
-            re: base::signed((v / 256 % 256) as u8),
-            im: base::signed((v / 65536 % 256) as u8),
+            re: base::signed(i),
+            im: base::signed(j),
         },
     )?;
     print::space(rt)
@@ -65,20 +66,10 @@ fn back_line(rt: &impl Print, q: u32, t: &[u32; 256], d: &[u8; 32], v: u64) -> i
     print::line(rt)
 }
 
-// The byte of the levels -16, .., 16 for n = 0, .., 32.
-fn level(n: u64) -> u64 {
-    (n % 256 + 240) % 256
-}
-
-fn back_row(rt: &impl Print, q: u32, t: &[u32; 256], d: &[u8; 32], i: u64) -> io::Result<()> {
-    for n in 0..33 {
-        back_line(
-            rt,
-            q,
-            t,
-            d,
-            (unit_byte(q) as u64) + i % 256 * 256 + level(n) % 256 * 65536,
-        )?;
+fn back_row(rt: &impl Print, q: u32, t: &[u32; 256], d: &[u8; 32], i: i8) -> io::Result<()> {
+    for j in -16..=16 {
+        let bytes = [unit_byte(q), base::byte_of(i), base::byte_of(j), 0];
+        back_line(rt, q, t, d, u64::from(u32::from_le_bytes(bytes)))?;
     }
     Ok(())
 }
@@ -90,8 +81,8 @@ fn back_lines(rt: &impl Print, q: u32) -> io::Result<()>
     constellation::set_elements(&mut t, q, unit_byte(q));
     let mut d: [u8; 32] = [0; 32];
     constellation::set_axis(&mut d, q);
-    for n in 0..33 {
-        back_row(rt, q, &t, &d, level(n))?;
+    for i in -16..=16 {
+        back_row(rt, q, &t, &d, i)?;
     }
     Ok(())
 }

@@ -10,6 +10,7 @@ use lib.Dec.{ltb}
 use lib.ListN.{length, get_or}
 use lib.Seq.{get_or-append-add}
 use borrow.Author.Tests.{ltb-true, ltb-false}
+use Rattle.std.specs.declared.result.Result.TheVariants.{Ok as accepted}
 use Rattle.base.specs.Tables.{table}
 use Rattle.base.specs.Bits.{bit_at}
 use Rattle.plan.specs.Lists.{Among, Every}
@@ -18,7 +19,6 @@ use Rattle.plan.specs.Check.{check_of}
 use Rattle.plan.specs.CommandLists.{his_of, users_of}
 use Rattle.plan.specs.Valid.{Valid}
 use Rattle.plan.specs.declared.Plan.{Plan}
-use Rattle.plan.specs.declared.Checked.TheVariants.{Plan as accepted}
 use Rattle.plan.proofs.Valid.{valid}
 use Rattle.layout.specs.Owners.{above, owners}
 use Rattle.layout.specs.declared.Mark.{Mark}

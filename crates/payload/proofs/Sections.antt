@@ -7,6 +7,7 @@ use native.Mathlib.Nat.{not-suc-le-zero, le_of_suc-le-suc}
 use native.Mathlib.Omega.{arith}
 use lib.ListN.{length, take, get_or, length-append}
 use lib.Seq.{take-append-add, get_or-append-add, take-length}
+use Rattle.std.specs.declared.result.Result.TheVariants.{Ok as accepted}
 use Rattle.base.specs.Tables.{table}
 use Rattle.base.proofs.Tables.{table_at, table-length}
 use Rattle.plan.specs.Check.{check_of}
@@ -15,7 +16,6 @@ use Rattle.plan.specs.declared.Cell.{Cell}
 use Rattle.plan.specs.declared.Frame.{Frame}
 use Rattle.plan.specs.declared.User.{User}
 use Rattle.plan.specs.declared.Plan.{Plan}
-use Rattle.plan.specs.declared.Checked.TheVariants.{Plan as accepted}
 use Rattle.layout.specs.declared.Owner.TheVariants.{User as UserOf}
 use Rattle.base.specs.Sums.{sum_to}
 use Rattle.base.proofs.Sums.{sum_same}

@@ -9,6 +9,7 @@ use lib.Dec.{eqb, eqb→eq}
 use lib.ListN.{length, drop, get_or}
 use lib.Pow.{pow_pos, mod-pow-add}
 use borrow.Author.Tests.{eq-eqb, ne_eqb}
+use Rattle.std.specs.declared.result.Result.TheVariants.{Ok as accepted}
 use Rattle.base.specs.Bits.{bit_at}
 use Rattle.base.specs.Tables.{table}
 use Rattle.base.proofs.Computed.{below_at}
@@ -21,7 +22,6 @@ use Rattle.plan.specs.declared.Cell.{Cell}
 use Rattle.plan.specs.declared.Frame.{Frame}
 use Rattle.plan.specs.declared.User.{User}
 use Rattle.plan.specs.declared.Plan.{Plan}
-use Rattle.plan.specs.declared.Checked.TheVariants.{Plan as accepted}
 use Rattle.plan.proofs.CommandLists.{commands-zero}
 use Rattle.payload.specs.Sections.{section_bytes, bytes_of, span, spare_at, spares_from}
 use Rattle.payload.specs.Payload.{pbch_bit_count, heads, payload_length, users_start, spare_bits, none_set, spare_clear}

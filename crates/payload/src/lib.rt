@@ -1,10 +1,9 @@
 // The payload of a plan (document 01, Plan and payload; Refusals 10 to 12): its sections, its length, and its spare bits.
 #![tactic(auto)]
 
-ghost use Rattle.std.specs.Prelude.{◌≡◌, ◌+◌, ◌*◌, ◌≤◌, length, drop};
+ghost use Rattle.std.specs.Prelude.{◌≡◌, ◌+◌, ◌*◌, ◌≤◌, length, drop, Ok as accepted};
 ghost use Rattle.plan.specs.Check.{check_of};
 ghost use Rattle.plan.specs.CommandLists.{users_from};
-ghost use Rattle.plan.specs.declared.Checked.TheVariants.{Plan as accepted};
 ghost use Rattle.counts.specs.Shape.{count_by, ShapeIn};
 ghost use Rattle.payload.specs.Sections.{section_bytes, bytes_of, spare_at, spares_from};
 ghost use Rattle.payload.specs.Payload.{pbch_bit_count, heads, payload_length, users_start, grid_length, none_set, spare_clear};
@@ -59,11 +58,9 @@ fn users_length(plan: &[u8], p: Plan) -> usize
     let shape = shape_of(p.cell, p.frame);
     let mut bytes: usize = 0;
     let mut at = p.users.at;
-    let mut left = p.users.count;
-    while 0 < left {
-        bytes = bytes + section_bytes(user_bits(p.cell, shape, user_at(plan, at)));
+    'sections: for _ in 0..p.users.count {
+        bytes += section_bytes(user_bits(p.cell, shape, user_at(plan, at)));
         at = next_at(plan, at);
-        left = left - 1;
     }
     bytes
 }
@@ -110,15 +107,13 @@ fn users_clear(plan: &[u8], p: Plan, payload: &[u8], first: usize) -> bool
     let shape = shape_of(p.cell, p.frame);
     let mut byte = first;
     let mut at = p.users.at;
-    let mut rest = p.users.count;
-    while 0 < rest {
+    for _ in 0..p.users.count {
         let bits = user_bits(p.cell, shape, user_at(plan, at));
         if !section_clear(payload, byte, bits) {
             return false;
         }
-        byte = byte + section_bytes(bits);
+        byte += section_bytes(bits);
         at = next_at(plan, at);
-        rest = rest - 1;
     }
     true
 }

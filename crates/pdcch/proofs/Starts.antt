@@ -4,7 +4,7 @@ use Prim.Native.Nat.{ℕ, suc, ◌+◌, ◌-◌, ◌*◌, ◌/◌, ◌%◌, ◌�
 use mathlib.Core.Path.{◌≡◌, refl, sym, ap, ◌∙◌}
 use mathlib.Core.Bool.{true, false}
 use mathlib.Core.List.{List}
-use native.Mathlib.Nat.{suc-mul, mul-le-mul_right, not-suc-le-zero}
+use native.Mathlib.Nat.{suc-mul, not-suc-le-zero}
 use native.Mathlib.Decide.{dec_le, ℕ_discrete}
 use native.Mathlib.Omega.{arith}
 use lib.Dec.{eqb, ltb}
@@ -170,14 +170,7 @@ module _ (c : Cell) (L : ℕ) where
       go {y} (yes a) l s = h.entry y a s
       go {y} (no a) l s = clash s (odd-none k o y (omega arith) l)
 
--- where the loop over block 0 is
-abbrev pub StartsIn : Cell → ℕ → ℕ → ℕ → ℕ → List ℕ → Type 0
-StartsIn c L k s n starts = StartsTo c L (k * L + s) n starts × (s < L) × (k * L + s ≤ 12 * L) × (k % 2 ≡ 0)
-
 module _ (c : Cell) (L : ℕ) where
-  rows_on : (k : ℕ) → (k + 1) * L + L ≡ (k + 2) * L
-  rows_on k = let z : suc (k + 1) ≡ k + 2 = omega arith in omega (arith, suc-mul (k + 1) L, ap (λ (x : ℕ). x * L) z)
-
   row_on : (k : ℕ) → k * L + L ≡ (k + 1) * L
   row_on k = let z : suc k ≡ k + 1 = omega arith in omega (arith, suc-mul k L, ap (λ (x : ℕ). x * L) z)
 
@@ -199,36 +192,28 @@ module _ (c : Cell) (L : ℕ) where
         sum-most L 3 (λ n. cnt (column (starts_at c L) L n) (12 + indicator (ltb n 0))) (λ s l. rw (le-ltb s 0 (omega arith)) (in-symbol s l)),
       )
 
-  module _ (few : L ≤ 4) (k s n : ℕ) (starts : List ℕ) (h : StartsIn c L k s n starts) where
-    pub starts-room : k < 12 → n < 16
-    starts-room l =
-        omega (arith, h.0.count, all-few, cnt-le (starts_at c L) (k * L + s) (12 * L) (omega (arith, row_inside k 12 L s l (omega (arith, h.1)))))
+  -- the next symbol
+  module _ (few : L ≤ 4) (k s n : ℕ) (starts : List ℕ) (in-k : k < 12) (in-s : s < L) (h : StartsTo c L (k * L + s) n starts) where
+    pub starts-room : n < 16
+    starts-room =
+        omega (arith, h.count, all-few, cnt-le (starts_at c L) (k * L + s) (12 * L) (omega (arith, row_inside k 12 L s in-k (omega arith))))
 
-    module _ (in-k : k < 12) {m : ℕ} {list : List ℕ} (em : m ≡ start_count c k s n) (el : list ≡ start_list c k s n starts) where
-      next : StartsTo c L (k * L + s + 1) m list
-      next = starts-next c L k s n starts h.1 (starts-room in-k) h.0 em el
+    pub starts-on : {m : ℕ} {list : List ℕ} → m ≡ start_count c k s n → list ≡ start_list c k s n starts → StartsTo c L (k * L + (s + 1)) m list
+    starts-on em el =
+        let e : k * L + s + 1 ≡ k * L + (s + 1) = omega arith in
+        rw e at (starts-next c L k s n starts in-s starts-room h em el)
 
-      -- the next symbol
-      pub starts-on : (s + 1 ≡ L → ⊥) → StartsIn c L k (s + 1) m list
-      starts-on d =
-          let e : k * L + s + 1 ≡ k * L + (s + 1) = omega arith in
-          (rw e at next, omega (arith, h.1), omega (arith, row_inside k 12 L (s + 1) in-k (omega (arith, h.1))), h.3)
+  -- all of them
+  pub starts-all : (k s n : ℕ) (starts : List ℕ) → StartsTo c L (k * L + s) n starts → s ≡ L → StartsTo c L (k * L + L) n starts
+  starts-all k s n starts h e = rw e at h
 
-      -- the next even subcarrier
-      pub starts-over : s + 1 ≡ L → StartsIn c L (k + 2) 0 m list
-      starts-over e =
-          let a : k * L + s + 1 ≡ (k + 1) * L = omega (arith, row_on k) in
-          let b : (k + 1) * L + L ≡ (k + 2) * L + 0 = omega (arith, rows_on k) in
-          let l : k + 2 ≤ 12 = omega (arith, h.3) in
-          let w : (k + 2) * L ≤ 12 * L = mul-le-mul_right L l in
-          (rw b at (starts-skip c L (k + 1) m list (omega (arith, h.3)) (rw a at next)), omega arith, omega arith, omega (arith, h.3))
+  -- the next even subcarrier
+  pub starts-over : (half n : ℕ) (starts : List ℕ) → StartsTo c L (2 * half * L + L) n starts → StartsTo c L (2 * (half + 1) * L) n starts
+  starts-over half n starts h =
+      let a : 2 * half * L + L ≡ (2 * half + 1) * L = row_on (2 * half) in
+      let z : 2 * half + 1 + 1 ≡ 2 * (half + 1) = omega arith in
+      let b : (2 * half + 1) * L + L ≡ 2 * (half + 1) * L = row_on (2 * half + 1) ∙ ap (λ (x : ℕ). x * L) z in
+      rw b at (starts-skip c L (2 * half + 1) n starts (omega arith) (rw a at h))
 
-    pub starts-end : 12 ≤ k → StartsTo c L (12 * L) n starts
-    starts-end l = let e : k * L + s ≡ 12 * L = omega (arith, mul-le-mul_right L l, h.2) in rw e at h.0
-
-  -- what is left of the block falls
-  pub left-on : (k s : ℕ) → k < 12 → s < L → 12 * L - (k * L + (s + 1)) < 12 * L - (k * L + s)
-  left-on k s l u = omega (arith, row_inside k 12 L (suc s) l u)
-
-  pub left_over : (k s : ℕ) → k < 12 → s + 1 ≡ L → 12 * L - ((k + 2) * L + 0) < 12 * L - (k * L + s)
-  left_over k s l e = omega (arith, row_inside k 12 L (suc s) l (omega arith), rows_on k, row_on k)
+  pub starts-end : (half n : ℕ) (starts : List ℕ) → StartsTo c L (2 * half * L) n starts → half ≡ 6 → StartsTo c L (12 * L) n starts
+  starts-end half n starts h e = rw e at h

@@ -9,8 +9,8 @@ use native.Mathlib.Decide.{ℕ_discrete}
 use native.Mathlib.Numerals.{add-one}
 use native.Mathlib.Omega.{arith}
 use lib.Dec.{eqb}
-use lib.ListN.{length, get_or, set, length-set}
-use lib.Seq.{get_or-set_same, get_or-set_other}
+use lib.ListN.{length, get_or, set, take, length-set}
+use lib.Seq.{get_or-set_same, get_or-set_other, get_or-take, length-take-le}
 use borrow.Author.Tests.{eqb-true, eqb-false}
 use Rattle.base.specs.Counts.{cnt, nth}
 use Rattle.base.proofs.Tests.{by-test}
@@ -72,6 +72,38 @@ module _ (taken starts : List ℕ) (base : ℕ) (c : Cursor) (table : List ℕ) 
 
   pub block-all : {i n : ℕ} {r : Cursor} {list : List ℕ} → BlockTo i r list → i ≡ n → BlockTo n r list
   block-all k e = rw (← e) k
+
+-- ---- the first g of a list's entries, as a list of their own
+module _ (taken starts : List ℕ) (base g : ℕ) (c : Cursor) (table : List ℕ) where
+  entry-short : (i : ℕ) → i < g → get_or (take g starts) i 0 ≡ get_or starts i 0
+  entry-short i l = get_or-take g starts i 0 l
+
+  cursor-short : (i : ℕ) → i ≤ g → block_cursor taken (take g starts) base i c ≡ block_cursor taken starts base i c
+  unfolding block_cursor
+  cursor-short zero l = refl
+  cursor-short (suc i) l =
+      ap₂ (λ (v : ℕ) (r : Cursor). next_cursor taken (v + base) r) (entry-short i (omega arith)) (cursor-short i (omega arith))
+
+  table-short : (i : ℕ) → i ≤ g → block_table taken (take g starts) base i c table ≡ block_table taken starts base i c table
+  unfolding block_table
+  table-short zero l = refl
+  table-short (suc i) l =
+      λ t. next_table taken (entry-short i (omega arith) t + base) (cursor-short i (omega arith) t) (table-short i (omega arith) t)
+
+  pub block-short : {n : ℕ} → n ≡ g → BlockIn taken starts base g c table → BlockIn taken (take g starts) base n c table
+  block-short e h =
+      record {
+        room = omega (arith, h.room);
+        group = λ i l.
+            let m : i < g = omega arith in
+            rw (entry-short i m, cursor-short i (omega arith), table-short i (omega arith)) (h.group i m);
+      }
+
+  pub block-long :
+      {n : ℕ} {r : Cursor} {list : List ℕ} → n ≡ g → BlockOut taken (take g starts) base n c table r list → BlockOut taken starts base g c table r list
+  block-long e k =
+      let o = rw e at k in
+      record { cursor = o.cursor ∙ cursor-short g (omega arith); filled = o.filled ∙ table-short g (omega arith) }
 
 -- ---- the table with one group more
 module _ (c : Cell) (L R n : ℕ) (table : List ℕ) (k : FilledTo c L R n table) where
@@ -148,6 +180,9 @@ module _ (c : Cell) (fr : Frame) (ok : RegionOf c fr) {L R : ℕ} (eL : L ≡ co
   module _ {g : ℕ} {starts : List ℕ} (ks : StartsTo c L (12 * L) g starts) where
     pub starts-few : g ≤ 12
     starts-few = omega (arith, ks.count, all-few c L, few-symbols)
+
+    pub starts-short : length (take g starts) ≡ g
+    starts-short = length-take-le g starts (omega (arith, ks.size, starts-few))
 
     pub walk_start : {cursor : Cursor} {table : List ℕ} → cursor ≡ cursor_at R (c.identity % R) → length table ≡ 800 → WalkAt c L R g 0 0 cursor table
     walk_start {cursor} e size =
@@ -271,11 +306,11 @@ module _ (c : Cell) (fr : Frame) (ok : RegionOf c fr) {L R : ℕ} (eL : L ≡ co
       pub block_in : BlockIn taken starts base g cursor table
       block_in = record { room = omega (arith, starts-few); group = λ i l. put_in kt in_b k.added l (done-block i (omega arith)) }
 
-      pub walk-next : {r : Cursor} {list : List ℕ} → BlockOut taken starts base g cursor table r list → WalkAt c L R g (b + 1) (base + 24) r list
-      walk-next o =
+      pub walk-next : {next : ℕ} {r : Cursor} {list : List ℕ} → next ≡ base + 24 → BlockOut taken starts base g cursor table r list → WalkAt c L R g (b + 1) next r list
+      walk-next e24 o =
           let z : b + 1 ≡ suc b = omega arith in
           let e : b * g + g ≡ (b + 1) * g = sym (ap (λ (y : ℕ). y * g) z ∙ suc-mul b g) in
-          record { block = omega arith; added = omega (arith, k.added); done = rw (o.cursor, o.filled, ← e) (done-block g (omega arith)) }
+          record { block = omega arith; added = omega (arith, e24, k.added); done = rw (o.cursor, o.filled, ← e) (done-block g (omega arith)) }
 
     -- THE TABLE, after the last block
     pub walk_end : {b base : ℕ} {cursor : Cursor} {table : List ℕ} → WalkAt c L R g b base cursor table → c.blocks ≤ b → GroupTable c fr table

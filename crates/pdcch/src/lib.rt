@@ -12,7 +12,7 @@ ghost use Rattle.pdcch.specs.Walk.{spot_of, MarkedBy, group_of, TakenSet, start_
 use interleaver::Cursor;
 use plan::{Cell, Frame};
 
-// The number after n around a ring of h.
+// The number after n around a ring of h, without a division.
 fn around(n: usize, h: usize) -> usize
     requires { n < h }
     ensures { result ≡ (n + 1) % h }
@@ -20,15 +20,39 @@ fn around(n: usize, h: usize) -> usize
     if n + 1 == h { 0 } else { n + 1 }
 }
 
-// The group left with number n in symbol s. PCFICH has groups a, b, d, e of symbol 0, and none of a later one.
-fn group_of(s: usize, a: usize, b: usize, d: usize, e: usize, n: usize) -> usize
-    requires { n < 1024 }
-    ensures { result ≡ group_of s a b d e n }
-{
-    if s == 0 {
-        return places::left_group(a, b, d, e, n);
+// PCFICH's groups, all of symbol 0.
+#[derive(Clone, Copy)]
+struct FormatGroups {
+    first: usize,
+    second: usize,
+    third: usize,
+    fourth: usize,
+}
+
+impl FormatGroups {
+    fn of(cell: Cell) -> Self
+        requires { CellIn cell }
+        ensures { (result.first ≡ format_group cell 0) × (result.second ≡ format_group cell 1) × (result.third ≡ format_group cell 2)
+            × (result.fourth ≡ format_group cell 3) }
+    {
+        Self {
+            first: layout::format_group(cell, 0),
+            second: layout::format_group(cell, 1),
+            third: layout::format_group(cell, 2),
+            fourth: layout::format_group(cell, 3),
+        }
     }
-    n
+
+    // The group of symbol s that is left with number n.
+    fn left(self, s: usize, n: usize) -> usize
+        requires { n < 1024 }
+        ensures { result ≡ group_of s self.first self.second self.third self.fourth n }
+    {
+        if s == 0 {
+            return places::left_group(self.first, self.second, self.third, self.fourth, n);
+        }
+        n
+    }
 }
 
 // Adds the groups that the PHICH units' quads i have. PCFICH's groups are worked out once, and so is all that has a division.
@@ -37,20 +61,15 @@ fn mark_quads(cell: Cell, i: usize, taken: &mut [u64])
     ensures { MarkedBy (λ (m : ℕ). spot_of cell (quad_symbol cell i) (quad_group cell m i)) (mapping_units cell) taken.old taken.new }
 {
     let s = layout::quad_symbol(cell, i);
-    let a = layout::format_group(cell, 0);
-    let b = layout::format_group(cell, 1);
-    let d = layout::format_group(cell, 2);
-    let e = layout::format_group(cell, 3);
-    let first = s * (6 * base::wide(cell.blocks));
+    let format = FormatGroups::of(cell);
+    let first = s * (6 * usize::from(cell.blocks));
     let pairs = plan::group_size(cell, s) / 2;
     let units = plan::units(cell);
     let h = layout::groups_left(cell, s);
     let mut n = (layout::start_number(cell, s) + i * h / 3) % h;
-    let mut m: usize = 0;
-    while m < units {
-        bitset::add(taken, first + pairs * group_of(s, a, b, d, e, n));
+    for m in 0..units {
+        bitset::add(taken, first + pairs * format.left(s, n));
         n = around(n, h);
-        m += 1;
     }
 }
 
@@ -76,7 +95,8 @@ fn set_taken(cell: Cell, taken: &mut [u64])
     mark_quads(cell, 2, taken);
 }
 
-// One entry more in the list, after n others, where a group of symbol s starts at subcarrier k of block 0; how many there are then.
+// One entry more in the list, after n others, where a group of symbol s starts at subcarrier k of block 0; how many there are then. An entry is
+// one number of two bytes, since the table of 800 of them stands on the stack.
 fn put_start(cell: Cell, k: usize, s: usize, n: usize, starts: &mut [u16; 16]) -> usize
     requires { CellIn cell × (k < 12) × (s < 4) × (n < 16) × (length starts.old ≡ 16) }
     ensures { (result ≡ start_count cell k s n) × (starts.new ≡ start_list cell k s n starts.old) }
@@ -95,21 +115,26 @@ fn put_start(cell: Cell, k: usize, s: usize, n: usize, starts: &mut [u16; 16]) -
     n + 1
 }
 
+// The entries of the groups that start at the even subcarrier k of block 0, symbol by symbol, after n others; how many there are then.
+fn put_starts(cell: Cell, k: usize, symbols: usize, n: usize, starts: &mut [u16; 16]) -> usize
+    requires { CellIn cell × (k < 12) × (symbols ≤ 4) × StartsTo cell symbols (k * symbols) n starts.old }
+    ensures { StartsTo cell symbols (k * symbols + symbols) result starts.new }
+{
+    let mut count = n;
+    for s in 0..symbols {
+        count = put_start(cell, k, s, count, starts);
+    }
+    count
+}
+
 // The entries of the groups that start in block 0, in the order of 6.8.5, and their number. A group starts at an even subcarrier.
 fn set_starts(cell: Cell, symbols: usize, starts: &mut [u16; 16]) -> usize
     requires { CellIn cell × (0 < symbols) × (symbols ≤ 4) × (length starts.old ≡ 16) }
     ensures { StartsTo cell symbols (12 * symbols) result starts.new }
 {
     let mut n: usize = 0;
-    let mut k: usize = 0;
-    let mut s: usize = 0;
-    while k < 12 {
-        n = put_start(cell, k, s, n, starts);
-        s += 1;
-        if s == symbols {
-            s = 0;
-            k += 2;
-        }
+    for half in 0..6 {
+        n = put_starts(cell, 2 * half, symbols, n, starts);
     }
     n
 }
@@ -119,7 +144,7 @@ fn put_group(taken: &[u64], v: u16, c: Cursor, groups: &mut [u16; 800]) -> Curso
     requires { PutIn taken.now v c groups.old }
     ensures { (result ≡ next_cursor taken.now v c) × (groups.new ≡ next_table taken.now v c groups.old) }
 {
-    if bitset::has(taken, (v as usize) / 4) {
+    if bitset::has(taken, usize::from(v) / 4) {
         return c;
     }
     let q = interleaver::quad(c);
@@ -128,22 +153,13 @@ fn put_group(taken: &[u64], v: u16, c: Cursor, groups: &mut [u16; 800]) -> Curso
 }
 
 // The groups of a block, whose entries are base more than those of the list.
-fn put_block(
-    taken: &[u64],
-    starts: &[u16; 16],
-    count: usize,
-    base: u16,
-    c: Cursor,
-    groups: &mut [u16; 800],
-) -> Cursor
-    requires { BlockIn taken.now starts.now base count c groups.old }
-    ensures { BlockOut taken.now starts.now base count c groups.old result groups.new }
+fn put_block(taken: &[u64], starts: &[u16], base: u16, c: Cursor, groups: &mut [u16; 800]) -> Cursor
+    requires { BlockIn taken.now starts.now base (length starts.now) c groups.old }
+    ensures { BlockOut taken.now starts.now base (length starts.now) c groups.old result groups.new }
 {
     let mut cursor = c;
-    let mut i: usize = 0;
-    while i < count {
-        cursor = put_group(taken, starts[i] + base, cursor, groups);
-        i += 1;
+    for v in starts {
+        cursor = put_group(taken, *v + base, cursor, groups);
     }
     cursor
 }
@@ -159,25 +175,24 @@ pub fn set_groups(cell: Cell, frame: Frame, groups: &mut [u16; 800])
     set_taken(cell, &mut taken);
     let mut starts: [u16; 16] = [0; 16];
     let count = set_starts(cell, symbols, &mut starts);
-    let mut cursor = interleaver::start(quads, (cell.identity as usize) % quads);
-    let mut block: u8 = 0;
-    let mut base: u16 = 0;
-    while block < cell.blocks {
-        cursor = put_block(&taken, &starts, count, base, cursor, groups);
-        base += 24;
-        block += 1;
+    let mut cursor = interleaver::start(quads, usize::from(cell.identity) % quads);
+    for block in 0..cell.blocks {
+        cursor = put_block(
+            &taken,
+            &starts[..count],
+            24 * u16::from(block),
+            cursor,
+            groups,
+        );
     }
 }
 
-// How far the places of a pair are apart in a group: of four subcarriers where `four` is 1, of six where it is 0. One of each three
+// How far the places of a pair are apart in a group: of four subcarriers where `four`, an entry's last bit, is 1, of six where it is 0. One of each three
 // subcarriers of a group of six is left out, the one in the middle where the identity is 1 modulo 3.
 pub fn gap_of(cell: Cell, four: usize) -> usize
     ensures { result ≡ gap_of cell four }
 {
-    if four == 1 {
-        return 1;
-    }
-    if cell.identity % 3 == 1 {
+    if four != 1 && cell.identity % 3 == 1 {
         return 2;
     }
     1

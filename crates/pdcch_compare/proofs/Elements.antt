@@ -1,13 +1,14 @@
 -- QUAD AFTER QUAD of a control element, and element after element. Assumes nothing.
 use Prim.Native.Nat.{ℕ, suc, ◌+◌, ◌*◌, ◌/◌, ◌%◌, ◌≤◌, ◌<◌}
-use mathlib.Core.Path.{◌≡◌, refl, sym, subst}
-use mathlib.Core.Bool.{Bool, true, false, cond}
+use mathlib.Core.Path.{◌≡◌, refl, sym, ◌∙◌, subst}
+use mathlib.Core.Bool.{true, false}
 use mathlib.Core.List.{List}
 use native.Mathlib.Omega.{arith}
-use lib.Bits.{bit_or}
+use lib.Bits.{bit_or, or_zero_r}
 use lib.Dec.{ltb}
-use lib.ListN.{get_or}
-use borrow.Author.Tests.{lt-ltb, le-ltb}
+use lib.ListN.{get_or, length, take, drop, length-take, length-drop}
+use lib.Seq.{get_or-take}
+use Rattle.std.proofs.lemmas.List.{get_or-drop}
 use Rattle.base.proofs.Tests.{clash}
 use Rattle.base.proofs.Counts.{cnt-none, cnt-more, cnt-most}
 use Rattle.plan.specs.declared.Cell.{Cell}
@@ -19,7 +20,7 @@ use Rattle.data_compare.proofs.Telling.{tells_none, tells-or-one, tells-or, tell
 use Rattle.data_compare.proofs.Pairs.{pair-indices, indices-pair}
 use Rattle.pdcch.specs.Block.{is_given}
 use Rattle.pdcch.specs.Groups.{gap_of}
-use Rattle.pdcch_compare.specs.Quads.{step_of, entry_place, table_place, TableIn, EntryIn, EntrySeen, ElementSeen, Quads, ChosenSeen, GivenSeen, Given}
+use Rattle.pdcch_compare.specs.Quads.{step_of, entry_place, table_place, TableIn, EntryIn, EntrySeen, ElementSeen, Quads, ChosenSeen, GivenSeen, Given, GivenWrong}
 
 -- ---- one quad: the pairs of number n of the table are its four places
 module _ (c : Cell) (table : List ℕ) (n : ℕ) where
@@ -70,6 +71,16 @@ pub table-entry : {c : Cell} {table g : List ℕ} (e i : ℕ) {x : ℕ} → Tabl
 table-entry e i h l ex = rw ex (record { room = h.room; inside = h.inside (9 * e + i) (omega arith) })
 
 -- ---- quad after quad
+-- entry i of the nine of element e, of a part of the table
+pub entry_at : (e i : ℕ) (table : List ℕ) {n : ℕ} → n ≡ 9 → i < n → get_or (take n (drop (9 * e) table)) i 0 ≡ get_or table (9 * e + i) 0
+entry_at e i table {n} en l = get_or-take n (drop (9 * e) table) i 0 l ∙ get_or-drop (9 * e) table i 0
+
+pub below_nine : (e : ℕ) (table : List ℕ) {n i : ℕ} → i < length (take n (drop (9 * e) table)) → n ≡ 9 → i < 9
+below_nine e table {n} l en = omega (arith, length-take n (drop (9 * e) table))
+
+pub from-nine : (e : ℕ) (table : List ℕ) {n i : ℕ} → length (take n (drop (9 * e) table)) ≤ i → n ≡ 9 → 9 * e + 9 ≤ length table → 9 ≤ i
+from-nine e table {n} l en m = omega (arith, length-take n (drop (9 * e) table), length-drop (9 * e) table)
+
 module _ {c : Cell} {table : List ℕ} {e : ℕ} {f : Form} {g : List ℕ} where
   pub quads-start : Quads c table e f g 0 0
   quads-start = record { few = omega arith; done = record { seen = λ q u o. tells_none } }
@@ -94,18 +105,11 @@ module _ {c : Cell} {table : List ℕ} {e : ℕ} {f : Form} {g : List ℕ} where
   quads-end {bad} {i} d l = let z : i ≡ 9 = omega (arith, d.few) in subst (λ (y : ℕ). ElementSeen c table e f g (4 * y) bad) z d.done
 
   -- ---- the element if it is given
-  pub not_chosen : {n : ℕ} → n ≡ 0 → ChosenSeen c table e n f g 0 0
-  not_chosen {n} z =
-      let b : ltb 0 n ≡ false = le-ltb 0 n (omega arith) in
-      record { count = rw b refl; right = λ q u o h t. clash t b; none = λ q u o h. refl }
+  pub not_chosen : {n : ℕ} → ltb 0 n ≡ false → ChosenSeen c table e n f g 0 0
+  not_chosen b = record { count = rw b refl; right = λ q u o h t. clash t b; none = λ q u o h. refl }
 
-  pub is-chosen : {n r : ℕ} → (n ≡ 0 → ⊥) → ElementSeen c table e f g 36 r → ChosenSeen c table e n f g 1 r
-  is-chosen {n} z s =
-      let b : ltb 0 n ≡ true = lt-ltb 0 n (some z) in
-      record { count = rw b refl; right = λ q u o h t. (s.seen q u o).right h; none = λ q u o h. (s.seen q u o).none (h b) }
-    where
-      some : (n ≡ 0 → ⊥) → 0 < n
-      some y = omega arith
+  pub is-chosen : {n r : ℕ} → ltb 0 n ≡ true → ElementSeen c table e f g 36 r → ChosenSeen c table e n f g 1 r
+  is-chosen b s = record { count = rw b refl; right = λ q u o h t. (s.seen q u o).right h; none = λ q u o h. (s.seen q u o).none (h b) }
 
 -- ---- element after element
 pub table_of : {c : Cell} {table g : List ℕ} (elements e : ℕ) → TableIn c table (9 * elements) g → e < elements → TableIn c table (9 * e + 9) g
@@ -115,12 +119,8 @@ module _ {c : Cell} {table from : List ℕ} {f : Form} {g : List ℕ} {elements 
   pub given-start : Given c table from f g elements 0 0 0
   given-start = record { few = omega arith; done = record { count = sym (cnt-none (is_given from)); seen = λ q u o. tells_none } }
 
-  pub given-small : {given bad e m n r : ℕ} → Given c table from f g elements given bad e → elements ≤ 88 → ChosenSeen c table e m f g n r → given + n ≤ 89
-  given-small {e = e} {m = m} d l s = omega (arith, d.few, d.done.count, cnt-most (is_given from) e, s.count, one (ltb 0 m))
-    where
-      one : (b : Bool) → cond b 1 0 ≤ 1
-      one true = omega arith
-      one false = omega arith
+  pub given-small : {given bad e : ℕ} → Given c table from f g elements given bad e → elements ≤ 88 → given ≤ 88
+  given-small {e = e} d l = omega (arith, d.few, d.done.count, cnt-most (is_given from) e)
 
   pub given-on :
       {given bad e n r : ℕ} → Given c table from f g elements given bad e → e < elements → ChosenSeen c table e (get_or from e 0) f g n r
@@ -134,5 +134,17 @@ module _ {c : Cell} {table from : List ℕ} {f : Form} {g : List ℕ} {elements 
         };
       }
 
+  -- one that is not given is passed over
+  pub given-pass : {given bad e : ℕ} → Given c table from f g elements given bad e → e < elements → is_given from e ≡ false → Given c table from f g elements given bad (e + 1)
+  given-pass {given} {bad} {e} d l z =
+      let n : given + 0 ≡ given = omega arith in
+      subst (λ (x : ℕ). Given c table from f g elements x bad (e + 1)) n
+      (subst (λ (x : ℕ). Given c table from f g elements (given + 0) x (e + 1)) (or_zero_r bad) (given-on d l (not_chosen z)))
+
   pub given-end : {given bad e : ℕ} → Given c table from f g elements given bad e → elements ≤ e → GivenSeen c table from f g elements given bad
   given-end {given} {bad} {e} d l = let z : e ≡ elements = omega (arith, d.few) in subst (λ (y : ℕ). GivenSeen c table from f g y given bad) z d.done
+
+pub given-wrong :
+    {c : Cell} {table from : List ℕ} {f : Form} {g : List ℕ} {m given bad : ℕ} → (bad ≡ 0 → ⊥) → GivenSeen c table from f g m given bad
+    → GivenWrong c table from f g m
+given-wrong {given = given} {bad} n s = record { given = given; bad = bad; some = n; done = s }

@@ -15,7 +15,7 @@ use Rattle.places.specs.Places.{places_of}
 use Rattle.data_compare.specs.declared.Form.{Form}
 use Rattle.data_compare.specs.declared.Sums.{Sums}
 use Rattle.data_compare.specs.declared.Starts.{Starts}
-use Rattle.data_compare.specs.Tests.{FormOf, Tells, wrong_of, no_sums, sums_with, told_by}
+use Rattle.data_compare.specs.Tests.{FormOf, Tells, wrong_of, sums_with, told_by}
 use Rattle.data_compare.specs.Places.{PairRight, PairAt, Starting, Pairs, PairsSeen}
 use Rattle.data_compare.proofs.Telling.{tells_none, tells_more}
 use Rattle.data_compare.proofs.Numbers.{wrong-both, both-wrong}
@@ -27,14 +27,15 @@ use Rattle.pdcch_compare.specs.Quads.{step_of, entry_place, QuadIn, EntryIn, Ent
 
 -- ---- on two ports or four
 module _
-    {P T gap start step : ℕ} (f : Form) {g : List ℕ} (h : PairsIn P T gap 0 start step 2 g) {p : Starts} (b : Starting P T 0 start step p) where
-  first : Pairs P T gap 0 start step 2 f g no_sums p.at p.next 0
-  first = pairs_start b
+    {P T gap start step : ℕ} (f : Form) {g : List ℕ} (h : PairsIn P T gap 0 start step 2 g) {p : Starts} (b : Starting P T 0 start step p)
+    {none : Sums} (zf : none.fixed ≡ 0) (zs : none.same ≡ 0) (zb : none.bad ≡ 0) where
+  first : Pairs P T gap 0 start step 2 f g none p.at p.next 0
+  first = pairs_start b zf zs zb
 
   pub first_fits : (p.at + 3 * gap + 2 < length g) × (p.at + p.across + 3 * gap + 2 < length g) × (p.at ≤ 100800)
   first_fits = pair_fits h b first (omega arith)
 
-  module _ {x y : ℕ} {s : Sums} (rx : TwoRead gap p.at g x) (ry : TwoRead gap (p.at + p.across) g y) (es : s ≡ sums_with f no_sums x y) where
+  module _ {x y : ℕ} {s : Sums} (rx : TwoRead gap p.at g x) (ry : TwoRead gap (p.at + p.across) g y) (es : s ≡ sums_with f none x y) where
     second : Pairs P T gap 0 start step 2 f g s p.next (p.at + 6 * step) (0 + 1)
     second = pairs-on h b first (omega arith) rx ry es
 

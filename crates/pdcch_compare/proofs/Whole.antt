@@ -18,7 +18,7 @@ use Rattle.plan.specs.declared.Frame.{Frame}
 use Rattle.plan.proofs.Counts.{blocks-least}
 use Rattle.places.specs.Places.{places_of}
 use Rattle.places.proofs.Numbers.{first-row}
-use Rattle.compare.specs.declared.Seen.TheVariants.{Weight, Differs}
+use Rattle.std.specs.Prelude.{Some, None}
 use Rattle.compare.specs.Comparing.{weight_in}
 use Rattle.data_compare.specs.declared.Form.{Form}
 use Rattle.data_compare.specs.Tests.{FormOf}
@@ -26,7 +26,7 @@ use Rattle.data_compare.specs.Places.{RightAt}
 use Rattle.data_compare.proofs.Holding as holding
 use Rattle.pdcch.specs.Block.{is_given, block_place, block_sends, block_with}
 use Rattle.pdcch_compare.specs.Symbols.{block_symbol_in, BlockHolds, BlockCompared, CompareIn}
-use Rattle.pdcch_compare.specs.Quads.{table_place, TableIn, GivenSeen, ElementRight}
+use Rattle.pdcch_compare.specs.Quads.{table_place, TableIn, GivenSeen, ElementRight, GivenWrong}
 use Rattle.pdcch_compare.proofs.Places.{GivenIndex, index_in, partner-given, table-place, table-inside, given-places, given-count}
 
 module _ {c : Cell} {f : Frame} {elements : ℕ} {groups from g : List ℕ} (i : CompareIn c f elements groups from g) where
@@ -112,19 +112,19 @@ module _ {c : Cell} {f : Frame} {elements : ℕ} {groups from g : List ℕ} (i :
       ∙ holding.right-weights i.room some order (omega arith) (given-places i.region i.given) pairs r
 
   -- ---- the answers
-  module _ {u : ℕ} {form : Form} {given bad : ℕ} (is-u : u ≡ unit_byte_on c.ports 2) (o : FormOf 2 u form) (k : GivenSeen c groups from form g elements given bad) where
-    pub given-most : given ≤ 88
-    given-most = omega (arith, k.count, cnt-most (is_given from) elements, elements-few)
+  module _ {u : ℕ} {form : Form} (is-u : u ≡ unit_byte_on c.ports 2) (o : FormOf 2 u form) where
+    pub given-most : {given : ℕ} → GivenSeen c groups from form g elements given 0 → given ≤ 88
+    given-most k = omega (arith, k.count, cnt-most (is_given from) elements, elements-few)
 
     of-unit : FormOf 2 U form
     of-unit = subst (λ (x : ℕ). FormOf 2 x form) is-u o
 
-    pub block_same : bad ≡ 0 → (n : ℕ) → n ≡ cond (eqb c.ports 1) 3 6 * (36 * given) → BlockCompared c f from g (Weight n)
+    pub block_same : {given : ℕ} → GivenSeen c groups from form g elements given 0 → (n : ℕ) → n ≡ cond (eqb c.ports 1) 3 6 * (36 * given) → BlockCompared c f from g (Some n)
     unfolding BlockCompared
-    block_same e n h =
-        let r = elements-right ((k.seen 2 U of-unit).right e) in
+    block_same k n h =
+        let r = elements-right ((k.seen 2 U of-unit).right refl) in
         (right-holds r, h ∙ ap (λ (x : ℕ). cond (eqb P 1) 3 6 * (36 * x)) (k.count ∙ ap (cnt (is_given from)) i.count) ∙ right-weights r)
 
-    pub block-differs : (bad ≡ 0 → ⊥) → BlockCompared c f from g Differs
+    pub block-differs : GivenWrong c groups from form g elements → BlockCompared c f from g None
     unfolding BlockCompared
-    block-differs n h = n ((k.seen 2 U of-unit).none (right-elements (holds-right h)))
+    block-differs w h = w.some ((w.done.seen 2 U of-unit).none (right-elements (holds-right h)))

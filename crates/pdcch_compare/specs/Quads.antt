@@ -1,5 +1,5 @@
 -- For the inner contracts and loops only: a quad's places by its entry in the table of groups, and what stands there in a grid.
-use Rattle.std.specs.Prelude.{ℕ, ◌+◌, ◌-◌, ◌*◌, ◌/◌, ◌%◌, ◌≤◌, ◌<◌, ◌≡◌, true, cond, List, ltb, get_or}
+use Rattle.std.specs.Prelude.{ℕ, ◌+◌, ◌-◌, ◌*◌, ◌/◌, ◌%◌, ◌≤◌, ◌<◌, ◌≡◌, true, cond, List, ltb, get_or, Option, Some, None}
 use Rattle.base.specs.Counts.{cnt}
 use Rattle.plan.specs.declared.Cell.{Cell}
 use Rattle.places.specs.Places.{places_of}
@@ -65,3 +65,14 @@ pub record GivenSeen (c : Cell) (table from : List ℕ) (f : Form) (g : List ℕ
 pub record Given (c : Cell) (table from : List ℕ) (f : Form) (g : List ℕ) (elements given r e : ℕ) : Type 0 where
   pub few : e ≤ elements
   pub done : GivenSeen c table from f g e given r
+
+-- all of them: how many they are, or that some are wrong
+pub record GivenWrong (c : Cell) (table from : List ℕ) (f : Form) (g : List ℕ) (m : ℕ) : Type 0 where
+  pub given : ℕ
+  pub bad : ℕ
+  pub some : bad ≡ 0 → ⊥
+  pub done : GivenSeen c table from f g m given bad
+
+abbrev pub GivenTold : Cell → List ℕ → List ℕ → Form → List ℕ → ℕ → Option ℕ → Type 0
+GivenTold c table from f g m (Some n) = GivenSeen c table from f g m n 0
+GivenTold c table from f g m None = GivenWrong c table from f g m

@@ -1,6 +1,6 @@
 -- For the inner contracts and loops only: the symbols of the control channel's block as they stand in a grid, and the two ports' elements at
 -- the places of given control elements by them. No bits and no sequence are needed for that.
-use Rattle.std.specs.Prelude.{ℕ, ◌+◌, ◌*◌, ◌/◌, ◌<◌, ◌≡◌, true, List, length}
+use Rattle.std.specs.Prelude.{ℕ, ◌+◌, ◌*◌, ◌/◌, ◌<◌, ◌≡◌, true, List, length, Option, Some, None}
 use Rattle.base.specs.declared.Pair.{Pair}
 use Rattle.base.specs.Bytes.{pair_of}
 use Rattle.modulation.specs.Marks.{is_symbol}
@@ -11,8 +11,6 @@ use Rattle.plan.specs.declared.Frame.{Frame}
 use Rattle.places.specs.Places.{places_of}
 use Rattle.grid.specs.Elements.{element_in}
 use Rattle.grid.specs.Writing.{Room}
-use Rattle.compare.specs.declared.Seen.{Seen}
-use Rattle.compare.specs.declared.Seen.TheVariants.{Weight, Differs}
 use Rattle.compare.specs.Comparing.{Holds, weight_in}
 use Rattle.pdcch.specs.Groups.{RegionOf, GroupTable}
 use Rattle.pdcch.specs.Block.{is_given, FromIn, block_place, block_sends, block_with}
@@ -27,9 +25,9 @@ pub record BlockHolds (c : Cell) (f : Frame) (from g : List ℕ) : Type 0 where
   pub holds : Holds (block_sends c f from) (block_with c f (block_symbol_in c f g)) g
 
 -- THE ANSWER of the comparison
-unfoldable pub BlockCompared : Cell → Frame → List ℕ → List ℕ → Seen → Type 0
-BlockCompared c f from g (Weight n) = BlockHolds c f from g × (n ≡ weight_in (block_sends c f from) g (length g / 3))
-BlockCompared c f from g Differs = BlockHolds c f from g → ⊥
+unfoldable pub BlockCompared : Cell → Frame → List ℕ → List ℕ → Option ℕ → Type 0
+BlockCompared c f from g (Some n) = BlockHolds c f from g × (n ≡ weight_in (block_sends c f from) g (length g / 3))
+BlockCompared c f from g None = BlockHolds c f from g → ⊥
 
 -- what it needs
 pub record CompareIn (c : Cell) (f : Frame) (elements : ℕ) (groups from g : List ℕ) : Type 0 where

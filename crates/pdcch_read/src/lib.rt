@@ -28,22 +28,16 @@ fn read_entry(cell: Cell, places: usize, d: &[u8; 32], grid: &[u8], x: usize) ->
     data_read::four(d, 2, first, second)
 }
 
-fn wide(x: u16) -> usize
-    ensures { result ≡ x }
-{
-    x as usize
-}
-
 // A byte with the next eight bits of the sequence taken off.
 fn unscrambled(w: u64, s: Registers) -> u8
     requires { w < 256 }
     ensures { result ≡ bit_xor w (word_of s 8) }
 {
-    let y = w ^ (gold::word(s, 8) as u64);
+    let y = w ^ u64::from(gold::word(s, 8));
     (y % 256) as u8
 }
 
-// The nine bytes of control element e, from byte `at` on; the pair after them.
+// The nine bytes of control element e, from byte `at` on; the pair after them. Parameters stand one by one, as in `data_read`.
 fn read_quads(
     r: Registers,
     cell: Cell,
@@ -59,17 +53,16 @@ fn read_quads(
 {
     let places = layout::places(cell);
     let mut s = r;
-    let mut i: usize = 0;
-    while i < 9 {
-        let w = read_entry(cell, places, d, grid, wide(groups[9 * e + i]));
+    for i in 0..9 {
+        let w = read_entry(cell, places, d, grid, usize::from(groups[9 * e + i]));
         part[at + i] = unscrambled(w, s);
         s = gold::advance(s, 8);
-        i += 1;
     }
     s
 }
 
-// Control element e, if it is given: its bytes are the nine of number n − 1, and n is 0 where it is not.
+// Control element e, if it is given: its bytes are the nine of number n − 1, and n is 0 where it is not, since an Option for each element
+// would double the table.
 fn read_chosen(
     r: Registers,
     cell: Cell,
@@ -83,10 +76,10 @@ fn read_chosen(
     requires { ElementIn cell groups.now e d.now grid.now × (9 * n ≤ length part.old) }
     ensures { ChosenPut cell groups.now e d.now grid.now n r part.old result part.new }
 {
-    if n == 0 {
+    let Some(k) = n.checked_sub(1) else {
         return gold::skip(r, 72);
-    }
-    read_quads(r, cell, groups, d, grid, e, 9 * (n - 1), part)
+    };
+    read_quads(r, cell, groups, d, grid, e, 9 * k, part)
 }
 
 // All given elements.
@@ -104,11 +97,8 @@ fn read_given(
     ensures { GivenPut cell groups.now from.now d.now grid.now r part.old elements part.new }
 {
     let mut s = r;
-    let mut e: usize = 0;
-    while e < elements {
-        let n = base::wide(from[e]);
-        s = read_chosen(s, cell, groups, d, grid, e, n, part);
-        e += 1;
+    for (e, n) in from[..elements].iter().enumerate() {
+        s = read_chosen(s, cell, groups, d, grid, e, usize::from(*n), part);
     }
 }
 

@@ -138,27 +138,28 @@ quads-end {c} {groups} {e} {bits} {r} {s} {i} {before} {grid} d l =
     (record { size = h.size; written = h.written }, h.given)
 
 -- ---- a control element that may be given
-module _ {b n : ℕ} (bits : List ℕ) (eb : b ≡ n) (l : 9 * n ≤ length bits) (some : 9 * b ≡ 0 → ⊥) where
-  part-is : take (9 * b - (9 * b - 9)) (drop (9 * b - 9) bits) ≡ nine_bytes bits n
+module _ {b n : ℕ} (bits : List ℕ) (some : 1 ≤ n) (eb : b ≡ n - 1) (l : 9 * n ≤ length bits) where
+  part-is : take (9 * b + 9 - 9 * b) (drop (9 * b) bits) ≡ nine_bytes bits n
   part-is =
-      let e : 9 * b - (9 * b - 9) ≡ 9 = omega arith in
-      ap₂ (λ (x y : ℕ). take x (drop (9 * y - 9) bits)) e eb
+      let e : 9 * b + 9 - 9 * b ≡ 9 = omega arith in
+      let f : 9 * b ≡ 9 * n - 9 = omega arith in
+      ap₂ (λ (x y : ℕ). take x (drop y bits)) e f
 
-  pub nine-long : length (take (9 * b - (9 * b - 9)) (drop (9 * b - 9) bits)) ≡ 9
+  pub nine-long : length (take (9 * b + 9 - 9 * b) (drop (9 * b) bits)) ≡ 9
   nine-long =
       let h : 9 ≤ length (drop (9 * n - 9) bits) = omega (arith, length-drop (9 * n - 9) bits) in
       ap length part-is ∙ length-take-le 9 (drop (9 * n - 9) bits) h
 
   pub given-put :
       {c : Cell} {groups : List ℕ} {e : ℕ} {r s : Registers} {before grid : List ℕ}
-      → ElementPut c groups e (take (9 * b - (9 * b - 9)) (drop (9 * b - 9) bits)) r before grid × (s ≡ after r 72) → GivenPut c groups e n bits r before grid × (s ≡ after r 72)
+      → ElementPut c groups e (take (9 * b + 9 - 9 * b) (drop (9 * b) bits)) r before grid × (s ≡ after r 72) → GivenPut c groups e n bits r before grid × (s ≡ after r 72)
   given-put {c} {groups} {e} {r} {s} {before} {grid} p =
-      (record { none = λ z. absurd (some (omega arith)); some = λ z. subst (λ (y : List ℕ). ElementPut c groups e y r before grid) part-is p.0 }, p.1)
+      (record { none = λ z. absurd (omega arith); some = λ z. subst (λ (y : List ℕ). ElementPut c groups e y r before grid) part-is p.0 }, p.1)
 
 pub given-passed :
-    {c : Cell} {groups : List ℕ} {e b n : ℕ} {bits : List ℕ} {r s : Registers} {grid : List ℕ} → b ≡ n → 9 * b ≡ 0 → s ≡ after r 72
+    {c : Cell} {groups : List ℕ} {e n : ℕ} {bits : List ℕ} {r s : Registers} {grid : List ℕ} → (1 ≤ n → ⊥) → s ≡ after r 72
     → GivenPut c groups e n bits r grid grid × (s ≡ after r 72)
-given-passed eb z es = (record { none = λ y. refl; some = λ y. absurd (omega arith) }, es)
+given-passed none es = (record { none = λ y. refl; some = λ y. absurd (none y) }, es)
 
 -- ---- the control elements: those below n are written where they are given, and s has given the bits of all of them
 pub record ElementsDone (c : Cell) (elements : ℕ) (groups from bits : List ℕ) (r s : Registers) (n : ℕ) (before grid : List ℕ) : Type 0 where

@@ -12,8 +12,8 @@ ghost use Rattle.pdcch_write.specs.Quads.{pairs_of, QuadIn, SingleIn, SinglePut,
 ghost use Rattle.pdcch_write.specs.Filling.{ElementIn, ElementPut, GivenPut, FillIn};
 
 use constellation::{joint, number};
-use data_write::{round, round_apart};
-use element_pairs::{put_apart, put_six};
+use data_write::round;
+use element_pairs::put_elements;
 use gold::Registers;
 use plan::{Cell, Frame};
 
@@ -25,23 +25,11 @@ struct GroupPairs {
     gap: usize,
 }
 
-fn wide(x: u16) -> usize
-    ensures { (result ≡ x) × (result < 65536) }
-{
-    x as usize
-}
-
-fn byte(x: u8) -> usize
-    ensures { (result ≡ x) × (result < 256) }
-{
-    x as usize
-}
-
 // The places of a group by its entry in the table of groups; the four of four subcarriers are side by side.
 fn pairs_of(entry: u16, six: usize) -> GroupPairs
     ensures { result ≡ pairs_of entry six }
 {
-    let e = wide(entry);
+    let e = usize::from(entry);
     if e % 2 == 1 {
         return GroupPairs {
             first: e / 2,
@@ -62,10 +50,10 @@ fn put_two(grid: &mut [u8], at: usize, gap: usize, v: u64)
     ensures { TwoPut gap at v grid.old grid.new }
 {
     if gap == 2 {
-        put_apart(grid, at, v);
+        put_elements::<2>(grid, at, v);
         return;
     }
-    put_six(grid, at, v);
+    put_elements::<1>(grid, at, v);
 }
 
 // The four symbols of a quad's byte z on one port.
@@ -97,17 +85,17 @@ fn put_quad(ports: u8, places: usize, x: GroupPairs, z: u64, t: &[u32; 256], gri
     let next = 3 * (o.next + x.second);
     let across = 3 * o.across;
     if x.gap == 2 {
-        round_apart(z, 2, t, grid, at, next, across);
+        round::<2>(z, 2, t, grid, at, next, across);
         return;
     }
-    round(z, 2, t, grid, at, next, across);
+    round::<1>(z, 2, t, grid, at, next, across);
 }
 
 // A byte scrambled by the sequence's next eight bits.
 fn scrambled(b: u8, s: Registers) -> u64
     ensures { (result ≡ bit_xor b (word_of s 8)) × (b < 256) }
 {
-    b as u64 ^ gold::word(s, 8) as u64
+    u64::from(b) ^ u64::from(gold::word(s, 8))
 }
 
 // The nine quads of control element e, whose bits are nine bytes, scrambled by the pair r; the pair after them.
@@ -126,19 +114,17 @@ fn put_element(
     let places = layout::places(cell);
     let six = pdcch::gap_of(cell, 0);
     let mut s = r;
-    let mut i: usize = 0;
-    while i < 9 {
+    for (i, b) in bits.iter().enumerate() {
         let q = 9 * e + i;
         let x = pairs_of(groups[q], six);
-        put_quad(cell.ports, places, x, scrambled(bits[i], s), t, grid);
+        put_quad(cell.ports, places, x, scrambled(*b, s), t, grid);
         s = gold::advance(s, 8);
-        i += 1;
     }
     s
 }
 
 // Control element e, whose nine bytes are number `given` of those that the bits have, counted from 1. With 0 it is not given, and its bits of the
-// sequence are passed over. The pair after them.
+// sequence are passed over. The pair after them. (0 and not None: `is_given` of pdcch/specs/Block.antt says so of the table `from`.)
 fn put_given(
     r: Registers,
     cell: Cell,
@@ -152,12 +138,11 @@ fn put_given(
     requires { ElementIn cell groups.now e t.now grid.old × (9 * given ≤ length bits.now) }
     ensures { GivenPut cell groups.now e given bits.now r grid.old grid.new × (result ≡ after r 72) }
 {
-    let end = 9 * byte(given);
-    if end == 0 {
+    let Some(before) = given.checked_sub(1) else {
         return gold::skip(r, 72);
-    }
-    let at = end - 9;
-    put_element(r, cell, groups, e, t, &bits[at..end], grid)
+    };
+    let at = 9 * usize::from(before);
+    put_element(r, cell, groups, e, t, &bits[at..at + 9], grid)
 }
 
 // The given control elements of the block, scrambled by the pair r; the pair after all of the block's elements. `groups` has the block's groups by
@@ -178,10 +163,8 @@ pub fn fill(
         × (result ≡ after r (72 * control_elements cell frame)) }
 {
     let mut s = r;
-    let mut e: usize = 0;
-    while e < elements {
-        s = put_given(s, cell, groups, e, from[e], t, bits, grid);
-        e += 1;
+    for (e, given) in from[..elements].iter().enumerate() {
+        s = put_given(s, cell, groups, e, *given, t, bits, grid);
     }
     s
 }

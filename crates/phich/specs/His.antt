@@ -1,5 +1,5 @@
 -- For inner contracts, laws, and read's equation, which `Reads` determines. Document 01, Plan and payload: HIs by their number, and pairs used once.
-use Rattle.std.specs.Prelude.{◌≡◌, ℕ, List, [], ◌∷◌, ◌≢◌, slice_index_or}
+use Rattle.std.specs.Prelude.{ℕ, List, [], ◌∷◌, ◌≢◌, slice_index_or}
 use Rattle.plan.specs.declared.Hi.{Hi}
 
 -- HI number n, the first being number 0

@@ -11,6 +11,8 @@ ghost use Rattle.base.specs.Bits.{bit_at};
 ghost use Rattle.base.specs.Tables.{table};
 ghost use Rattle.plan.specs.CommandLists.{his_from};
 ghost use Rattle.phich.specs.Spreading.{Length, plain_chip, word_bit};
+ghost use Rattle.plan.specs.declared.Hi.{Hi};
+ghost use Rattle.phich.specs.His.{hi_number};
 ghost use Rattle.phich.specs.Units.{mapping_unit};
 ghost use Rattle.phich.specs.Recovery.{dot as dot_of, bit_in};
 ghost use Rattle.phich.specs.Loops.{HiIn, HisIn, Sequence, chip_of, only, own_part, levels_at, quad_of, bits_from, Adds, QuadSums, Levels, scrambled_sums};
@@ -57,9 +59,7 @@ fn sequence(l: usize, q: usize) -> [SignPair; 4]
     if l == 4 {
         return NORMAL[q];
     }
-    let row = EXTENDED[q];
-    let a = row[0];
-    let b = row[1];
+    let [a, b] = EXTENDED[q];
     [a, b, a, b]
 }
 
@@ -79,8 +79,7 @@ fn scrambling(w: u32, e: usize) -> u8
     requires { e < 12 }
     ensures { result ≡ word_bit w e }
 {
-    let k = 11 - e;
-    ((w >> k) % 2) as u8
+    ((w >> (11 - e)) % 2) as u8
 }
 
 // The number of the chip at place i of a unit, whichever of the unit's groups has the place.
@@ -109,10 +108,8 @@ fn add_at(sums: &mut [u8; 200], y: usize, d: Pair)
     ensures { Adds (only y d) sums.old sums.new }
 {
     let at = 2 * y;
-    let re = base::byte_of(d.re);
-    let im = base::byte_of(d.im);
-    sums[at] = std::num::wrapping_add_u8(sums[at], re);
-    sums[at + 1] = std::num::wrapping_add_u8(sums[at + 1], im);
+    sums[at] = sums[at].wrapping_add(base::byte_of(d.re));
+    sums[at + 1] = sums[at + 1].wrapping_add(base::byte_of(d.im));
 }
 
 // The chips of the HI h with the bit b, not scrambled, added to the sums: its group has l places of its unit's quad, and groups lie
@@ -121,28 +118,44 @@ fn add_hi(sums: &mut [u8; 200], l: usize, h: Hi, b: u8)
     requires { (length sums.old ≡ 200) × HiIn l h }
     ensures { Adds (own_part l h b) sums.old sums.new }
 {
-    let row = sequence(l, base::wide(h.sequence));
-    let mut n: usize = 0;
-    while n < l {
+    let row = sequence(l, usize::from(h.sequence));
+    for n in 0..l {
         let chip = plain_chip(row[n]);
-        add_at(sums, base::wide(h.group) * l + n, base::flipped(b, chip));
-        n += 1;
+        add_at(sums, usize::from(h.group) * l + n, base::flipped(b, chip));
     }
 }
 
-// The sums of all units before scrambling, over `count` HIs, whose commands start at `at` of the plan; bit k of `bits` is that of
-// HI k. Callers pass the HIs of an accepted plan, and bytes of 0.
+// The sums of all units before scrambling, over `count` HIs, whose commands start at `at` of the plan; `bit` gives that of HI k. Callers
+// pass the HIs of an accepted plan, and bytes of 0.
+fn sum_his<F: Fn(usize, Hi) -> u8>(
+    l: usize,
+    plan: &[u8],
+    at: usize,
+    count: usize,
+    bit: F,
+    sums: &mut [u8; 200],
+)
+    ghost bits: { ℕ → ℕ }
+    requires known { HisIn l plan.now at count }
+    requires blank { sums.old ≡ table 200 (λ (i : ℕ). 0) }
+    requires callable { (k : ℕ) (h : Hi) → HiIn l h → F.pre bit k h }
+    requires gives { (k r : ℕ) → k < count → F.post bit k (hi_number (his_from (drop at plan.now) count) k) r → r ≡ bits k }
+    ensures { QuadSums l bits (his_from (drop at plan.now) count) sums.new }
+{
+    let mut from = at;
+    for k in 0..count {
+        let h = hi_at(plan, from);
+        add_hi(sums, l, h, bit(k, h));
+        from = next_at(plan, from);
+    }
+}
+
+// The same; bit k of `bits` is that of HI k.
 pub fn quad_sums(l: usize, plan: &[u8], at: usize, count: usize, bits: &[u8], sums: &mut [u8; 200])
     requires { HisIn l plan.now at count × (sums.old ≡ table 200 (λ (i : ℕ). 0)) }
     ensures { QuadSums l (bit_at bits.now) (his_from (drop at plan.now) count) sums.new }
 {
-    let mut from = at;
-    let mut k: usize = 0;
-    while k < count {
-        add_hi(sums, l, hi_at(plan, from), base::bit_at(bits, k));
-        from = next_at(plan, from);
-        k += 1;
-    }
+    sum_his(l, plan, at, count, |k, _| base::bit_at(bits, k), sums);
 }
 
 // The twelve sums of a unit, scrambled: `part` has the levels of its four places, the same in each quad. Callers take it from
@@ -152,12 +165,10 @@ pub fn unit_sums(l: usize, w: u32, part: &[u8]) -> [Pair; 12]
     ensures { result ≡ scrambled_sums l (word_bit w) part.now }
 {
     let mut sums = [Pair { re: 0, im: 0 }; 12];
-    let mut i: usize = 0;
-    while i < 12 {
+    for i in 0..12 {
         let s = scrambling(w, chip_of(l, i));
         let d = levels_at(part, i % 4);
         sums[i] = base::flipped(s, d);
-        i += 1;
     }
     sums
 }
@@ -176,9 +187,7 @@ fn by(s: i8, z: i8) -> i16
 fn dot(s: Pair, p: Pair) -> i16
     ensures { (result ≡ dot_of s p) × (unsigned_abs result ≤ 256) }
 {
-    let a = s.re;
-    let b = s.im;
-    by(a, p.re) + by(b, p.im)
+    by(s.re, p.re) + by(s.im, p.im)
 }
 
 // A product, its sign flipped by its scrambling bit. It is of sixteen bits, as a level of -128 in a grid has no negative of eight.
@@ -194,21 +203,20 @@ pub fn bit_of(l: usize, w: u32, h: Hi, first: &[u8; 200]) -> u8
     requires { HiIn l h }
     ensures { result ≡ bit_in l (word_bit w) h (quad_of first.now (mapping_unit l h)) }
 {
-    let row = sequence(l, base::wide(h.sequence));
+    let row = sequence(l, usize::from(h.sequence));
     let mut t: i16 = 0;
-    let mut n: usize = 0;
-    while n < l {
+    for n in 0..l {
         let chip = plain_chip(row[n]);
-        let p = levels_at(first, base::wide(h.group) * l + n);
+        let p = levels_at(first, usize::from(h.group) * l + n);
         let d = flipped_by(scrambling(w, n), dot(chip, p));
         t += d;
-        n += 1;
     }
     if t < 0 { 1 } else { 0 }
 }
 
 // The sums of all units before scrambling that the bits read from the first quads' sums make. Callers pass the HIs of an accepted
 // plan, and bytes of 0.
+#[tactic(auto, unfolding(crate::specs::Loops::bits_from))]
 pub fn sums_again(
     l: usize,
     w: u32,
@@ -221,12 +229,5 @@ pub fn sums_again(
     requires { HisIn l plan.now at count × (sums.old ≡ table 200 (λ (i : ℕ). 0)) }
     ensures { QuadSums l (bits_from l (word_bit w) (his_from (drop at plan.now) count) first.now) (his_from (drop at plan.now) count) sums.new }
 {
-    let mut from = at;
-    let mut k: usize = 0;
-    while k < count {
-        let h = hi_at(plan, from);
-        add_hi(sums, l, h, bit_of(l, w, h, first));
-        from = next_at(plan, from);
-        k += 1;
-    }
+    sum_his(l, plan, at, count, |_, h| bit_of(l, w, h, first), sums);
 }

@@ -11,30 +11,27 @@ use base::Pair;
 use plan::Hi;
 use std::io;
 
-// The generator's next state.
-fn next(x: u64) -> u64 {
-    (1103515245 * (x % 2147483648) + 12345) % 2147483648
+// What draws the sets: a generator by its state.
+#[derive(Drop)]
+struct Generator {
+    x: u64,
 }
 
-// What a state draws.
-fn value(x: u64) -> u64 {
-    x / 65536
+impl Generator {
+    fn draw(&mut self) -> u64 {
+        self.x = (1103515245 * (self.x % 2147483648) + 12345) % 2147483648;
+        self.x / 65536
+    }
 }
 
 // HI number n of the sixteen of units 0 and 1, group by group.
 fn hi_of(l: usize, n: usize) -> Hi
     requires { n < 16 }
 {
-    if l == 4 {
-        Hi {
-            group: (n / 8) as u8,
-            sequence: (n % 8) as u8,
-        }
-    } else {
-        Hi {
-            group: (n / 4) as u8,
-            sequence: (n % 4) as u8,
-        }
+    let sequences = if l == 4 { 8 } else { 4 };
+    Hi {
+        group: (n / sequences) as u8,
+        sequence: (n % sequences) as u8,
     }
 }
 
@@ -48,50 +45,30 @@ fn put(plan: &mut [u8; 48], count: usize, h: Hi)
     plan[at + 2] = h.sequence;
 }
 
-#[derive(Clone, Copy)]
-struct Drawn {
-    x: u64,
-    count: usize,
-}
-
-// The set of HIs: each of the sixteen by a draw.
-fn draw_set(x: u64, l: usize, k: u64, plan: &mut [u8; 48]) -> Drawn
-    ensures { result.count ≤ 16 }
+// The set of HIs: each of the sixteen by a draw. How many there are.
+fn draw_set(g: &mut Generator, l: usize, k: u64, plan: &mut [u8; 48]) -> usize
+    ensures { result ≤ 16 }
 {
-    let mut s = x;
     let mut count: usize = 0;
-    let mut n: usize = 0;
-    while n < 16 {
-        s = next(s);
-        if value(s) % 4 < k % 5 {
+    for n in 0..16 {
+        if g.draw() % 4 < k % 5 {
             put(plan, count, hi_of(l, n));
             count += 1;
         }
-        n += 1;
     }
-    Drawn { x: s, count: count }
-}
-
-#[derive(Clone, Copy)]
-struct Bits {
-    x: u64,
-    word: u64,
+    count
 }
 
 // A bit for each of `count` HIs, the first the most significant of sixteen.
-fn draw_bits(x: u64, count: usize) -> Bits {
-    let mut s = x;
-    let mut word: u64 = 0;
-    let mut n: usize = 0;
-    while n < 16 {
+fn draw_bits(g: &mut Generator, count: usize) -> [u8; 2] {
+    let mut word: u16 = 0;
+    for n in 0..16 {
         word = word % 32768 * 2;
         if n < count {
-            s = next(s);
-            word += value(s) % 2;
+            word += (g.draw() % 2) as u16;
         }
-        n += 1;
     }
-    Bits { x: s, word: word }
+    word.to_be_bytes()
 }
 
 // Whether the HI has a sequence of the length and is in one of 25 units.
@@ -99,11 +76,7 @@ fn known(l: usize, h: Hi) -> bool
     requires { Length l }
     ensures { result ≡ true → HiIn l h }
 {
-    let q = base::wide(h.sequence);
-    if 2 * l <= q {
-        return false;
-    }
-    base::wide(h.group) * l < 100
+    usize::from(h.sequence) < 2 * l && usize::from(h.group) * l < 100
 }
 
 // Whether the HIs can be summed.
@@ -112,13 +85,11 @@ fn ready(l: usize, plan: &[u8], count: usize) -> bool
     ensures { result ≡ true → HisIn l plan.now 0 count }
 {
     let mut from: usize = 0;
-    let mut k: usize = 0;
-    while k < count {
+    for k in 0..count {
         if !known(l, plan::hi_at(plan, from)) {
             return false;
         }
         from = plan::next_at(plan, from);
-        k += 1;
     }
     true
 }
@@ -140,12 +111,10 @@ fn flips(part: &[u8]) -> bool
     if part.len() != 8 {
         return false;
     }
-    let mut i: usize = 0;
-    while i < 8 {
+    for i in 0..8 {
         if part[i] == 128 {
             return false;
         }
-        i += 1;
     }
     true
 }
@@ -163,36 +132,33 @@ fn unit(l: usize, w: u32, part: &[u8]) -> [Pair; 12]
 fn put_quad(first: &mut [u8; 200], m: usize, sums: [Pair; 12])
     requires { m < 25 }
 {
-    let mut i: usize = 0;
-    while i < 4 {
+    for i in 0..4 {
         let d = sums[i];
         let at = 8 * m + 2 * i;
         first[at] = base::byte_of(d.re);
         first[at + 1] = base::byte_of(d.im);
-        i += 1;
     }
 }
 
 fn print_sums(rt: &impl Print, sums: [Pair; 12]) -> io::Result<()> {
-    let mut i: usize = 0;
-    while i < 12 {
-        let d = sums[i];
+    for d in sums {
         print::space(rt)?;
         show::pair(rt, d)?;
-        i += 1;
     }
     print::line(rt)
 }
 
-fn bit(l: usize, w: u32, h: Hi, first: &[u8; 200]) -> u8
+fn bit(l: usize, w: u32, h: Hi, first: &[u8; 200]) -> Option<u8>
     requires { Length l }
 {
     if known(l, h) {
-        return phich::bit_of(l, w, h, first);
+        Some(phich::bit_of(l, w, h, first))
+    } else {
+        None
     }
-    2
 }
 
+// An HI that has no bit prints 2.
 fn print_bits(
     rt: &impl Print,
     l: usize,
@@ -205,13 +171,11 @@ fn print_bits(
 {
     print::text(rt, b"bits")?;
     let mut from: usize = 0;
-    let mut k: usize = 0;
-    while k < count {
+    for k in 0..count {
         let h = plan::hi_at(plan, from);
         print::space(rt)?;
-        print::number(rt, bit(l, w, h, first) as u64)?;
+        print::number(rt, bit(l, w, h, first).map_or(2, u64::from))?;
         from = plan::next_at(plan, from);
-        k += 1;
     }
     print::line(rt)
 }
@@ -250,36 +214,29 @@ fn print_set(
     print_bits(rt, l, w, plan, count, &first)
 }
 
-// One set, drawn from the state x on. Answers the state after it.
-fn set(rt: &impl Print, prefix: u64, l: usize, k: u64, x: u64) -> io::Result<u64>
+// One set.
+fn set(rt: &impl Print, prefix: u64, l: usize, k: u64, g: &mut Generator) -> io::Result<()>
     requires { Length l }
 {
-    let s = next(x);
-    let w = (value(s) % 4096) as u32;
+    let w = (g.draw() % 4096) as u32;
     let mut plan = [0; 48];
-    let drawn = draw_set(s, l, k, &mut plan);
-    let count = drawn.count;
-    let d = draw_bits(drawn.x, count);
-    let bits = [(d.word / 256 % 256) as u8, (d.word % 256) as u8];
+    let count = draw_set(g, l, k, &mut plan);
+    let bits = draw_bits(g, count);
     print_head(rt, prefix, k, w)?;
-    print_set(rt, l, w, &plan, count, &bits)?;
-    Ok(d.x)
+    print_set(rt, l, w, &plan, count, &bits)
 }
 
-fn sets(rt: &impl Print, prefix: u64, l: usize, x: u64) -> io::Result<u64>
+fn sets(rt: &impl Print, prefix: u64, l: usize, g: &mut Generator) -> io::Result<()>
     requires { Length l }
 {
-    let mut s = x;
-    let mut k: u64 = 0;
-    while k < 24 {
-        s = set(rt, prefix, l, k, s)?;
-        k += 1;
+    for k in 0..24 {
+        set(rt, prefix, l, k, g)?;
     }
-    Ok(s)
+    Ok(())
 }
 
 fn main(rt: HostRuntime) -> io::Result<()> {
-    let s = sets(&rt, 0, 4, 1)?;
-    sets(&rt, 1, 2, s)?;
-    Ok(())
+    let mut g = Generator { x: 1 };
+    sets(&rt, 0, 4, &mut g)?;
+    sets(&rt, 1, 2, &mut g)
 }

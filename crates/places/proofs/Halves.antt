@@ -6,6 +6,7 @@ use mathlib.Core.List.{List}
 use native.Mathlib.Omega.{arith}
 use lib.Dec.{leb}
 use borrow.Author.Tests.{le-leb, leb-true}
+use Rattle.std.specs.declared.result.Result.TheVariants.{Ok as accepted}
 use Rattle.base.proofs.Passing.{passes_same}
 use Rattle.base.proofs.Tests.{by-test, same_test}
 use Rattle.plan.specs.Check.{check_of}
@@ -14,7 +15,6 @@ use Rattle.plan.specs.declared.Cell.{Cell}
 use Rattle.plan.specs.declared.Frame.{Frame}
 use Rattle.plan.specs.declared.User.{User}
 use Rattle.plan.specs.declared.Plan.{Plan}
-use Rattle.plan.specs.declared.Checked.TheVariants.{Plan as accepted}
 use Rattle.plan.specs.Valid.{Valid}
 use Rattle.plan.proofs.Valid.{valid}
 use Rattle.layout.specs.Rules.{slot_of, stands_at, crs_of, crs_below, crs_any, middle, centre, in_sync_area, in_pbch_area, pbch}

@@ -8,12 +8,12 @@ use mathlib.Core.List.{List}
 use native.Mathlib.Omega.{arith}
 use lib.Dec.{ltb}
 use borrow.Author.Tests.{lt-ltb, le-ltb, ltb-true, ltb-false}
+use Rattle.std.specs.declared.result.Result.TheVariants.{Ok as accepted}
 use Rattle.base.proofs.Tests.{by-test}
 use Rattle.plan.specs.Check.{check_of}
 use Rattle.plan.specs.Fields.{mapping_units}
 use Rattle.plan.specs.declared.Cell.{Cell}
 use Rattle.plan.specs.declared.Plan.{Plan}
-use Rattle.plan.specs.declared.Checked.TheVariants.{Plan as accepted}
 use Rattle.layout.specs.Rules.{element_group, in_group, format_group, format_has, pcfich, quad_symbol, groups_left, quad_group, mapping_unit_has, phich}
 use Rattle.layout.specs.Owners.{carriers, fixed_rule, owns}
 use Rattle.layout.specs.declared.Owner.{Owner}

@@ -10,7 +10,9 @@ use types.Run.{OneOf}
 use denote.Enum.Declared.{tag_of}
 use lib.Dec.{leb, ltb}
 use lib.ListN.{length, drop, get_or, length-drop, drop_of_length-le}
-use borrow.Author.Tests.{lt-ltb, le-ltb, ltb-true, le-leb, lt-leb, leb-true}
+use borrow.Author.Tests.{lt-ltb, ltb-true, le-leb, leb-true}
+use Rattle.std.specs.declared.result.Result.{Result}
+use Rattle.std.specs.declared.result.Result.TheVariants.{Ok, Err}
 use Rattle.base.proofs.Tests.{both}
 use Rattle.bitset.specs.Sets.{member, meet}
 use Rattle.plan.specs.Lists.{one_of, none_of, Every}
@@ -29,27 +31,29 @@ use Rattle.plan.specs.declared.Cause.{Cause}
 use Rattle.plan.specs.declared.Cause.TheVariants.{Unknown, CutOff, NoEnd, OutOfOrder, AfterEnd}
 use Rattle.plan.specs.declared.Cause.TheVariants.{Identity, Blocks, Prefix, Ports, Sixths, Duration, FrameNumber, Subframe, Cfi, Region}
 use Rattle.plan.specs.declared.Cause.TheVariants.{Group, Sequence, PairUsed, Rnti, Modulation, Count, LastBlock, RntiUsed, BlockUsed}
-use Rattle.plan.specs.declared.Reason.{Reason}
-use Rattle.plan.specs.declared.Reason.TheVariants.{Nothing, Is}
 use Rattle.plan.specs.contracts.Command.{the_type}
 use Rattle.plan.specs.contracts.Cause.{the_type as causes}
 use Rattle.plan.proofs.OneOf.{not_in, among}
 use Rattle.plan.proofs.Listed.{and_left, and_right, none_or}
 
 -- no cause: the test held, and there is none after it
-pub passed : (t : Bool) (k : Cause) (r : Reason) → Nothing ≡ demand t k r → (t ≡ true) × (Nothing ≡ r)
+pub passed : (t : Bool) (k : Cause) (r : Result Unit Cause) → (Ok tt) ≡ demand t k r → (t ≡ true) × ((Ok tt) ≡ r)
 passed true k r e = (refl, e)
 passed false k r e = (cc, cc)
 
--- ---- CELL and CELLX
-pub cell-tests : (c : Cell) {b p s : Bool} {r₀ r₁ r₂ r₃ r₄ r₅ : Reason} → r₀ ≡ demand (leb c.duration 1) Duration Nothing →
-    s ≡ one_of c.sixths sixth_counts → r₁ ≡ demand s Sixths r₀ →
-    p ≡ one_of c.ports port_counts → r₂ ≡ demand p Ports r₁ → r₃ ≡ demand (leb c.prefix 1) Prefix r₂ →
-    b ≡ one_of c.blocks widths → r₄ ≡ demand b Blocks r₃ → r₅ ≡ demand (leb c.identity 503) Identity r₄ → r₅ ≡ cell_cause c
-unfolding cell_cause
-cell-tests c e₀ es e₁ ep e₂ e₃ eb e₄ e₅ = rw (e₅, e₄, eb, e₃, e₂, ep, e₁, es, e₀) refl
+-- a test that was demanded, and held; and one that failed, where r is the error that is handed on
+pub held : (t : Bool) (k : Cause) {r : Result Unit Cause} {u : Unit {0}} → r ≡ demand t k (Ok tt) → r ≡ Ok u → t ≡ true
+held t k e q = (passed t k (Ok tt) (sym q ∙ e)).0
 
-pub cell_in : (c : Cell) → Nothing ≡ cell_cause c → CellIn c
+pub failed : (t : Bool) (k : Cause) {e : Cause} {r : Result Unit Cause} → r ≡ demand (not t) k (Ok tt) → r ≡ Err e → t ≡ true
+failed true k q d = refl
+failed false k q d = absurd (never (sym q ∙ d))
+  where
+    never : {e : Cause} → ◌≡◌ {A = Result Unit Cause} (Ok tt) (Err e) → ⊥
+    never x = let z : ◌≡◌ {A = ℕ} 0 1 = cc in omega arith
+
+-- ---- CELL and CELLX
+pub cell_in : (c : Cell) → (Ok tt) ≡ cell_cause c → CellIn c
 unfolding cell_cause
 cell_in c e =
     let t₁ = passed (leb c.identity 503) Identity _ e in
@@ -68,14 +72,8 @@ cell_in c e =
     }
 
 -- ---- FRAME
-pub frame-tests : (c : Cell) (f : Frame) {t : Bool} {r₀ r₁ r₂ r₃ : Reason} → t ≡ phich_fits c f → r₀ ≡ demand t Region Nothing →
-    r₁ ≡ demand (leb 1 f.cfi && leb f.cfi 3) Cfi r₀ → r₂ ≡ demand (leb f.subframe 9) Subframe r₁ →
-    r₃ ≡ demand (leb f.number 1023) FrameNumber r₂ → r₃ ≡ frame_cause c f
-unfolding frame_cause
-frame-tests c f et e₀ e₁ e₂ e₃ = rw (e₃, e₂, e₁, e₀, et) refl
-
 -- its fields, and the control region by the cell
-pub frame-in : (c : Cell) (f : Frame) → Nothing ≡ frame_cause c f → FrameIn f × (phich_fits c f ≡ true)
+pub frame-in : (c : Cell) (f : Frame) → (Ok tt) ≡ frame_cause c f → FrameIn f × (phich_fits c f ≡ true)
 unfolding frame_cause
 frame-in c f e =
     let t₁ = passed (leb f.number 1023) FrameNumber _ e in
@@ -91,26 +89,16 @@ frame-in c f e =
     (fields, (passed (phich_fits c f) Region _ t₃.1).0)
 
 -- ---- HI
-module _ (c : Cell) (h : Hi) {g : ℕ} (eg : g ≡ phich_groups c) where
-  pub hi-group : g ≤ h.group → (hs : List Hi) → Is Group ≡ hi_cause c hs h
+module _ (c : Cell) (h : Hi) {g : ℕ} (eg : g ≡ phich_groups c) (k : h.group < g) {q : ℕ} (eq : q ≡ sequences_of c) (l : h.sequence < q) where
+  pub hi-range : HiIn c h
+  hi-range = record { group = omega arith; sequence = omega arith }
+
+  pub hi-tests : (pairs : List ℕ) {n : ℕ} → n ≡ pair_of h → {p : Bool} → p ≡ member pairs n → {r : Result Unit Cause} → r ≡ demand (not p) PairUsed (Ok tt) →
+      (hs : List Hi) → PairsUsed c pairs hs → r ≡ hi_cause c hs h
   unfolding hi_cause
-  hi-group k hs = rw (← eg, le-ltb _ _ k) refl
+  hi-tests pairs en ep er hs s = rw (← eg, lt-ltb _ _ k, ← eq, lt-ltb _ _ l, s.at h hi-range, er, ep, en) refl
 
-  module _ (k : h.group < g) {q : ℕ} (eq : q ≡ sequences_of c) where
-    pub hi-sequence : q ≤ h.sequence → (hs : List Hi) → Is Sequence ≡ hi_cause c hs h
-    unfolding hi_cause
-    hi-sequence l hs = rw (← eg, lt-ltb _ _ k, ← eq, le-ltb _ _ l) refl
-
-    module _ (l : h.sequence < q) where
-      pub hi-range : HiIn c h
-      hi-range = record { group = omega arith; sequence = omega arith }
-
-      pub hi-tests : (pairs : List ℕ) {n : ℕ} → n ≡ pair_of h → {p : Bool} → p ≡ member pairs n → {r : Reason} → r ≡ demand (not p) PairUsed Nothing →
-          (hs : List Hi) → PairsUsed c pairs hs → r ≡ hi_cause c hs h
-      unfolding hi_cause
-      hi-tests pairs en ep er hs s = rw (← eg, lt-ltb _ _ k, ← eq, lt-ltb _ _ l, s.at h hi-range, er, ep, en) refl
-
-pub hi-passed : (c : Cell) (hs : List Hi) (h : Hi) → Nothing ≡ hi_cause c hs h → HiIn c h × (none_of (same_pair h) hs ≡ true)
+pub hi-passed : (c : Cell) (hs : List Hi) (h : Hi) → (Ok tt) ≡ hi_cause c hs h → HiIn c h × (none_of (same_pair h) hs ≡ true)
 unfolding hi_cause
 hi-passed c hs h e =
     let t₁ = passed (ltb h.group (phich_groups c)) Group _ e in
@@ -133,7 +121,7 @@ module _ (c : Cell) (u : User) where
         last = leb-true _ _ t₄;
       }
 
-  pub user-passed : (us : List User) → Nothing ≡ user_cause c us u → UserIn c u × (none_of (clash u) us ≡ true)
+  pub user-passed : (us : List User) → (Ok tt) ≡ user_cause c us u → UserIn c u × (none_of (clash u) us ≡ true)
   unfolding user_cause
   user-passed us e =
       let t₁ = passed (leb 1 u.rnti && leb u.rnti 65535) Rnti _ e in
@@ -144,38 +132,20 @@ module _ (c : Cell) (u : User) where
       let t₆ = passed (none_of (shares_block u) us) BlockUsed _ t₅.1 in
       (user-made t₁.0 t₂.0 t₃.0 t₄.0, none-clash u us ∙ both t₅.0 t₆.0)
 
-  pub user-rnti : u.rnti < 1 → (us : List User) → Is Rnti ≡ user_cause c us u
-  unfolding user_cause
-  user-rnti h us = rw (lt-leb _ _ h) refl
-
-  module _ (h : 1 ≤ u.rnti) (m : u.rnti ≤ 65535) {o : Bool} (eo : o ≡ one_of u.order orders) where
-    pub user-order : o ≡ false → (us : List User) → Is Modulation ≡ user_cause c us u
+  module _ (h : 1 ≤ u.rnti) (m : u.rnti ≤ 65535) {o : Bool} (eo : o ≡ one_of u.order orders) (t : o ≡ true) (k : 1 ≤ u.count) (l : u.first + u.count ≤ c.blocks)
+      (rntis blocks : List ℕ) {p : Bool} (ep : p ≡ one_of u.rnti rntis) (us : List User) (s : UsersUsed c rntis blocks us) where
+    user-new : demand (not p) RntiUsed (demand (not (meet blocks (blocks_of u))) BlockUsed (Ok tt)) ≡ user_cause c us u
     unfolding user_cause
-    user-order f us = rw (le-leb _ _ h, le-leb _ _ m, ← eo, f) refl
+    user-new =
+        let i = user-made (both (le-leb _ _ h) (le-leb _ _ m)) (sym eo ∙ t) (le-leb _ _ k) (le-leb _ _ l) in
+        rw (ep, le-leb _ _ h, le-leb _ _ m, ← eo, t, le-leb _ _ k, le-leb _ _ l, s.of-rntis.at u i, s.of_blocks.at u i) refl
 
-    module _ (t : o ≡ true) where
-      pub user-count : u.count < 1 → (us : List User) → Is Count ≡ user_cause c us u
-      unfolding user_cause
-      user-count k us = rw (le-leb _ _ h, le-leb _ _ m, ← eo, t, lt-leb _ _ k) refl
+    pub user-rnti-used : p ≡ true → Err RntiUsed ≡ user_cause c us u
+    user-rnti-used f = rw f at user-new
 
-      module _ (k : 1 ≤ u.count) where
-        pub user-last : c.blocks < u.first + u.count → (us : List User) → Is LastBlock ≡ user_cause c us u
-        unfolding user_cause
-        user-last l us = rw (le-leb _ _ h, le-leb _ _ m, ← eo, t, le-leb _ _ k, lt-leb _ _ l) refl
-
-        module _ (l : u.first + u.count ≤ c.blocks) (rntis blocks : List ℕ) {p : Bool} (ep : p ≡ one_of u.rnti rntis) (us : List User) (s : UsersUsed c rntis blocks us) where
-          user-new : demand (not p) RntiUsed (demand (not (meet blocks (blocks_of u))) BlockUsed Nothing) ≡ user_cause c us u
-          unfolding user_cause
-          user-new =
-              let i = user-made (both (le-leb _ _ h) (le-leb _ _ m)) (sym eo ∙ t) (le-leb _ _ k) (le-leb _ _ l) in
-              rw (ep, le-leb _ _ h, le-leb _ _ m, ← eo, t, le-leb _ _ k, le-leb _ _ l, s.of-rntis.at u i, s.of_blocks.at u i) refl
-
-          pub user-rnti-used : p ≡ true → Is RntiUsed ≡ user_cause c us u
-          user-rnti-used f = rw f at user-new
-
-          pub user-tests : p ≡ false → {own : List ℕ} → own ≡ blocks_of u → {q : Bool} → q ≡ meet blocks own →
-              {r : Reason} → r ≡ demand (not q) BlockUsed Nothing → r ≡ user_cause c us u
-          user-tests f en eq er = rw (er, eq, en) (rw f at user-new)
+    pub user-tests : not p ≡ true → {own : List ℕ} → own ≡ blocks_of u → {q : Bool} → q ≡ meet blocks own →
+        {r : Result Unit Cause} → r ≡ demand (not q) BlockUsed (Ok tt) → r ≡ user_cause c us u
+    user-tests f en eq er = rw (er, eq, en) (rw f at user-new)
 
 -- ---- a command that is not due
 late-there : (l : List ℕ) → 0 < length l → (x : Command) → command_of l ≡ x → late_for l x ≡ late_cause l

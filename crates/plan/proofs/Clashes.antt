@@ -6,6 +6,7 @@ use mathlib.Core.List.{List}
 use native.Mathlib.Omega.{arith}
 use lib.Dec.{eqb}
 use lib.ListN.{drop}
+use Rattle.std.specs.declared.option.Option.TheVariants.{None, Some}
 use Rattle.plan.specs.Commands.{byte, hi_of, user_of}
 use Rattle.plan.specs.Fields.{same_pair}
 use Rattle.plan.specs.Finding.{same_rnti, shares_block, in_common, clashes, first_from, earlier_of}
@@ -14,7 +15,6 @@ use Rattle.plan.specs.declared.Hi.{Hi}
 use Rattle.plan.specs.declared.User.{User}
 use Rattle.plan.specs.declared.Shared.{Shared}
 use Rattle.plan.specs.declared.Shared.TheVariants.{Nothing as Alone, Pair, Rnti, Block}
-use Rattle.plan.specs.declared.Earlier.TheVariants.{Nothing, Is}
 
 -- ---- two commands, the bytes l and e from each on
 module _ (l e : List ℕ) {r : Bool} where
@@ -34,11 +34,11 @@ module _ (l e : List ℕ) {r : Bool} where
   clash-test s ec eb er = rw (ec, eb, er) refl
 
 -- ---- nothing in common: no command clashes
-pub clash-nothing : (w : List ℕ) (n at : ℕ) {s : Shared} → s ≡ Alone → Nothing ≡ earlier_of w n at s
+pub clash-nothing : (w : List ℕ) (n at : ℕ) {s : Shared} → s ≡ Alone → None ≡ earlier_of w n at s
 unfolding clashes first_from earlier_of
 clash-nothing w n at e = rw e (by 1 0 (n - 1))
   where
-    by : (m before k : ℕ) → Nothing ≡ first_from (clashes Alone (drop at w)) w m before k
+    by : (m before k : ℕ) → None ≡ first_from (clashes Alone (drop at w)) w m before k
     by m before zero = refl
     by m before (suc k) = rw (and-false (eqb (byte (drop before w) 0) (byte (drop at w) 0))) (by (m + 1) (next_of w before) k)
 
@@ -51,19 +51,19 @@ module _ (w : List ℕ) (n at : ℕ) (s : Shared) (m before : ℕ) where
   Looking = first_from (clashes s (drop at w)) w m before (n - m) ≡ earlier_of w n at s
 
   -- the loop has looked at every command before number n
-  pub clash-none : n ≤ m → Looking → Nothing ≡ earlier_of w n at s
+  pub clash-none : n ≤ m → Looking → None ≡ earlier_of w n at s
   unfolding first_from
   clash-none h g = by (n - m) (omega arith) ∙ g
     where
-      by : (k : ℕ) → k ≡ 0 → Nothing ≡ first_from t w m before k
+      by : (k : ℕ) → k ≡ 0 → None ≡ first_from t w m before k
       by k e = rw e refl
 
   module _ (h : m < n) (g : Looking) {b : Bool} (eb : b ≡ clashes s (drop at w) (drop before w)) where
-    pub clash-here : b ≡ true → Is (record { command = m; offset = before }) ≡ earlier_of w n at s
+    pub clash-here : b ≡ true → Some (record { command = m; offset = before }) ≡ earlier_of w n at s
     unfolding first_from
     clash-here q = by (n - m) (n - (m + 1)) (omega arith) ∙ g
       where
-        by : (k k' : ℕ) → k ≡ suc k' → Is (record { command = m; offset = before }) ≡ first_from t w m before k
+        by : (k k' : ℕ) → k ≡ suc k' → Some (record { command = m; offset = before }) ≡ first_from t w m before k
         by k k' e = rw (e, ← eb, q) refl
 
     pub clash-later : b ≡ false → {to : ℕ} → to ≡ next_of w before → first_from (clashes s (drop at w)) w (m + 1) to (n - (m + 1)) ≡ earlier_of w n at s

@@ -7,6 +7,7 @@ use native.Mathlib.Nat.{mul-le-mul}
 use native.Mathlib.Omega.{arith}
 use lib.Dec.{leb, leb→le, eqb}
 use lib.ListN.{length}
+use Rattle.std.specs.declared.result.Result.TheVariants.{Ok as accepted}
 use Rattle.plan.specs.Lists.{Every, Apart}
 use Rattle.plan.specs.Fields.{widths, port_counts, sixth_counts, mapping_units, phich_groups, sequences_of}
 use Rattle.plan.specs.Check.{check_of}
@@ -16,7 +17,6 @@ use Rattle.plan.specs.declared.Cell.{Cell}
 use Rattle.plan.specs.declared.Hi.{Hi}
 use Rattle.plan.specs.declared.User.{User}
 use Rattle.plan.specs.declared.Plan.{Plan}
-use Rattle.plan.specs.declared.Checked.TheVariants.{Plan as accepted}
 use Rattle.plan.proofs.OneOf.{among-holds}
 use Rattle.plan.proofs.Listed.{choose, every-imp, apart-imp}
 use Rattle.plan.proofs.Few.{Keys, few}

@@ -8,6 +8,10 @@ use lib.Dec.{leb, ltb, eqb}
 use lib.ListN.{length, drop}
 use lib.Seq.{drop-drop}
 use borrow.Author.Tests.{eq-eqb}
+use Rattle.std.specs.declared.result.Result.{Result}
+use Rattle.std.specs.declared.result.Result.TheVariants.{Ok as accepted, Ok, Err as refused, Err}
+use Rattle.std.specs.declared.option.Option.{Option}
+use Rattle.std.specs.declared.option.Option.TheVariants.{None, Some}
 use Rattle.base.proofs.Tests.{both}
 use Rattle.plan.specs.Lists.{one_of, none_of}
 use Rattle.plan.specs.Commands.{byte, hi_of, user_of, size_of, command_of, commands_after, commands}
@@ -24,18 +28,12 @@ use Rattle.plan.specs.declared.Command.{Command}
 use Rattle.plan.specs.declared.Command.TheVariants.{Cell as cell, Cellx as cellx, Frame as frame, Hi as hi, User as user, End as end, Broken as broken}
 use Rattle.plan.specs.declared.Cause.{Cause}
 use Rattle.plan.specs.declared.Cause.TheVariants.{NoEnd, OutOfOrder, AfterEnd, Group, Sequence, PairUsed, Rnti, Modulation, Count, LastBlock, RntiUsed, BlockUsed}
-use Rattle.plan.specs.declared.Reason.{Reason}
-use Rattle.plan.specs.declared.Reason.TheVariants.{Nothing as faultless, Is as faulty}
 use Rattle.plan.specs.declared.Stop.{Stop}
-use Rattle.plan.specs.declared.Walked.{Walked}
-use Rattle.plan.specs.declared.Walked.TheVariants.{Accepted, Refused}
 use Rattle.plan.specs.declared.Numbered.{Numbered}
 use Rattle.plan.specs.declared.Hi.{Hi}
 use Rattle.plan.specs.declared.User.{User}
 use Rattle.plan.specs.declared.Shared.{Shared}
 use Rattle.plan.specs.declared.Shared.TheVariants.{Nothing as Alone, Pair, Rnti as Same, Block}
-use Rattle.plan.specs.declared.Earlier.{Earlier}
-use Rattle.plan.specs.declared.Earlier.TheVariants.{Nothing, Is}
 use Rattle.plan.proofs.Listed.{choose, none-snoc}
 use Rattle.plan.proofs.Entries.{told, next}
 use Rattle.plan.proofs.Reading.{drop-next}
@@ -51,9 +49,9 @@ module _ (t : List ℕ → Bool) (w : List ℕ) where
     pub holds : t (drop e.offset w) ≡ true
     pub none : (i : ℕ) → m ≤ i → i < e.command - 1 → t (past w i) ≡ false
 
-  abbrev First : ℕ → ℕ → Earlier → Type 0
-  First m k Nothing = (i : ℕ) → m ≤ i → i < m + k → t (past w i) ≡ false
-  First m k (Is e) = Hit m k e
+  abbrev First : ℕ → ℕ → Option Numbered → Type 0
+  First m k None = (i : ℕ) → m ≤ i → i < m + k → t (past w i) ≡ false
+  First m k (Some e) = Hit m k e
 
   module _ (m : ℕ) (q : t (past w m) ≡ false) where
     further : (P : ℕ → Type 0) → ((i : ℕ) → m + 1 ≤ i → P i → t (past w i) ≡ false) → (i : ℕ) → m ≤ i → P i → t (past w i) ≡ false
@@ -63,9 +61,9 @@ module _ (t : List ℕ → Bool) (w : List ℕ) where
         by zero e = let z : m ≡ i = omega arith in rw (← z) q
         by (suc d) e = h i (omega arith) p
 
-    one_less : (k : ℕ) (a : Earlier) → First (m + 1) k a → First m (suc k) a
-    one_less k Nothing h = λ i l u. further (λ (j : ℕ). j < m + suc k) (λ j v x. h j v (omega arith)) i l u
-    one_less k (Is e) h =
+    one_less : (k : ℕ) (a : Option Numbered) → First (m + 1) k a → First m (suc k) a
+    one_less k None h = λ i l u. further (λ (j : ℕ). j < m + suc k) (λ j v x. h j v (omega arith)) i l u
+    one_less k (Some e) h =
         record {
           from = omega (arith, h.from);
           to = omega (arith, h.to);
@@ -79,18 +77,18 @@ module _ (t : List ℕ → Bool) (w : List ℕ) where
   first-is zero m at e = λ i l u. absurd (omega arith)
   first-is (suc k) m at e =
       let z : m ≡ m + 1 - 1 = omega arith in
-      choose (First m (suc k)) (t (drop at w)) (Is (record { command = m + 1; offset = at })) (first_from t w (m + 1 + 1) (next_of w at) k)
+      choose (First m (suc k)) (t (drop at w)) (Some (record { command = m + 1; offset = at })) (first_from t w (m + 1 + 1) (next_of w at) k)
       (λ q. record { from = omega arith; to = omega arith; place = e ∙ ap (past w) z; holds = q; none = λ i l u. absurd (omega arith) })
       (λ q.
       one_less m (rw e at q) k (first_from t w (m + 1 + 1) (next_of w at) k)
       (first-is k (m + 1) (next_of w at) (drop-next w at ∙ ap (λ (l : List ℕ). drop (size_of l) l) e ∙ sym (past_more m w))))
 
 -- ---- what a command with a reason to be refused has in common with one before it
-abbrev shared_in : Reason → Shared
-shared_in faultless = Alone
-shared_in (faulty k) = shared_by k
+abbrev shared_in : Result Unit Cause → Shared
+shared_in (Ok tt) = Alone
+shared_in (Err k) = shared_by k
 
-in-demand : (t : Bool) (k : Cause) (r : Reason) → shared_in (demand t k r) ≡ cond t (shared_in r) (shared_by k)
+in-demand : (t : Bool) (k : Cause) (r : Result Unit Cause) → shared_in (demand t k r) ≡ cond t (shared_in r) (shared_by k)
 in-demand true k r = refl
 in-demand false k r = refl
 
@@ -111,7 +109,7 @@ unfolding broken_cause
 broken-alone l = simp (in-demand, either_way)
 
 module _ (P : Shared → Type 0) where
-  on-demand : (t : Bool) (k : Cause) (r : Reason) → (t ≡ false → P (shared_by k)) → P (shared_in r) → P (shared_in (demand t k r))
+  on-demand : (t : Bool) (k : Cause) (r : Result Unit Cause) → (t ≡ false → P (shared_by k)) → P (shared_in r) → P (shared_in (demand t k r))
   on-demand true k r p h = h
   on-demand false k r p h = p refl
 
@@ -121,7 +119,7 @@ module _ (P : Shared → Type 0) where
     on-hi c hs h p =
         on-demand (ltb h.group (phich_groups c)) Group _ (λ q. a)
         (on-demand (ltb h.sequence (sequences_of c)) Sequence _ (λ q. a)
-        (on-demand (none_of (same_pair h) hs) PairUsed faultless p a))
+        (on-demand (none_of (same_pair h) hs) PairUsed (Ok tt) p a))
 
     on-user : (c : Cell) (us : List User) (u : User) → (none_of (same_rnti u) us ≡ false → P Same) → (none_of (shares_block u) us ≡ false → P Block) → P (shared_in (user_cause c us u))
     unfolding user_cause
@@ -131,7 +129,7 @@ module _ (P : Shared → Type 0) where
         (on-demand (leb 1 u.count) Count _ (λ q. a)
         (on-demand (leb (u.first + u.count) c.blocks) LastBlock _ (λ q. a)
         (on-demand (none_of (same_rnti u) us) RntiUsed _ p
-        (on-demand (none_of (shares_block u) us) BlockUsed faultless b a)))))
+        (on-demand (none_of (shares_block u) us) BlockUsed (Ok tt) b a)))))
 
 -- ---- what the check has seen: xs are those of the first m commands of the plan w that have the byte code; a test that fails on each of these fails on each of xs
 record Seen {A : Type 0} (w : List ℕ) (code : ℕ) (read : List ℕ → A) (m : ℕ) (xs : List A) : Type 0 where
@@ -202,15 +200,15 @@ module _ (w : List ℕ) (m : ℕ) (st : State) (s : SeenAll w m st) where
 
 -- ---- where the walk stops
 module _ (w : List ℕ) where
-  abbrev Told : Walked → Type 0
-  Told (Accepted p) = Unit {0}
-  Told (Refused s) = ((i : ℕ) → i < s.command - 1 → clashes (shared_by s.cause) (drop s.offset w) (past w i) ≡ false) → shared_by s.cause ≡ Alone
+  abbrev Told : Result Plan Stop → Type 0
+  Told (accepted p) = Unit {0}
+  Told (refused s) = ((i : ℕ) → i < s.command - 1 → clashes (shared_by s.cause) (drop s.offset w) (past w i) ≡ false) → shared_by s.cause ≡ Alone
 
-  told-stop : (m at : ℕ) (st : State) (s : SeenAll w m st) (r : Reason) (a : Walked) → Shown w m st s (drop at w) (shared_in r) → Told a → Told (stop_at r (m + 1) at a)
-  told-stop m at st s faultless a p h = h
-  told-stop m at st s (faulty k) a p h = λ n. p (λ i l. n i (omega arith))
+  told-stop : (m at : ℕ) (st : State) (s : SeenAll w m st) (r : Result Unit Cause) (a : Result Plan Stop) → Shown w m st s (drop at w) (shared_in r) → Told a → Told (stop_at r (m + 1) at a)
+  told-stop m at st s (Ok tt) a p h = h
+  told-stop m at st s (Err k) a p h = λ n. p (λ i l. n i (omega arith))
 
-  told-last : (t : Bool) (n at : ℕ) (p : Plan) → Told (cond t (Accepted p) (refused_at n at NoEnd))
+  told-last : (t : Bool) (n at : ℕ) (p : Plan) → Told (cond t (accepted p) (refused_at n at NoEnd))
   told-last true n at p = tt
   told-last false n at p = λ n. refl
 
@@ -231,9 +229,9 @@ module _ (w : List ℕ) where
       (tells xs (state_after st x) (m + 1) (at + size_of l) (one_more w m at e) (ap commands (sym (drop-drop (size_of l) at w)) ∙ rest)
       (seen-after w m st s x (ap command_of (sym e) ∙ here)))
 
-  found : (s : Stop) → Told (Refused s) → (a : Earlier) → First (clashes (shared_by s.cause) (drop s.offset w)) w 0 (s.command - 1) a → EarlierIs w (finding_at w s) a
-  found s h Nothing g = h (λ i l. g i (omega arith) (omega arith))
-  found s h (Is e) g =
+  found : (s : Stop) → Told (refused s) → (a : Option Numbered) → First (clashes (shared_by s.cause) (drop s.offset w)) w 0 (s.command - 1) a → EarlierIs w (finding_at w s) a
+  found s h None g = h (λ i l. g i (omega arith) (omega arith))
+  found s h (Some e) g =
       record {
         some = omega (arith, g.from);
         before = omega (arith, g.from, g.to);
@@ -251,8 +249,8 @@ module _ (w : List ℕ) where
   unfolding finding_of walk_of earlier_of
   explained-earlier = by (walk_of w) (tells (commands w) begin 0 0 (sym (past-none 0 w refl)) refl seen_first)
     where
-      by : (a : Walked) → Told a → EarlierNamed w (explained_by w a)
-      by (Accepted p) h = tt
-      by (Refused s) h =
+      by : (a : Result Plan Stop) → Told a → EarlierNamed w (explained_by w a)
+      by (accepted p) h = tt
+      by (refused s) h =
           found s h (earlier_of w s.command s.offset (shared_by s.cause))
           (first-is (clashes (shared_by s.cause) (drop s.offset w)) w (s.command - 1) 0 0 (sym (past-none 0 w refl)))

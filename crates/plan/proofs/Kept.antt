@@ -6,6 +6,7 @@ use mathlib.Core.List.{List, [], ◌∷◌, ◌++◌}
 use native.Mathlib.Omega.{arith}
 use lib.Dec.{ltb, eqb}
 use borrow.Author.Tests.{eq-eqb, lt-ltb}
+use Rattle.std.specs.declared.result.Result.TheVariants.{Ok}
 use Rattle.plan.specs.Lists.{Every, Apart}
 use Rattle.plan.specs.Fields.{same_pair, clash}
 use Rattle.plan.specs.Finding.{hi_cause, user_cause}
@@ -13,7 +14,6 @@ use Rattle.plan.specs.Valid.{HiIn, UserIn, OtherPair, Disjoint}
 use Rattle.plan.specs.declared.Cell.{Cell}
 use Rattle.plan.specs.declared.Hi.{Hi}
 use Rattle.plan.specs.declared.User.{User}
-use Rattle.plan.specs.declared.Reason.TheVariants.{Nothing}
 use Rattle.plan.proofs.CauseLaws.{hi-passed, user-passed}
 use Rattle.plan.proofs.Listed.{every-snoc, apart_snoc, none-every}
 
@@ -49,7 +49,7 @@ pub kept-first : (c : Cell) → Kept c [] []
 kept-first c = record { his = tt; pairs = tt; users = tt; apart = tt }
 
 module _ {c : Cell} {hs : List Hi} {us : List User} (k : Kept c hs us) where
-  pub kept-hi : (h : Hi) → Nothing ≡ hi_cause c hs h → Kept c (hs ++ (h ∷ [])) us
+  pub kept-hi : (h : Hi) → (Ok tt) ≡ hi_cause c hs h → Kept c (hs ++ (h ∷ [])) us
   kept-hi h q =
       let t = hi-passed c hs h q in
       record {
@@ -59,7 +59,7 @@ module _ {c : Cell} {hs : List Hi} {us : List User} (k : Kept c hs us) where
         apart = k.apart;
       }
 
-  pub kept-user : (u : User) → Nothing ≡ user_cause c us u → Kept c hs (us ++ (u ∷ []))
+  pub kept-user : (u : User) → (Ok tt) ≡ user_cause c us u → Kept c hs (us ++ (u ∷ []))
   kept-user u q =
       let t = user-passed c u us q in
       record {

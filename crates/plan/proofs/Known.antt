@@ -3,12 +3,12 @@
 use Prim.Native.Nat.{ℕ, ◌+◌}
 use mathlib.Core.Path.{◌≡◌, refl, ap}
 use mathlib.Core.List.{List, [], ◌∷◌, ◌++◌}
+use Rattle.std.specs.declared.result.Result.TheVariants.{Ok as accepted}
 use Rattle.plan.specs.Lists.{one_of, none_of}
 use Rattle.plan.specs.Commands.{byte, cell_with, cell_of, cellx_of, frame_of, hi_of, user_of, entries, entry_in, size_of, command_of, commands_after}
 use Rattle.plan.specs.Fields.{cell_ok, frame_ok, control_symbols, phich_fits, mapping_units, phich_groups, sequences_of, hi_ok, same_pair, user_ok, clash}
 use Rattle.plan.specs.Check.{begin, hi_fault, user_fault, fault, state_after, plan_of, run, check_of, verdict_of}
 use Rattle.plan.specs.declared.Plan.{Plan}
-use Rattle.plan.specs.declared.Checked.TheVariants.{Plan as accepted}
 
 -- CELL with the lower byte of an identity from 256 on and N = 15; then FRAME, a USER with a first block and 10 blocks, and END
 abbrev plan_with : ℕ → ℕ → List ℕ

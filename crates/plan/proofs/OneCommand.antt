@@ -10,6 +10,8 @@ use lib.Dec.{eqb}
 use lib.ListN.{length, drop, length-drop, drop_of_length-le}
 use lib.Seq.{drop-drop}
 use borrow.Author.Tests.{eq-eqb, ne_eqb, eqb-true}
+use Rattle.std.specs.declared.result.Result.{Result}
+use Rattle.std.specs.declared.result.Result.TheVariants.{Ok as accepted, Ok, Err as refused, Err}
 use Rattle.plan.specs.Lists.{one_of}
 use Rattle.plan.specs.Commands.{byte, hi_of, user_of, size_of, command_of, commands_after, commands}
 use Rattle.plan.specs.Check.{State, due, state_after, plan_of}
@@ -26,11 +28,7 @@ use Rattle.plan.specs.declared.Command.{Command}
 use Rattle.plan.specs.declared.Command.TheVariants.{Cell as cell, Cellx as cellx, Frame as frame, Hi as hi, User as user, End as end, Broken as broken}
 use Rattle.plan.specs.declared.Cause.{Cause}
 use Rattle.plan.specs.declared.Cause.TheVariants.{Unknown, CutOff, NoEnd, OutOfOrder, AfterEnd}
-use Rattle.plan.specs.declared.Reason.{Reason}
-use Rattle.plan.specs.declared.Reason.TheVariants.{Nothing, Is}
 use Rattle.plan.specs.declared.Stop.{Stop}
-use Rattle.plan.specs.declared.Walked.{Walked}
-use Rattle.plan.specs.declared.Walked.TheVariants.{Accepted, Refused}
 use Rattle.plan.specs.contracts.Command.{the_type}
 use Rattle.plan.proofs.OneOf.{not_in}
 use Rattle.plan.proofs.Entries.{told, next}
@@ -47,14 +45,14 @@ module _ (w : List ℕ) (st : State) (n at : ℕ) (x : Command) (e : command_of 
   unfolding walk_from
   opened = rw (next there h, e) refl
 
-  pub stopped : (k : Cause) → cause_of st there x ≡ Is k → rest_from w st n at ≡ refused_at n at k
+  pub stopped : (k : Cause) → cause_of st there x ≡ Err k → rest_from w st n at ≡ refused_at n at k
   stopped k q = opened ∙ rw q refl
 
   module _ (s : State) (es : state_after st x ≡ s) (m to : ℕ) (em : n + 1 ≡ m) (et : at + size_of there ≡ to) where
     pub unless-stopped : rest_from w st n at ≡ stop_at (cause_of st there x) n at (rest_from w s m to)
     unless-stopped = opened ∙ rw (es, em, drop-drop (size_of there) at w, et) refl
 
-    pub stepped : cause_of st there x ≡ Nothing → rest_from w st n at ≡ rest_from w s m to
+    pub stepped : cause_of st there x ≡ (Ok tt) → rest_from w st n at ≡ rest_from w s m to
     stepped q = unless-stopped ∙ rw q refl
 
 -- a command that is not due, or that is missing, before END
@@ -68,7 +66,7 @@ fits stage end = due stage
 fits stage broken = false
 
 module _ (st : State) (q : eqb st.stage 4 ≡ false) where
-  late_is : (l : List ℕ) (x : Command) → fits st.stage x ≡ false → cause_of st l x ≡ Is (late_for l x)
+  late_is : (l : List ℕ) (x : Command) → fits st.stage x ≡ false → cause_of st l x ≡ Err (late_for l x)
   unfolding cause_at in_order field_cause broken_cause
   late_is l (cell y) f = rw (q, f) refl
   late_is l (cellx y) f = rw (q, f) refl
@@ -78,7 +76,7 @@ module _ (st : State) (q : eqb st.stage 4 ≡ false) where
   late_is l end f = rw (q, f) refl
   late_is l broken f = rw q (by (one_of (byte l 0) command_bytes))
     where
-      by : (t : Bool) → demand t Unknown (Is CutOff) ≡ Is (cond t CutOff Unknown)
+      by : (t : Bool) → demand t Unknown (Err CutOff) ≡ Err (cond t CutOff Unknown)
       by true = refl
       by false = refl
 
@@ -149,13 +147,13 @@ module _ (w : List ℕ) (c : Cell) (f : Frame) (start n mid m at : ℕ) where
   abbrev St : State
   St = body_state w c f start n mid m
 
-  abbrev Rest : Walked
+  abbrev Rest : Result Plan Stop
   Rest = body_rest w c f start n mid m at
 
-  abbrev HiC : Hi → Reason
+  abbrev HiC : Hi → Result Unit Cause
   HiC h = demand (eqb m 0) OutOfOrder (hi_cause c (his_from (drop start w) n) h)
 
-  abbrev UserC : User → Reason
+  abbrev UserC : User → Result Unit Cause
   UserC u = user_cause c (users_from (drop mid w) m) u
 
   -- ---- an HI
@@ -167,7 +165,7 @@ module _ (w : List ℕ) (c : Cell) (f : Frame) (start n mid m at : ℕ) where
     unfolding body_state cause_at in_order field_cause
     hi-cause = rw (stage-last, stage-hi) refl
 
-    pub hi-refused : (k : Cause) → Is k ≡ HiC h → Rest ≡ refused_at (n + m + 3) at k
+    pub hi-refused : (k : Cause) → Err k ≡ HiC h → Rest ≡ refused_at (n + m + 3) at k
     hi-refused k q = stopped w St (n + m + 3) at (hi h) e hi-some k (hi-cause ∙ sym q)
 
     pub hi-next : next_of w at ≡ at + 3
@@ -177,7 +175,7 @@ module _ (w : List ℕ) (c : Cell) (f : Frame) (start n mid m at : ℕ) where
       pub hi-room : at + 3 ≤ length w
       hi-room = omega (arith, (told here (hi h) e).2, length-drop at w)
 
-      module _ (q : Nothing ≡ HiC h) (to : ℕ) (et : to ≡ next_of w at) where
+      module _ (q : (Ok tt) ≡ HiC h) (to : ℕ) (et : to ≡ next_of w at) where
         none : m ≡ 0
         none = eqb-true m 0 (passed (eqb m 0) OutOfOrder _ q).0
 
@@ -232,7 +230,7 @@ module _ (w : List ℕ) (c : Cell) (f : Frame) (start n mid m at : ℕ) where
     unfolding body_state cause_at in_order field_cause
     user-cause = rw (stage-last, stage-due) refl
 
-    pub user-refused : (k : Cause) → Is k ≡ UserC u → Rest ≡ refused_at (n + m + 3) at k
+    pub user-refused : (k : Cause) → Err k ≡ UserC u → Rest ≡ refused_at (n + m + 3) at k
     user-refused k q = stopped w St (n + m + 3) at (user u) e user-some k (user-cause ∙ sym q)
 
     pub user-next : next_of w at ≡ at + size_of here
@@ -270,7 +268,7 @@ module _ (w : List ℕ) (c : Cell) (f : Frame) (start n mid m at : ℕ) where
             let k : ◌≡◌ {A = ℕ} 3 (cond (eqb (m + 1) 0) 2 3) = rw (ne_eqb (m + 1) 0 (λ z. omega arith)) refl in
             ap₂ (λ (x : ℕ) (us : List User). made x c f start (his_from (drop start w) n) us) k more-users
 
-        pub user-step : Nothing ≡ UserC u → Rest ≡ body_rest w c f start n mid (m + 1) to
+        pub user-step : (Ok tt) ≡ UserC u → Rest ≡ body_rest w c f start n mid (m + 1) to
         user-step q =
             stepped w St (n + m + 3) at (user u) e user-some _ after-user (n + (m + 1) + 3) to (omega arith) (sym (et ∙ user-next)) (user-cause ∙ sym q)
 
@@ -279,7 +277,7 @@ module _ (w : List ℕ) (c : Cell) (f : Frame) (start n mid m at : ℕ) where
     pub end-room : at < length w
     end-room = omega (arith, (told here end e).2, length-drop at w)
 
-    end-cause : cause_of St here end ≡ Nothing
+    end-cause : cause_of St here end ≡ (Ok tt)
     unfolding body_state cause_at in_order field_cause
     end-cause = rw (stage-last, stage-due) refl
 
@@ -296,7 +294,7 @@ module _ (w : List ℕ) (c : Cell) (f : Frame) (his users : CommandList) (k to :
   unfolding cause_at state_after
   not_last h = stopped w Ended k to (command_of (drop to w)) refl (omega (arith, length-drop to w)) AfterEnd refl
 
-  pub last : users.at ≡ his.at + 3 * his.count → length w ≤ to → rest_from w Ended k to ≡ Accepted (record { cell = c; frame = f; his = his; users = users })
+  pub last : users.at ≡ his.at + 3 * his.count → length w ≤ to → rest_from w Ended k to ≡ accepted (record { cell = c; frame = f; his = his; users = users })
   unfolding walk_from commands_after plan_of body_state state_after
   last e h =
       rw (drop_of_length-le w h, commands-length hi_of (drop his.at w) his.count, commands-length user_of (drop users.at w) users.count, ← e) refl
@@ -313,16 +311,16 @@ module _ {w : List ℕ} {p : Plan} {at : ℕ} (d : EndDue w p at) where
     step : plan_rest w p at ≡ rest_from w (state_after Due end) (n + 1) (at + 1)
     step = end_step w p.cell p.frame p.his.at p.his.count p.users.at p.users.count at e
 
-    pub end_more : at + 1 < length w → {g : Stop} → g ≡ found_at (n + 1) (at + 1) AfterEnd → Refused g ≡ plan_rest w p at
-    end_more l eg = ap Refused eg ∙ sym (step ∙ not_last w p.cell p.frame p.his p.users (n + 1) (at + 1) l)
+    pub end_more : at + 1 < length w → {g : Stop} → g ≡ found_at (n + 1) (at + 1) AfterEnd → refused g ≡ plan_rest w p at
+    end_more l eg = ap refused eg ∙ sym (step ∙ not_last w p.cell p.frame p.his p.users (n + 1) (at + 1) l)
 
-    pub end-last : length w ≤ at + 1 → Accepted p ≡ plan_rest w p at
+    pub end-last : length w ≤ at + 1 → accepted p ≡ plan_rest w p at
     end-last l = sym (step ∙ last w p.cell p.frame p.his p.users (n + 1) (at + 1) d.mid_at l)
 
   pub end-late : {x : Command} → command_of (drop at w) ≡ x → OneOf (0 ∷ 1 ∷ 2 ∷ 3 ∷ 4 ∷ 6 ∷ []) (tag_of the_type x) →
-      {k : Cause} → k ≡ late_cause (drop at w) → {g : Stop} → g ≡ found_at n at k → Refused g ≡ plan_rest w p at
+      {k : Cause} → k ≡ late_cause (drop at w) → {g : Stop} → g ≡ found_at n at k → refused g ≡ plan_rest w p at
   unfolding one_of body_state
-  end-late {x} e h ek eg = ap Refused eg ∙ ap (refused_at n at) ek ∙ sym (late Due (stage-last (eqb p.users.count 0)) w n at x e (by x e h))
+  end-late {x} e h ek eg = ap refused eg ∙ ap (refused_at n at) ek ∙ sym (late Due (stage-last (eqb p.users.count 0)) w n at x e (by x e h))
     where
       by : (x : Command) → command_of (drop at w) ≡ x → OneOf (0 ∷ 1 ∷ 2 ∷ 3 ∷ 4 ∷ 6 ∷ []) (tag_of the_type x) → fits Due.stage x ≡ false
       by (cell y) e h = stage-first (eqb p.users.count 0)

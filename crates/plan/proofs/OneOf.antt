@@ -11,6 +11,7 @@ use lib.ListN.{length, drop, get_or, drop_of_length-le}
 use lib.Seq.{drop-cons}
 use lib.Ieee.Fits.{and_l, and_r}
 use borrow.Author.Tests.{eq-eqb, ne_eqb, eqb-true}
+use Rattle.std.specs.List.{list_any}
 use Rattle.base.proofs.Computed.{every}
 use Rattle.plan.specs.Lists.{one_of, Among}
 
@@ -25,18 +26,22 @@ hit (k ∷ []) x h = rw (eq-eqb x k h)
 hit (k ∷ l ∷ ks) x (inl e) = rw (eq-eqb x k e)
 hit (k ∷ l ∷ ks) x (inr h) = or-true (eqb x k) (one_of x (l ∷ ks)) (hit (l ∷ ks) x h)
 
--- ---- a search from the front, at place i
+-- ---- the library's search
+swapped : (x y : ℕ) (t : Bool) → eqb x y ≡ t → eqb y x ≡ t
+swapped x y true e = eq-eqb y x (sym (eqb-true x y e))
+swapped x y false e = ne_eqb y x (λ q. false≢true (sym e ∙ eq-eqb x y (sym q)))
+
+pub any-one_of : (x : ℕ) (ks : List ℕ) → list_any (λ (k : ℕ). eqb k x) ks ≡ one_of x ks
+unfolding one_of
+any-one_of x [] = refl
+any-one_of x (k ∷ ks) = rw (swapped x k _ refl, any-one_of x ks) refl
+
+-- ---- place i of a list
 at_place : (x : ℕ) (ks : List ℕ) (i : ℕ) → i < length ks → one_of x (drop i ks) ≡ eqb x (get_or ks i 0) || one_of x (drop (i + 1) ks)
 unfolding one_of
 at_place x ks i l = rw (drop-cons ks i 0 l, add-one i) refl
 
-pub one_found : (x : ℕ) (ks : List ℕ) (i : ℕ) → i < length ks → x ≡ get_or ks i 0 → one_of x (drop i ks) ≡ true
-one_found x ks i l e = at_place x ks i l ∙ rw (eq-eqb x (get_or ks i 0) e) refl
-
-pub one-passed : (x : ℕ) (ks : List ℕ) (i : ℕ) → i < length ks → (x ≡ get_or ks i 0 → ⊥) → one_of x (drop (i + 1) ks) ≡ one_of x (drop i ks)
-one-passed x ks i l n = sym (at_place x ks i l ∙ rw (ne_eqb x (get_or ks i 0) n) refl)
-
-pub one_left : (x : ℕ) (ks : List ℕ) (i : ℕ) → length ks ≤ i → one_of x (drop i ks) ≡ false
+one_left : (x : ℕ) (ks : List ℕ) (i : ℕ) → length ks ≤ i → one_of x (drop i ks) ≡ false
 unfolding one_of
 one_left x ks i l = rw (drop_of_length-le ks l) refl
 

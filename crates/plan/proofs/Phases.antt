@@ -6,6 +6,8 @@ use mathlib.Core.List.{List, []}
 use native.Mathlib.Omega.{arith}
 use lib.ListN.{length, drop, get_or, set, replicate, length-set}
 use lib.Seq.{get_or-set_other}
+use Rattle.std.specs.declared.result.Result.{Result}
+use Rattle.std.specs.declared.result.Result.TheVariants.{Ok, Err as refused, Err}
 use Rattle.bitset.specs.Sets.{added, joined}
 use Rattle.plan.specs.Commands.{user_of, frame_of, command_of}
 use Rattle.plan.specs.Finding.{hi_cause, user_cause, found_at}
@@ -18,11 +20,7 @@ use Rattle.plan.specs.declared.Hi.{Hi}
 use Rattle.plan.specs.declared.User.{User}
 use Rattle.plan.specs.declared.Command.TheVariants.{Hi as hi, User as user}
 use Rattle.plan.specs.declared.Cause.{Cause}
-use Rattle.plan.specs.declared.Reason.{Reason}
-use Rattle.plan.specs.declared.Reason.TheVariants.{Nothing, Is}
 use Rattle.plan.specs.declared.Stop.{Stop}
-use Rattle.plan.specs.declared.Counted.TheVariants.{Count, Refused as faulty}
-use Rattle.plan.specs.declared.Walked.TheVariants.{Refused}
 use Rattle.plan.proofs.Entries.{told}
 use Rattle.plan.proofs.Reading.{no-hi-stands, no-user-stands}
 use Rattle.plan.proofs.CommandLists.{commands-length, past-none}
@@ -52,7 +50,7 @@ his-first w c start h =
 
 -- the last HI is behind
 pub his-done : {w : List ℕ} {c : Cell} {start n at : ℕ} {pairs : List ℕ} → HisGoing w c start n at pairs →
-    {b : Bool} → b ≡ stands_at 0x20 (drop at w) → b ≡ false → HisRead w c start (Count n)
+    {b : Bool} → b ≡ stands_at 0x20 (drop at w) → b ≡ false → HisRead w c start (Ok n)
 his-done {w} {c} {start} {n} {at} g eb f =
     subst
     (λ (x : ℕ). HisPast w start n x × ((f : Frame) → body_rest w c f start n x 0 x ≡ body_rest w c f start 0 start 0 start))
@@ -60,24 +58,24 @@ his-done {w} {c} {start} {n} {at} g eb f =
     (record { his-end = g.standing.his-end; room = g.standing.room; no-hi = no-hi-stands (drop at w) (sym eb ∙ f) }, g.same)
 
 -- at the HI h, with its cause q
-pub record AtHi (w : List ℕ) (c : Cell) (start n at : ℕ) (pairs : List ℕ) (h : Hi) (q : Reason) : Type 0 where
+pub record AtHi (w : List ℕ) (c : Cell) (start n at : ℕ) (pairs : List ℕ) (h : Hi) (q : Result Unit Cause) : Type 0 where
   pub going : HisGoing w c start n at pairs
   pub ok : CellIn c
   pub there : command_of (drop at w) ≡ hi h
   pub cause : q ≡ hi_cause c (his_from (drop start w) n) h
 
-module _ {w : List ℕ} {c : Cell} {start n at : ℕ} {pairs : List ℕ} {h : Hi} {q : Reason} (z : AtHi w c start n at pairs h q) where
+module _ {w : List ℕ} {c : Cell} {start n at : ℕ} {pairs : List ℕ} {h : Hi} {q : Result Unit Cause} (z : AtHi w c start n at pairs h q) where
   pub his-less : {to : ℕ} → to ≡ next_of w at → length w - to < length w - at
   his-less et = omega (arith, hi-next w c (frame_of []) start n at 0 at h z.there, hi-room w c (frame_of []) start n at 0 at h z.there z.going.standing)
 
-  pub his-refused : {k : Cause} → q ≡ Is k → {g : Stop} → g ≡ found_at (n + 3) at k → HisRead w c start (faulty g)
+  pub his-refused : {k : Cause} → q ≡ Err k → {g : Stop} → g ≡ found_at (n + 3) at k → HisRead w c start (Err g)
   his-refused {k} e eg f =
       let number : n + 3 ≡ n + 0 + 3 = omega arith in
-      ap Refused (eg ∙ ap (λ (x : ℕ). found_at x at k) number)
+      ap refused (eg ∙ ap (λ (x : ℕ). found_at x at k) number)
       ∙ sym (hi-refused w c f start n at 0 at h z.there k (sym e ∙ z.cause)) ∙ z.going.same f
 
-  module _ (e : q ≡ Nothing) {k : ℕ} (ek : k ≡ pair_of h) where
-    none : Nothing ≡ hi_cause c (his_from (drop start w) n) h
+  module _ (e : q ≡ (Ok tt)) {k : ℕ} (ek : k ≡ pair_of h) where
+    none : (Ok tt) ≡ hi_cause c (his_from (drop start w) n) h
     none = sym e ∙ z.cause
 
     range : HiIn c h
@@ -140,25 +138,25 @@ users-done {w} {at = at} g p eb t =
     }
 
 -- at the USER u, with its cause q
-pub record AtUser (w : List ℕ) (c : Cell) (f : Frame) (start n mid m at : ℕ) (rntis blocks : List ℕ) (u : User) (q : Reason) : Type 0 where
+pub record AtUser (w : List ℕ) (c : Cell) (f : Frame) (start n mid m at : ℕ) (rntis blocks : List ℕ) (u : User) (q : Result Unit Cause) : Type 0 where
   pub going : UsersGoing w c f start n mid m at rntis blocks
   pub ok : CellIn c
   pub there : command_of (drop at w) ≡ user u
   pub cause : q ≡ user_cause c (users_from (drop mid w) m) u
 
-module _ {w : List ℕ} {c : Cell} {f : Frame} {start n mid m at : ℕ} {rntis blocks : List ℕ} {u : User} {q : Reason} (z : AtUser w c f start n mid m at rntis blocks u q) where
+module _ {w : List ℕ} {c : Cell} {f : Frame} {start n mid m at : ℕ} {rntis blocks : List ℕ} {u : User} {q : Result Unit Cause} (z : AtUser w c f start n mid m at rntis blocks u q) where
   pub users-less : {to : ℕ} → to ≡ next_of w at → length w - to < length w - at
   users-less et =
       omega (arith, user-next w c f start n mid m at u z.there, user-room w c f start n mid m at u z.there z.going.standing, (told (drop at w) (user u) z.there).1)
 
-  pub users-refused : {k : Cause} → q ≡ Is k → {g : Stop} → g ≡ found_at (n + m + 3) at k → Refused g ≡ body_rest w c f start n mid 0 mid
-  users-refused {k} e eg = ap Refused eg ∙ sym (user-refused w c f start n mid m at u z.there k (sym e ∙ z.cause)) ∙ z.going.same
+  pub users-refused : {k : Cause} → q ≡ Err k → {g : Stop} → g ≡ found_at (n + m + 3) at k → refused g ≡ body_rest w c f start n mid 0 mid
+  users-refused {k} e eg = ap refused eg ∙ sym (user-refused w c f start n mid m at u z.there k (sym e ∙ z.cause)) ∙ z.going.same
 
-  pub users-again : q ≡ Nothing → {own : List ℕ} → own ≡ blocks_of u → {now : List ℕ} → now ≡ joined blocks own →
+  pub users-again : q ≡ (Ok tt) → {own : List ℕ} → own ≡ blocks_of u → {now : List ℕ} → now ≡ joined blocks own →
       {to : ℕ} → to ≡ next_of w at → UsersGoing w c f start n mid (m + 1) to (set rntis m u.rnti) now
   users-again e eo {now} en {to} et =
       let g = z.going in
-      let none : Nothing ≡ user_cause c (users_from (drop mid w) m) u = sym e ∙ z.cause in
+      let none : (Ok tt) ≡ user_cause c (users_from (drop mid w) m) u = sym e ∙ z.cause in
       let range = (user-passed c u (users_from (drop mid w) m) none).0 in
       let s : now ≡ joined blocks (blocks_of u) = en ∙ ap (joined blocks) eo in
       let place : m < length rntis = omega (arith, g.places, g.few) in

@@ -7,6 +7,8 @@ use native.Mathlib.Omega.{arith}
 use lib.Dec.{ltb, eqb}
 use lib.ListN.{length, drop, length-drop}
 use borrow.Author.Tests.{ltb-true, ltb-false}
+use Rattle.std.specs.declared.result.Result.{Result}
+use Rattle.std.specs.declared.result.Result.TheVariants.{Ok as accepted, Ok, Err as refused, Err}
 use Rattle.plan.specs.Commands.{byte, hi_of, user_of, command_of}
 use Rattle.plan.specs.Check.{State, begin, state_after, check_of}
 use Rattle.plan.specs.Finding.{demand, cell_cause, frame_cause, hi_cause, user_cause, walk_of}
@@ -22,12 +24,8 @@ use Rattle.plan.specs.declared.Plan.{Plan}
 use Rattle.plan.specs.declared.Command.{Command}
 use Rattle.plan.specs.declared.Command.TheVariants.{Cell as cell, Cellx as cellx, Frame as frame, Hi as hi, User as user, End as end, Broken as broken}
 use Rattle.plan.specs.declared.Cause.TheVariants.{OutOfOrder}
-use Rattle.plan.specs.declared.Reason.{Reason}
-use Rattle.plan.specs.declared.Reason.TheVariants.{Nothing, Is}
 use Rattle.plan.specs.declared.Stop.{Stop}
-use Rattle.plan.specs.declared.Walked.{Walked}
-use Rattle.plan.specs.declared.Walked.TheVariants.{Accepted, Refused}
-use Rattle.plan.specs.declared.Checked.TheVariants.{Plan as accepted}
+use Rattle.plan.specs.declared.Cause.{Cause}
 use Rattle.plan.proofs.Entries.{told}
 use Rattle.plan.proofs.Reading.{gone}
 use Rattle.plan.proofs.CommandLists.{commands-length}
@@ -40,15 +38,15 @@ use Rattle.plan.proofs.OneCommand.{hi-refused, standing-hi, on-more-his, hi-next
 use Rattle.plan.proofs.Opening.{cell-first, cellx-first, cell-refused, cell-step, frame-room, frame_refused, frame_step}
 
 -- ---- answers
-not-both : {a : Walked} {g : Stop} {p : Plan} → a ≡ Refused g → a ≡ Accepted p → ⊥
+not-both : {a : Result Plan Stop} {g : Stop} {p : Plan} → a ≡ refused g → a ≡ accepted p → ⊥
 not-both e q = let z : ◌≡◌ {A = ℕ} 0 1 = cc in omega arith
 
 -- a command that is not due
 not-due : (st : State) → eqb st.stage 4 ≡ false → (w : List ℕ) (n at : ℕ) (x : Command) → command_of (drop at w) ≡ x → fits st.stage x ≡ false →
-    {p : Plan} → rest_from w st n at ≡ Accepted p → Valid w p
+    {p : Plan} → rest_from w st n at ≡ accepted p → Valid w p
 not-due st q w n at x e t r = absurd (not-both (late st q w n at x e t) r)
 
-same-plan : (a b : Plan) → Accepted a ≡ Accepted b → a ≡ b
+same-plan : (a b : Plan) → ◌≡◌ {A = Result Plan Stop} (accepted a) (accepted b) → a ≡ b
 same-plan a b e = cc
 
 one_byte : (l : List ℕ) → length l ≡ 1 → byte l 0 ≡ 0 → l ≡ 0 ∷ []
@@ -65,7 +63,7 @@ module _ (w : List ℕ) (p : Plan) (c : Cell) (f : Frame) (ci : CellIn c) (fi : 
   Users mid m = users_from (drop mid w) m
 
   abbrev Runs : ℕ → ℕ → ℕ → ℕ → Type 0
-  Runs n mid m at = body_rest w c f start n mid m at ≡ Accepted p
+  Runs n mid m at = body_rest w c f start n mid m at ≡ accepted p
 
   record Good (n mid m at : ℕ) : Type 0 where
     standing : Standing w start n mid m at
@@ -75,14 +73,14 @@ module _ (w : List ℕ) (p : Plan) (c : Cell) (f : Frame) (ci : CellIn c) (fi : 
   Rest k = (n mid m at : ℕ) → length w ≤ at + k → Good n mid m at → Runs n mid m at → Valid w p
 
   -- one more HI, one more USER
-  more-hi : (n mid m at : ℕ) → Good n mid m at → (h : Hi) → command_of (drop at w) ≡ hi h → Nothing ≡ demand (eqb m 0) OutOfOrder (hi_cause c (His n) h) → Good (n + 1) (mid + 3) m (next_of w at)
+  more-hi : (n mid m at : ℕ) → Good n mid m at → (h : Hi) → command_of (drop at w) ≡ hi h → (Ok tt) ≡ demand (eqb m 0) OutOfOrder (hi_cause c (His n) h) → Good (n + 1) (mid + 3) m (next_of w at)
   more-hi n mid m at g h e q =
       record {
         standing = standing-hi w c f start n mid m at h e g.standing q (next_of w at) refl;
         kept = on-more-his w c f start n mid m at h e g.standing q (next_of w at) refl (Kept c) (kept-hi g.kept h (passed (eqb m 0) OutOfOrder _ q).1);
       }
 
-  more-user : (n mid m at : ℕ) → Good n mid m at → (u : User) → command_of (drop at w) ≡ user u → Nothing ≡ user_cause c (Users mid m) u → Good n mid (m + 1) (next_of w at)
+  more-user : (n mid m at : ℕ) → Good n mid m at → (u : User) → command_of (drop at w) ≡ user u → (Ok tt) ≡ user_cause c (Users mid m) u → Good n mid (m + 1) (next_of w at)
   more-user n mid m at g u e q =
       record {
         standing = standing-user w c f start n mid m at u e g.standing (next_of w at) refl;
@@ -90,7 +88,7 @@ module _ (w : List ℕ) (p : Plan) (c : Cell) (f : Frame) (ci : CellIn c) (fi : 
       }
 
   at-end : (n mid m at : ℕ) (t : Bool) → ltb (at + 1) (length w) ≡ t → Good n mid m at → command_of (drop at w) ≡ end →
-      rest_from w (state_after (body_state w c f start n mid m) end) (n + m + 3 + 1) (at + 1) ≡ Accepted p → Valid w p
+      rest_from w (state_after (body_state w c f start n mid m) end) (n + m + 3 + 1) (at + 1) ≡ accepted p → Valid w p
   unfolding his_of users_of
   at-end n mid m at true l g e r =
       absurd (not-both (not_last w c f (record { at = start; count = n }) (record { at = mid; count = m }) _ (at + 1) (ltb-true _ _ l)) r)
@@ -116,16 +114,16 @@ module _ (w : List ℕ) (p : Plan) (c : Cell) (f : Frame) (ci : CellIn c) (fi : 
       })
 
   at-hi : (k n mid m at : ℕ) → Rest k → length w ≤ at + suc k → Good n mid m at → (h : Hi) → command_of (drop at w) ≡ hi h →
-      (q : Reason) → q ≡ demand (eqb m 0) OutOfOrder (hi_cause c (His n) h) → Runs n mid m at → Valid w p
-  at-hi k n mid m at ih l g h e (Is y) q r = absurd (not-both (hi-refused w c f start n mid m at h e y q) r)
-  at-hi k n mid m at ih l g h e Nothing q r =
+      (q : Result Unit Cause) → q ≡ demand (eqb m 0) OutOfOrder (hi_cause c (His n) h) → Runs n mid m at → Valid w p
+  at-hi k n mid m at ih l g h e (Err y) q r = absurd (not-both (hi-refused w c f start n mid m at h e y q) r)
+  at-hi k n mid m at ih l g h e (Ok tt) q r =
       ih (n + 1) (mid + 3) m (next_of w at) (omega (arith, hi-next w c f start n mid m at h e)) (more-hi n mid m at g h e q)
       (sym (hi-step w c f start n mid m at h e g.standing q (next_of w at) refl) ∙ r)
 
   at-user : (k n mid m at : ℕ) → Rest k → length w ≤ at + suc k → Good n mid m at → (u : User) → command_of (drop at w) ≡ user u →
-      (q : Reason) → q ≡ user_cause c (Users mid m) u → Runs n mid m at → Valid w p
-  at-user k n mid m at ih l g u e (Is y) q r = absurd (not-both (user-refused w c f start n mid m at u e y q) r)
-  at-user k n mid m at ih l g u e Nothing q r =
+      (q : Result Unit Cause) → q ≡ user_cause c (Users mid m) u → Runs n mid m at → Valid w p
+  at-user k n mid m at ih l g u e (Err y) q r = absurd (not-both (user-refused w c f start n mid m at u e y q) r)
+  at-user k n mid m at ih l g u e (Ok tt) q r =
       ih n mid (m + 1) (next_of w at) (omega (arith, user-next w c f start n mid m at u e, (told (drop at w) (user u) e).1)) (more-user n mid m at g u e q)
       (sym (user-step w c f start n mid m at u e g.standing (next_of w at) refl q) ∙ r)
 
@@ -156,13 +154,13 @@ module _ (w : List ℕ) (p : Plan) (c : Cell) (f : Frame) (ci : CellIn c) (fi : 
 
 -- ---- CELL or CELLX, and FRAME
 module _ (w : List ℕ) (p : Plan) where
-  by-frame : (c : Cell) (at : ℕ) (f : Frame) → CellIn c → command_of (drop at w) ≡ frame f → (t : Reason) → t ≡ frame_cause c f → rest_from w (celled c at) 2 at ≡ Accepted p → Valid w p
-  by-frame c at f ci e Nothing o r =
+  by-frame : (c : Cell) (at : ℕ) (f : Frame) → CellIn c → command_of (drop at w) ≡ frame f → (t : Result Unit Cause) → t ≡ frame_cause c f → rest_from w (celled c at) 2 at ≡ accepted p → Valid w p
+  by-frame c at f ci e (Ok tt) o r =
       let i = frame-in c f o in
       from-frame w p c f ci i.0 i.1 (at + 5) (frame-room w c at f e) (frame_step w c at f e o refl ∙ r)
-  by-frame c at f ci e (Is k) o r = absurd (not-both (sym (frame_refused w c at f e o refl refl)) r)
+  by-frame c at f ci e (Err k) o r = absurd (not-both (sym (frame_refused w c at f e o refl refl)) r)
 
-  second : (c : Cell) (at : ℕ) → CellIn c → (x : Command) → command_of (drop at w) ≡ x → rest_from w (celled c at) 2 at ≡ Accepted p → Valid w p
+  second : (c : Cell) (at : ℕ) → CellIn c → (x : Command) → command_of (drop at w) ≡ x → rest_from w (celled c at) 2 at ≡ accepted p → Valid w p
   unfolding celled
   second c at ci (cell y) e r = not-due (celled c at) refl w 2 at (cell y) e refl r
   second c at ci (cellx y) e r = not-due (celled c at) refl w 2 at (cellx y) e refl r
@@ -172,11 +170,11 @@ module _ (w : List ℕ) (p : Plan) where
   second c at ci end e r = not-due (celled c at) refl w 2 at end e refl r
   second c at ci broken e r = not-due (celled c at) refl w 2 at broken e refl r
 
-  by-cell : (c : Cell) (at : ℕ) (t : Reason) → t ≡ cell_cause c → cell_rest w c at ≡ Accepted p → Valid w p
-  by-cell c at Nothing o r = second c at (cell_in c o) (command_of (drop at w)) refl (cell-step w c at o refl ∙ r)
-  by-cell c at (Is k) o r = absurd (not-both (sym (cell-refused w c at o refl refl)) r)
+  by-cell : (c : Cell) (at : ℕ) (t : Result Unit Cause) → t ≡ cell_cause c → cell_rest w c at ≡ accepted p → Valid w p
+  by-cell c at (Ok tt) o r = second c at (cell_in c o) (command_of (drop at w)) refl (cell-step w c at o refl ∙ r)
+  by-cell c at (Err k) o r = absurd (not-both (sym (cell-refused w c at o refl refl)) r)
 
-  first : (x : Command) → command_of w ≡ x → walk_of w ≡ Accepted p → Valid w p
+  first : (x : Command) → command_of w ≡ x → walk_of w ≡ accepted p → Valid w p
   unfolding walk_of begin
   first (cell c) e r = by-cell c 7 (cell_cause c) refl (cell-first w c e ∙ r)
   first (cellx c) e r = by-cell c 8 (cell_cause c) refl (cellx-first w c e ∙ r)

@@ -8,6 +8,10 @@ use lib.Dec.{eqb}
 use lib.ListN.{drop}
 use lib.Seq.{drop-drop}
 use borrow.Author.Tests.{eqb-true}
+use Rattle.std.specs.declared.result.Result.{Result}
+use Rattle.std.specs.declared.result.Result.TheVariants.{Ok as accepted, Ok, Err as refused, Err}
+use Rattle.std.specs.declared.option.Option.{Option}
+use Rattle.std.specs.declared.option.Option.TheVariants.{None, Some}
 use Rattle.plan.specs.Lists.{one_of}
 use Rattle.plan.specs.Commands.{byte, size_of, commands}
 use Rattle.plan.specs.Fields.{cell_ok, frame_ok, phich_fits, hi_ok, user_ok}
@@ -22,51 +26,44 @@ use Rattle.plan.specs.declared.Command.{Command}
 use Rattle.plan.specs.declared.Command.TheVariants.{Cell as cell, Cellx as cellx, Frame as frame, Hi as hi, User as user, End as end, Broken as broken}
 use Rattle.plan.specs.declared.Refusal.{Refusal}
 use Rattle.plan.specs.declared.Refusal.TheVariants.{Unreadable, Order, CellField, FrameField, ShortRegion}
-use Rattle.plan.specs.declared.Fault.{Fault}
-use Rattle.plan.specs.declared.Fault.TheVariants.{Nothing as faultless, Is as faulty}
-use Rattle.plan.specs.declared.Checked.{Checked}
-use Rattle.plan.specs.declared.Checked.TheVariants.{Plan as accepted, Refused as refused}
 use Rattle.plan.proofs.CommandLists.{past_more, past-none}
 use Rattle.plan.specs.Finding.{cause_refusal, demand, cell_cause, frame_cause, hi_cause, user_cause, command_bytes, broken_cause}
 use Rattle.plan.specs.Finding.{in_order, field_cause, cause_at, cause_of, refused_at, stop_at, walk_from, walk_of}
 use Rattle.plan.specs.Finding.{explained_by, finding_of, walk_answer, answer_of, Named}
 use Rattle.plan.specs.declared.Cause.{Cause}
 use Rattle.plan.specs.declared.Cause.TheVariants.{NoEnd, OutOfOrder, AfterEnd}
-use Rattle.plan.specs.declared.Reason.{Reason}
-use Rattle.plan.specs.declared.Reason.TheVariants.{Nothing, Is}
-use Rattle.plan.specs.declared.Walked.{Walked}
-use Rattle.plan.specs.declared.Walked.TheVariants.{Accepted, Refused}
+use Rattle.plan.specs.declared.Stop.{Stop}
 use Rattle.plan.proofs.CauseLaws.{none-clash}
 
 -- ---- the fault that a reason is
-abbrev fault_for : Reason → Fault
-fault_for Nothing = faultless
-fault_for (Is c) = faulty (cause_refusal c)
+abbrev fault_for : Result Unit Cause → Option Refusal
+fault_for (Ok tt) = None
+fault_for (Err c) = Some (cause_refusal c)
 
-fault-demand : (t : Bool) (c : Cause) (r : Reason) → fault_for (demand t c r) ≡ need t (cause_refusal c) (fault_for r)
+fault-demand : (t : Bool) (c : Cause) (r : Result Unit Cause) → fault_for (demand t c r) ≡ need t (cause_refusal c) (fault_for r)
 fault-demand true c r = refl
 fault-demand false c r = refl
 
-need-and : (s t : Bool) (r : Refusal) (f : Fault) → need (s && t) r f ≡ need s r (need t r f)
+need-and : (s t : Bool) (r : Refusal) (f : Option Refusal) → need (s && t) r f ≡ need s r (need t r f)
 need-and true t r f = refl
 need-and false t r f = refl
 
-need-same : (t : Bool) (r : Refusal) → need t r (faulty r) ≡ faulty r
+need-same : (t : Bool) (r : Refusal) → need t r (Some r) ≡ Some r
 need-same true r = refl
 need-same false r = refl
 
 -- a test that the next test implies changes nothing
-need-more : (s t : Bool) (r : Refusal) (f : Fault) → (t ≡ true → s ≡ true) → need s r (need t r f) ≡ need t r f
+need-more : (s t : Bool) (r : Refusal) (f : Option Refusal) → (t ≡ true → s ≡ true) → need s r (need t r f) ≡ need t r f
 need-more true t r f h = refl
 need-more false true r f h = let e : ◌≡◌ {A = Bool} false true = h refl in let z : ◌≡◌ {A = ℕ} 0 1 = cc in absurd (omega arith)
 need-more false false r f h = refl
 
 -- ---- fields
-cell-fault : (c : Cell) → fault_for (cell_cause c) ≡ need (cell_ok c) CellField faultless
+cell-fault : (c : Cell) → fault_for (cell_cause c) ≡ need (cell_ok c) CellField None
 unfolding cell_cause cell_ok
 cell-fault c = simp (fault-demand, need-and)
 
-frame-fault : (c : Cell) (f : Frame) → fault_for (frame_cause c f) ≡ need (frame_ok f) FrameField (need (phich_fits c f) ShortRegion faultless)
+frame-fault : (c : Cell) (f : Frame) → fault_for (frame_cause c f) ≡ need (frame_ok f) FrameField (need (phich_fits c f) ShortRegion None)
 unfolding frame_cause frame_ok
 frame-fault c f = simp (fault-demand, need-and)
 
@@ -78,7 +75,7 @@ user-fault : (c : Cell) (us : List User) (u : User) → fault_for (user_cause c 
 unfolding user_cause user_fault user_ok
 user-fault c us u = rw (none-clash u us) (simp (fault-demand, need-and))
 
-broken-fault : (l : List ℕ) → fault_for (broken_cause l) ≡ faulty Unreadable
+broken-fault : (l : List ℕ) → fault_for (broken_cause l) ≡ Some Unreadable
 unfolding broken_cause
 broken-fault l = fault-demand (one_of (byte l 0) command_bytes) _ _ ∙ need-same (one_of (byte l 0) command_bytes) Unreadable
 
@@ -93,7 +90,7 @@ due-early n t = by (eqb n 2) refl
     by true e = early 2 n refl e
     by false e = early 3 n refl (rw e at t)
 
-ordered : (s t : Bool) (r : Reason) → (t ≡ true → s ≡ true) → fault_for (demand s AfterEnd (demand t OutOfOrder r)) ≡ need t Order (fault_for r)
+ordered : (s t : Bool) (r : Result Unit Cause) → (t ≡ true → s ≡ true) → fault_for (demand s AfterEnd (demand t OutOfOrder r)) ≡ need t Order (fault_for r)
 ordered s t r h = rw (fault-demand s, fault-demand t) (need-more s t Order (fault_for r) h)
 
 cause-fault : (st : State) (l : List ℕ) (x : Command) → fault_for (cause_of st l x) ≡ fault st x
@@ -107,11 +104,11 @@ cause-fault st l end = ordered _ _ _ (due-early st.stage)
 cause-fault st l broken = rw (fault-demand (not (eqb st.stage 4)), broken-fault l) refl
 
 -- ---- command by command
-answer-stop : (r : Reason) (n at : ℕ) (a : Walked) (b : Checked) → walk_answer a ≡ b → walk_answer (stop_at r n at a) ≡ unless (fault_for r) b
-answer-stop Nothing n at a b h = h
-answer-stop (Is c) n at a b h = refl
+answer-stop : (r : Result Unit Cause) (n at : ℕ) (a : Result Plan Stop) (b : Result Plan Refusal) → walk_answer a ≡ b → walk_answer (stop_at r n at a) ≡ unless (fault_for r) b
+answer-stop (Ok tt) n at a b h = h
+answer-stop (Err c) n at a b h = refl
 
-answer-last : (t : Bool) (n at : ℕ) (p : Plan) → walk_answer (cond t (Accepted p) (refused_at n at NoEnd)) ≡ cond t (accepted p) (refused Unreadable)
+answer-last : (t : Bool) (n at : ℕ) (p : Plan) → walk_answer (cond t (accepted p) (refused_at n at NoEnd)) ≡ cond t (accepted p) (refused Unreadable)
 answer-last true n at p = refl
 answer-last false n at p = refl
 
@@ -127,32 +124,32 @@ pub walked-refusal : (w : List ℕ) → walk_answer (walk_of w) ≡ check_of w
 unfolding walk_of check_of
 walked-refusal w = answers w (commands w) begin 1 0
 
-pub accepted-both : (w : List ℕ) (p : Plan) → check_of w ≡ accepted p → walk_of w ≡ Accepted p
+pub accepted-both : (w : List ℕ) (p : Plan) → check_of w ≡ accepted p → walk_of w ≡ accepted p
 accepted-both w p e = by (walk_of w) (walked-refusal w ∙ e)
   where
-    by : (a : Walked) → walk_answer a ≡ accepted p → a ≡ Accepted p
-    by (Accepted q) h = cc
-    by (Refused s) h = cc
+    by : (a : Result Plan Stop) → walk_answer a ≡ accepted p → a ≡ accepted p
+    by (accepted q) h = cc
+    by (refused s) h = cc
 
 -- THE LAW: the explanation has the plan exactly where the plan check accepts it, and else its refusal is the plan check's
 pub explained-refusal : (w : List ℕ) → answer_of (finding_of w) ≡ check_of w
 unfolding finding_of
 explained-refusal w = by (walk_of w) ∙ walked-refusal w
   where
-    by : (a : Walked) → answer_of (explained_by w a) ≡ walk_answer a
-    by (Accepted p) = refl
-    by (Refused s) = refl
+    by : (a : Result Plan Stop) → answer_of (explained_by w a) ≡ walk_answer a
+    by (accepted p) = refl
+    by (refused s) = refl
 
 -- ---- the number, the offset and the cause: where the walk stops
-abbrev Placed : List ℕ → Walked → Type 0
-Placed w (Accepted p) = Unit {0}
-Placed w (Refused s) = drop s.offset w ≡ past w (s.command - 1)
+abbrev Placed : List ℕ → Result Plan Stop → Type 0
+Placed w (accepted p) = Unit {0}
+Placed w (refused s) = drop s.offset w ≡ past w (s.command - 1)
 
-place-stop : (w : List ℕ) (r : Reason) (n at : ℕ) (a : Walked) → drop at w ≡ past w (n - 1) → Placed w a → Placed w (stop_at r n at a)
-place-stop w Nothing n at a e h = h
-place-stop w (Is c) n at a e h = e
+place-stop : (w : List ℕ) (r : Result Unit Cause) (n at : ℕ) (a : Result Plan Stop) → drop at w ≡ past w (n - 1) → Placed w a → Placed w (stop_at r n at a)
+place-stop w (Ok tt) n at a e h = h
+place-stop w (Err c) n at a e h = e
 
-place-last : (w : List ℕ) (t : Bool) (n at : ℕ) (p : Plan) → drop at w ≡ past w (n - 1) → Placed w (cond t (Accepted p) (refused_at n at NoEnd))
+place-last : (w : List ℕ) (t : Bool) (n at : ℕ) (p : Plan) → drop at w ≡ past w (n - 1) → Placed w (cond t (accepted p) (refused_at n at NoEnd))
 place-last w true n at p e = tt
 place-last w false n at p e = e
 
@@ -173,6 +170,6 @@ pub explained-place : (w : List ℕ) → Named w (finding_of w)
 unfolding walk_of finding_of
 explained-place w = by (walk_of w) (places w (commands w) begin 0 0 (sym (past-none 0 w refl)))
   where
-    by : (a : Walked) → Placed w a → Named w (explained_by w a)
-    by (Accepted p) h = tt
-    by (Refused s) h = (refl, h)
+    by : (a : Result Plan Stop) → Placed w a → Named w (explained_by w a)
+    by (accepted p) h = tt
+    by (refused s) h = (refl, h)

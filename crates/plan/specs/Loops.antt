@@ -1,5 +1,5 @@
 -- For the inner contracts and loops only: the states that the code goes through, and the explanation from there on; what was used before, by tables.
-use Rattle.std.specs.Prelude.{ℕ, ◌+◌, ◌*◌, ◌≤◌, ◌≡◌, Bool, cond, not, ◌&&◌, List, [], ◌∷◌, leb, eqb, length, drop}
+use Rattle.std.specs.Prelude.{ℕ, ◌+◌, ◌*◌, ◌≤◌, ◌≡◌, Bool, cond, not, ◌&&◌, List, [], ◌∷◌, leb, eqb, length, drop, Result, Err, Err as refused, Ok}
 use Rattle.bitset.specs.Sets.{member, run_of, meet}
 use Rattle.plan.specs.Lists.{one_of, none_of}
 use Rattle.plan.specs.Commands.{byte, entry_for, command_of, commands}
@@ -17,10 +17,7 @@ use Rattle.plan.specs.declared.Command.{Command}
 use Rattle.plan.specs.declared.Command.TheVariants.{Cell as cell, Cellx as cellx, Frame as frame, Hi as hi, User as user, End as end, Broken as broken}
 use Rattle.plan.specs.declared.Cause.{Cause}
 use Rattle.plan.specs.declared.Cause.TheVariants.{Unknown, CutOff, NoEnd, OutOfOrder}
-use Rattle.plan.specs.declared.Counted.{Counted}
-use Rattle.plan.specs.declared.Counted.TheVariants.{Count, Refused as faulty}
-use Rattle.plan.specs.declared.Walked.{Walked}
-use Rattle.plan.specs.declared.Walked.TheVariants.{Refused}
+use Rattle.plan.specs.declared.Stop.{Stop}
 
 -- after CELL or CELLX, where FRAME stands at position at
 unfoldable pub celled : Cell → ℕ → State
@@ -39,17 +36,17 @@ body_state w c f start n mid m =
     }
 
 -- the explanation from command number n on, which stands at position at; CELL or CELLX and FRAME are commands 1 and 2
-abbrev pub rest_from : List ℕ → State → ℕ → ℕ → Walked
+abbrev pub rest_from : List ℕ → State → ℕ → ℕ → Result Plan Stop
 rest_from w st n at = walk_from w st n at (commands (drop at w))
 
 -- the same from the first command on, the cell c, with the next one at position at
-abbrev pub cell_rest : List ℕ → Cell → ℕ → Walked
+abbrev pub cell_rest : List ℕ → Cell → ℕ → Result Plan Stop
 cell_rest w c at = stop_at (cell_cause c) 1 0 (rest_from w (celled c at) 2 at)
 
-abbrev pub body_rest : List ℕ → Cell → Frame → ℕ → ℕ → ℕ → ℕ → ℕ → Walked
+abbrev pub body_rest : List ℕ → Cell → Frame → ℕ → ℕ → ℕ → ℕ → ℕ → Result Plan Stop
 body_rest w c f start n mid m at = rest_from w (body_state w c f start n mid m) (n + m + 3) at
 
-abbrev pub plan_rest : List ℕ → Plan → ℕ → Walked
+abbrev pub plan_rest : List ℕ → Plan → ℕ → Result Plan Stop
 plan_rest w p at = body_rest w p.cell p.frame p.his.at p.his.count p.users.at p.users.count at
 
 -- the cause of a command that is not due, before END: the bytes l begin with it, or have ended
@@ -98,11 +95,11 @@ pub record HisPast (w : List ℕ) (start n mid : ℕ) : Type 0 where
   pub room : mid ≤ length w
   pub no-hi : (h : Hi) → command_of (drop mid w) ≡ hi h → ⊥
 
-abbrev pub HisRead : List ℕ → Cell → ℕ → Counted → Type 0
-HisRead w c start (Count n) =
+abbrev pub HisRead : List ℕ → Cell → ℕ → Result ℕ Stop → Type 0
+HisRead w c start (Ok n) =
     let mid = start + 3 * n in
     HisPast w start n mid × ((f : Frame) → body_rest w c f start n mid 0 mid ≡ body_rest w c f start 0 start 0 start)
-HisRead w c start (faulty g) = (f : Frame) → Refused g ≡ body_rest w c f start 0 start 0 start
+HisRead w c start (Err g) = (f : Frame) → refused g ≡ body_rest w c f start 0 start 0 start
 
 -- after the HIs and the USERs of p, where no USER follows, nor an HI that would be in its place
 pub record EndDue (w : List ℕ) (p : Plan) (at : ℕ) : Type 0 where

@@ -7,15 +7,18 @@ ghost use Rattle.std.specs.Prelude.{◌≡◌, ◌+◌, ◌*◌, ◌≤◌, ◌<
 ghost use Rattle.plan.specs.Lists.{one_of};
 ghost use Rattle.plan.specs.Commands.{byte, cell_with, cell_of, cellx_of, frame_of, hi_of, user_of, entry_for, command_of};
 ghost use Rattle.plan.specs.Fields.{mapping_units, phich_groups, sequences_of, same_pair, control_symbols, phich_fits, group_size, symbol_groups, region_groups};
-ghost use Rattle.plan.specs.Check.{refusal_number, check_of, refusal_of};
+ghost use Rattle.plan.specs.Check.{refusal_number, check_of};
 ghost use Rattle.plan.specs.CommandLists.{next_of};
 ghost use Rattle.plan.specs.Valid.{CellIn, FrameIn};
 ghost use Rattle.plan.specs.Finding.{cause_refusal, demand as demand_of, cell_cause, frame_cause, hi_cause, user_cause, found_at, walk_of};
 ghost use Rattle.plan.specs.Finding.{same_rnti, shares_block, shared_by, in_common, earlier_of, finding_at, finding_of};
 ghost use Rattle.plan.specs.Loops.{broken_for, late_cause, celled, cell_rest, rest_from, body_rest, plan_rest, stands_at, pair_of, blocks_of, PairsUsed, UsersUsed, HisPast, HisRead, EndDue};
 
+use std::fmt;
+
 // 10 CELL: the identity C, the width in blocks N, the prefix (1 extended), the antenna ports P, and N_g in sixths. 12 CELLX has also PHICH's
-// duration (1 extended); that of CELL is normal.
+// duration (1 extended); that of CELL is normal. A field holds the plan's byte, whatever it is: 3 refuses it
+// later. So prefix and duration are numbers, and no enums.
 #[derive(Clone, Copy)]
 pub struct Cell {
     pub identity: u16,
@@ -35,7 +38,7 @@ pub struct Frame {
 }
 
 // 20 HI: an acknowledgement's place in the PHICH.
-#[derive(Clone, Copy)]
+#[derive(Clone, Copy, PartialEq, Eq)]
 pub struct Hi {
     pub group: u8,
     pub sequence: u8,
@@ -82,13 +85,6 @@ pub enum Refusal {
     ShortRegion,
 }
 
-// A command's refusal, or none: what the definitions say; the code finds the cause, Reason.
-#[derive(Clone, Copy)]
-pub enum Fault {
-    Nothing,
-    Is(Refusal),
-}
-
 // Commands of one kind in a row: the first one's position in the plan, and how many.
 #[derive(Clone, Copy)]
 pub struct CommandList {
@@ -102,12 +98,6 @@ pub struct Plan {
     pub frame: Frame,
     pub his: CommandList,
     pub users: CommandList,
-}
-
-#[derive(Clone, Copy)]
-pub enum Checked {
-    Plan(Plan),
-    Refused(Refusal),
 }
 
 // The first reason for which a command is refused, in the order of its fields.
@@ -147,13 +137,6 @@ pub enum Cause {
     BlockUsed,
 }
 
-// A command's first cause, or none.
-#[derive(Clone, Copy)]
-enum Reason {
-    Nothing,
-    Is(Cause),
-}
-
 // Where the walk over the commands stops, and why. The command is counted from 1. The offset is the position of its command byte in the plan,
 // from 0; that of a missing END is the plan's length.
 #[derive(Clone, Copy)]
@@ -161,20 +144,6 @@ struct Stop {
     command: usize,
     offset: usize,
     cause: Cause,
-}
-
-// How many commands of one kind stand in a row, or the first fault of one.
-#[derive(Clone, Copy)]
-enum Counted {
-    Count(usize),
-    Refused(Stop),
-}
-
-// The plan, or the first fault.
-#[derive(Clone, Copy)]
-enum Walked {
-    Accepted(Plan),
-    Refused(Stop),
 }
 
 // What a command has in common with one before it.
@@ -193,13 +162,6 @@ pub struct Numbered {
     pub offset: usize,
 }
 
-// The earlier command that a refused one clashes with, or none.
-#[derive(Clone, Copy)]
-pub enum Earlier {
-    Nothing,
-    Is(Numbered),
-}
-
 // Why a plan is refused: the command's number and offset as in Stop; earlier: of PairUsed, RntiUsed and BlockUsed the first command that has the
 // pair, the RNTI or one of the blocks.
 #[derive(Clone, Copy)]
@@ -208,14 +170,7 @@ pub struct Finding {
     pub command: usize,
     pub offset: usize,
     pub cause: Cause,
-    pub earlier: Earlier,
-}
-
-// The plan, or why it is refused.
-#[derive(Clone, Copy)]
-pub enum Explained {
-    Accepted(Plan),
-    Refused(Finding),
+    pub earlier: Option<Numbered>,
 }
 
 // The values of a cell's blocks, ports and sixths, and of a user's order.
@@ -230,45 +185,73 @@ const ORDERS: [u8; 4] = [2, 4, 6, 8];
 const COMMAND_BYTES: [u8; 6] = [0x10, 0x12, 0x11, 0x20, 0x30, 0x00];
 
 // The refusal's number in documents 01 and 02.
-pub fn number(r: Refusal) -> u8
-    ensures { result ≡ refusal_number r }
-{
-    match r {
-        Refusal::Unreadable => 1,
-        Refusal::Order => 2,
-        Refusal::CellField => 3,
-        Refusal::FrameField => 4,
-        Refusal::HiField => 5,
-        Refusal::UserField => 6,
-        Refusal::Used => 7,
-        Refusal::Outside => 8,
-        Refusal::NoElement => 9,
-        Refusal::GridLength => 10,
-        Refusal::PayloadLength => 11,
-        Refusal::SpareBit => 12,
-        Refusal::NoPayload => 13,
-        Refusal::ShortRegion => 18,
+impl From<Refusal> for u8 {
+    ghost from_gives = { λ r n. n ≡ refusal_number r };
+
+    fn from(r: Refusal) -> u8 {
+        match r {
+            Refusal::Unreadable => 1,
+            Refusal::Order => 2,
+            Refusal::CellField => 3,
+            Refusal::FrameField => 4,
+            Refusal::HiField => 5,
+            Refusal::UserField => 6,
+            Refusal::Used => 7,
+            Refusal::Outside => 8,
+            Refusal::NoElement => 9,
+            Refusal::GridLength => 10,
+            Refusal::PayloadLength => 11,
+            Refusal::SpareBit => 12,
+            Refusal::NoPayload => 13,
+            Refusal::ShortRegion => 18,
+        }
+    }
+}
+
+// What a refusal means (document 01, Refusals; document 02, #108).
+impl fmt::Display for Refusal {
+    fn fmt<W: fmt::Write>(&self, f: &mut fmt::Formatter<W>) -> fmt::Result {
+        f.write_str(match self {
+            Refusal::Unreadable => "a command is unknown, or the plan ends too early",
+            Refusal::Order => "a command is out of order, or a byte follows END",
+            Refusal::CellField => "a field of CELL or CELLX is not allowed",
+            Refusal::FrameField => "a field of FRAME is not allowed",
+            Refusal::HiField =>
+                "an HI's group or sequence is beyond the count, or the pair was used before",
+            Refusal::UserField => "a field of USER is not allowed",
+            Refusal::Used => "an RNTI or a block was used before",
+            Refusal::Outside => "the subcarrier, symbol or port is outside the grid",
+            Refusal::NoElement => "the three bytes are no element",
+            Refusal::GridLength => "the grid's length is not the plan's",
+            Refusal::PayloadLength => "the payload's length is not the plan's",
+            Refusal::SpareBit => "a spare bit of the payload is set",
+            Refusal::NoPayload => "no payload makes this grid",
+            Refusal::ShortRegion =>
+                "the control region is shorter than the three symbols of the extended PHICH duration",
+        })
     }
 }
 
 // The refusal that a cause belongs to.
-fn refusal_of(c: Cause) -> Refusal
-    ensures { result ≡ cause_refusal c }
-{
-    match c {
-        Cause::Unknown | Cause::CutOff | Cause::NoEnd => Refusal::Unreadable,
-        Cause::OutOfOrder | Cause::AfterEnd => Refusal::Order,
-        Cause::Identity
-        | Cause::Blocks
-        | Cause::Prefix
-        | Cause::Ports
-        | Cause::Sixths
-        | Cause::Duration => Refusal::CellField,
-        Cause::FrameNumber | Cause::Subframe | Cause::Cfi => Refusal::FrameField,
-        Cause::Region => Refusal::ShortRegion,
-        Cause::Group | Cause::Sequence | Cause::PairUsed => Refusal::HiField,
-        Cause::Rnti | Cause::Modulation | Cause::Count | Cause::LastBlock => Refusal::UserField,
-        Cause::RntiUsed | Cause::BlockUsed => Refusal::Used,
+impl From<Cause> for Refusal {
+    ghost from_gives = { λ c r. r ≡ cause_refusal c };
+
+    fn from(c: Cause) -> Refusal {
+        match c {
+            Cause::Unknown | Cause::CutOff | Cause::NoEnd => Refusal::Unreadable,
+            Cause::OutOfOrder | Cause::AfterEnd => Refusal::Order,
+            Cause::Identity
+            | Cause::Blocks
+            | Cause::Prefix
+            | Cause::Ports
+            | Cause::Sixths
+            | Cause::Duration => Refusal::CellField,
+            Cause::FrameNumber | Cause::Subframe | Cause::Cfi => Refusal::FrameField,
+            Cause::Region => Refusal::ShortRegion,
+            Cause::Group | Cause::Sequence | Cause::PairUsed => Refusal::HiField,
+            Cause::Rnti | Cause::Modulation | Cause::Count | Cause::LastBlock => Refusal::UserField,
+            Cause::RntiUsed | Cause::BlockUsed => Refusal::Used,
+        }
     }
 }
 
@@ -279,7 +262,7 @@ fn found(n: usize, at: usize, cause: Cause) -> Stop
     Stop {
         command: n,
         offset: at,
-        cause: cause,
+        cause,
     }
 }
 
@@ -312,7 +295,7 @@ fn cell_with(plan: &[u8], at: usize, duration: u8) -> Cell
         prefix: byte_at(plan, at, 4),
         ports: byte_at(plan, at, 5),
         sixths: byte_at(plan, at, 6),
-        duration: duration,
+        duration,
     }
 }
 
@@ -366,22 +349,14 @@ pub fn user_at(plan: &[u8], at: usize) -> User
 fn size_of(b: u8) -> usize
     ensures { result ≡ (entry_for b).size }
 {
-    if b == 0x10 {
-        return 7;
+    match b {
+        0x10 => 7,
+        0x12 => 8,
+        0x11 => 5,
+        0x20 => 3,
+        0x30 => 6,
+        _ => 1,
     }
-    if b == 0x12 {
-        return 8;
-    }
-    if b == 0x11 {
-        return 5;
-    }
-    if b == 0x20 {
-        return 3;
-    }
-    if b == 0x30 {
-        return 6;
-    }
-    1
 }
 
 // The position after the command at a position, at most the plan's end: how a caller goes from one HI or USER to the next.
@@ -409,57 +384,42 @@ pub fn command_at(plan: &[u8], at: usize) -> Command
     if plan.len() - at < size_of(b) {
         return Command::Broken;
     }
-    if b == 0x10 {
-        return Command::Cell(cell_at(plan, at));
+    match b {
+        0x10 => Command::Cell(cell_at(plan, at)),
+        0x12 => Command::Cellx(cellx_at(plan, at)),
+        0x11 => Command::Frame(frame_at(plan, at)),
+        0x20 => Command::Hi(hi_at(plan, at)),
+        0x30 => Command::User(user_at(plan, at)),
+        0 => Command::End,
+        _ => Command::Broken,
     }
-    if b == 0x12 {
-        return Command::Cellx(cellx_at(plan, at));
-    }
-    if b == 0x11 {
-        return Command::Frame(frame_at(plan, at));
-    }
-    if b == 0x20 {
-        return Command::Hi(hi_at(plan, at));
-    }
-    if b == 0x30 {
-        return Command::User(user_at(plan, at));
-    }
-    if b == 0 {
-        return Command::End;
-    }
-    Command::Broken
 }
 
 // Whether n is one of the list.
 fn one_of(n: u8, list: &[u8]) -> bool
     ensures { result ≡ one_of n list.now }
 {
-    let mut i = 0;
-    while i < list.len() {
-        if n == list[i] {
-            return true;
-        }
-        i = i + 1;
-    }
-    false
+    list.contains(&n)
 }
 
-// The cause unless the test holds, and then the rest.
-fn demand(test: bool, cause: Cause, rest: Reason) -> Reason
-    ensures { result ≡ demand_of test cause rest }
+// The cause unless the test holds.
+fn demand(test: bool, cause: Cause) -> Result<(), Cause>
+    ensures { result ≡ demand_of test cause (Ok tt) }
 {
-    if test { rest } else { Reason::Is(cause) }
+    if test { Ok(()) } else { Err(cause) }
 }
 
-fn cell_cause(c: Cell) -> Reason
+// The first cause of a CELL or CELLX.
+#[tactic(auto, unfolding(crate::specs::Finding::cell_cause))]
+fn cell_cause(c: Cell) -> Result<(), Cause>
     ensures { result ≡ cell_cause c }
 {
-    let duration = demand(c.duration <= 1, Cause::Duration, Reason::Nothing);
-    let sixths = demand(one_of(c.sixths, &SIXTH_COUNTS), Cause::Sixths, duration);
-    let ports = demand(one_of(c.ports, &PORT_COUNTS), Cause::Ports, sixths);
-    let prefix = demand(c.prefix <= 1, Cause::Prefix, ports);
-    let blocks = demand(one_of(c.blocks, &WIDTHS), Cause::Blocks, prefix);
-    demand(c.identity <= 503, Cause::Identity, blocks)
+    demand(c.identity <= 503, Cause::Identity)?;
+    demand(one_of(c.blocks, &WIDTHS), Cause::Blocks)?;
+    demand(c.prefix <= 1, Cause::Prefix)?;
+    demand(one_of(c.ports, &PORT_COUNTS), Cause::Ports)?;
+    demand(one_of(c.sixths, &SIXTH_COUNTS), Cause::Sixths)?;
+    demand(c.duration <= 1, Cause::Duration)
 }
 
 // The number of symbols of the control region, one more than the CFI where the cell has six blocks.
@@ -482,13 +442,14 @@ fn phich_fits(c: Cell, f: Frame) -> bool
 }
 
 // The first cause of a FRAME after the cell.
-fn frame_cause(c: Cell, f: Frame) -> Reason
+#[tactic(auto, unfolding(crate::specs::Finding::frame_cause))]
+fn frame_cause(c: Cell, f: Frame) -> Result<(), Cause>
     ensures { result ≡ frame_cause c f }
 {
-    let region = demand(phich_fits(c, f), Cause::Region, Reason::Nothing);
-    let cfi = demand((1 <= f.cfi) & (f.cfi <= 3), Cause::Cfi, region);
-    let subframe = demand(f.subframe <= 9, Cause::Subframe, cfi);
-    demand(f.number <= 1023, Cause::FrameNumber, subframe)
+    demand(f.number <= 1023, Cause::FrameNumber)?;
+    demand(f.subframe <= 9, Cause::Subframe)?;
+    demand((1 <= f.cfi) & (f.cfi <= 3), Cause::Cfi)?;
+    demand(phich_fits(c, f), Cause::Region)
 }
 
 // The command at a position cannot be read.
@@ -564,10 +525,8 @@ pub fn region_groups(cell: Cell, frame: Frame) -> usize
 {
     let symbols = control_symbols(cell, frame);
     let mut all: usize = 0;
-    let mut s: usize = 0;
-    while s < symbols {
+    for s in 0..symbols {
         all = all + symbol_groups(cell, s);
-        s = s + 1;
     }
     all - 4 - 3 * units(cell)
 }
@@ -577,10 +536,8 @@ fn has_rnti(table: &[u16], rnti: u16) -> bool
     ensures { result ≡ one_of rnti table.now }
 {
     let mut found = false;
-    let mut i: usize = 0;
-    while i < table.len() {
-        found = found | (rnti == table[i]);
-        i = i + 1;
+    for x in table {
+        found |= rnti == *x;
     }
     found
 }
@@ -601,40 +558,36 @@ fn pair_of(h: Hi) -> usize
 }
 
 // The first cause of an HI after HIs that have the pairs.
-fn hi_cause(cell: Cell, pairs: &[u64; 7], h: Hi) -> Reason
+fn hi_cause(cell: Cell, pairs: &[u64; 7], h: Hi) -> Result<(), Cause>
     requires { CellIn cell }
     ensures { (hs : List Hi) → PairsUsed cell pairs.now hs → result ≡ hi_cause cell hs h }
 {
-    if groups(cell) <= h.group as usize {
-        return Reason::Is(Cause::Group);
-    }
-    if sequences(cell) <= h.sequence {
-        return Reason::Is(Cause::Sequence);
-    }
-    let used = bitset::has(pairs, pair_of(h));
-    demand(!used, Cause::PairUsed, Reason::Nothing)
+    demand((h.group as usize) < groups(cell), Cause::Group)?;
+    demand(h.sequence < sequences(cell), Cause::Sequence)?;
+    demand(!bitset::has(pairs, pair_of(h)), Cause::PairUsed)
 }
 
 // The HIs from position start on: how many, or the first fault.
-fn his_from(plan: &[u8], cell: Cell, start: usize) -> Counted
+fn his_from(plan: &[u8], cell: Cell, start: usize) -> Result<usize, Stop>
     requires { (start ≤ length plan.now) × CellIn cell }
     ensures { HisRead plan.now cell start result }
 {
     let mut pairs = [0u64; 7];
     let mut count: usize = 0;
     let mut at = start;
+    // The commands tell how many there are and where the next one stands: no count to go over.
     while stands(plan, at, 0x20) {
         let h = hi_at(plan, at);
         match hi_cause(cell, &pairs, h) {
-            Reason::Nothing => {
+            Ok(()) => {
                 bitset::add(&mut pairs, pair_of(h));
-                count = count + 1;
+                count += 1;
                 at = next_at(plan, at);
             }
-            Reason::Is(cause) => return Counted::Refused(found(count + 3, at, cause)),
+            Err(cause) => return Err(found(count + 3, at, cause)),
         }
     }
-    Counted::Count(count)
+    Ok(count)
 }
 
 // A user's blocks as a set.
@@ -645,27 +598,16 @@ fn blocks_of(u: User) -> [u64; 2]
 }
 
 // The first cause of a USER after USERs that have the RNTIs and the blocks.
-fn user_cause(cell: Cell, rntis: &[u16; 104], blocks: &[u64; 2], u: User) -> Reason
+fn user_cause(cell: Cell, rntis: &[u16; 104], blocks: &[u64; 2], u: User) -> Result<(), Cause>
     ensures { (us : List User) → UsersUsed cell rntis.now blocks.now us → result ≡ user_cause cell us u }
 {
-    if u.rnti < 1 {
-        return Reason::Is(Cause::Rnti);
-    }
-    if !one_of(u.order, &ORDERS) {
-        return Reason::Is(Cause::Modulation);
-    }
-    if u.count < 1 {
-        return Reason::Is(Cause::Count);
-    }
-    if (cell.blocks as usize) < (u.first as usize) + (u.count as usize) {
-        return Reason::Is(Cause::LastBlock);
-    }
-    if has_rnti(rntis, u.rnti) {
-        return Reason::Is(Cause::RntiUsed);
-    }
-    let own = blocks_of(u);
-    let shared = bitset::meets(blocks, &own);
-    demand(!shared, Cause::BlockUsed, Reason::Nothing)
+    let end = (u.first as usize) + (u.count as usize);
+    demand(1 <= u.rnti, Cause::Rnti)?;
+    demand(one_of(u.order, &ORDERS), Cause::Modulation)?;
+    demand(1 <= u.count, Cause::Count)?;
+    demand(end <= cell.blocks as usize, Cause::LastBlock)?;
+    demand(!has_rnti(rntis, u.rnti), Cause::RntiUsed)?;
+    demand(!bitset::meets(blocks, &blocks_of(u)), Cause::BlockUsed)
 }
 
 // The cause of a command that is not due, at a position before END: it is missing, cannot be read or is out of order.
@@ -682,7 +624,7 @@ fn late_cause(plan: &[u8], at: usize) -> Cause
 }
 
 // After the HIs and the USERs of p: END is due at position at, and nothing after it.
-fn finish(plan: &[u8], p: Plan, at: usize) -> Walked
+fn finish(plan: &[u8], p: Plan, at: usize) -> Result<Plan, Stop>
     requires { EndDue plan.now p at }
     ensures { result ≡ plan_rest plan.now p at }
 {
@@ -690,16 +632,16 @@ fn finish(plan: &[u8], p: Plan, at: usize) -> Walked
     match command_at(plan, at) {
         Command::End => {
             if at + 1 < plan.len() {
-                return Walked::Refused(found(number + 1, at + 1, Cause::AfterEnd));
+                return Err(found(number + 1, at + 1, Cause::AfterEnd));
             }
-            Walked::Accepted(p)
+            Ok(p)
         }
-        _ => Walked::Refused(found(number, at, late_cause(plan, at))),
+        _ => Err(found(number, at, late_cause(plan, at))),
     }
 }
 
 // The commands after his HIs from position start on: USERs and END.
-fn users_from(plan: &[u8], cell: Cell, frame: Frame, start: usize, his: usize) -> Walked
+fn users_from(plan: &[u8], cell: Cell, frame: Frame, start: usize, his: usize) -> Result<Plan, Stop>
     requires { (HisPast plan.now start his (start + 3 * his)) × CellIn cell }
     ensures { result ≡ body_rest plan.now cell frame start his (start + 3 * his) 0 (start + 3 * his) }
 {
@@ -708,22 +650,22 @@ fn users_from(plan: &[u8], cell: Cell, frame: Frame, start: usize, his: usize) -
     let mut blocks = [0u64; 2];
     let mut users: usize = 0;
     let mut at = mid;
+    // As with the HIs: the commands tell.
     while stands(plan, at, 0x30) {
         let u = user_at(plan, at);
         match user_cause(cell, &rntis, &blocks, u) {
-            Reason::Nothing => {
-                let own = blocks_of(u);
+            Ok(()) => {
                 rntis[users] = u.rnti;
-                blocks = bitset::join(&blocks, &own);
-                users = users + 1;
+                blocks = bitset::join(&blocks, &blocks_of(u));
+                users += 1;
                 at = next_at(plan, at);
             }
-            Reason::Is(cause) => return Walked::Refused(found(his + users + 3, at, cause)),
+            Err(cause) => return Err(found(his + users + 3, at, cause)),
         }
     }
     let p = Plan {
-        cell: cell,
-        frame: frame,
+        cell,
+        frame,
         his: CommandList {
             at: start,
             count: his,
@@ -737,71 +679,56 @@ fn users_from(plan: &[u8], cell: Cell, frame: Frame, start: usize, his: usize) -
 }
 
 // The commands after FRAME: HIs, USERs and END, from position start on.
-fn body(plan: &[u8], cell: Cell, frame: Frame, start: usize) -> Walked
+fn body(plan: &[u8], cell: Cell, frame: Frame, start: usize) -> Result<Plan, Stop>
     requires { (start ≤ length plan.now) × CellIn cell }
     ensures { result ≡ body_rest plan.now cell frame start 0 start 0 start }
 {
-    match his_from(plan, cell, start) {
-        Counted::Count(his) => users_from(plan, cell, frame, start, his),
-        Counted::Refused(f) => Walked::Refused(f),
-    }
+    let his = his_from(plan, cell, start)?;
+    users_from(plan, cell, frame, start, his)
 }
 
 // The commands after CELL or CELLX, from position at on.
-fn after_cell(plan: &[u8], c: Cell, at: usize) -> Walked
+fn after_cell(plan: &[u8], c: Cell, at: usize) -> Result<Plan, Stop>
     requires { CellIn c }
     ensures { result ≡ rest_from plan.now (celled c at) 2 at }
 {
     match command_at(plan, at) {
         Command::Frame(f) => match frame_cause(c, f) {
-            Reason::Nothing => body(plan, c, f, at + 5),
-            Reason::Is(cause) => Walked::Refused(found(2, at, cause)),
+            Ok(()) => body(plan, c, f, at + 5),
+            Err(cause) => Err(found(2, at, cause)),
         },
-        _ => Walked::Refused(found(2, at, late_cause(plan, at))),
+        _ => Err(found(2, at, late_cause(plan, at))),
     }
 }
 
 // The plan whose first command is the cell c, with the next one at position at.
-fn cell_then(plan: &[u8], c: Cell, at: usize) -> Walked
+fn cell_then(plan: &[u8], c: Cell, at: usize) -> Result<Plan, Stop>
     ensures { result ≡ cell_rest plan.now c at }
 {
     match cell_cause(c) {
-        Reason::Nothing => after_cell(plan, c, at),
-        Reason::Is(cause) => Walked::Refused(found(1, 0, cause)),
+        Ok(()) => after_cell(plan, c, at),
+        Err(cause) => Err(found(1, 0, cause)),
     }
 }
 
 // The plan, or the first command that has a fault and the first cause of it.
-fn walk(plan: &[u8]) -> Walked
+fn walk(plan: &[u8]) -> Result<Plan, Stop>
     ensures { result ≡ walk_of plan.now }
 {
     match command_at(plan, 0) {
         Command::Cell(c) => cell_then(plan, c, 7),
         Command::Cellx(c) => cell_then(plan, c, 8),
-        _ => Walked::Refused(found(1, 0, late_cause(plan, 0))),
+        _ => Err(found(1, 0, late_cause(plan, 0))),
     }
 }
 
 // The plan check: the refusal alone.
-pub fn check(plan: &[u8]) -> Checked
+pub fn check(plan: &[u8]) -> Result<Plan, Refusal>
     ensures { result ≡ check_of plan.now }
 {
     match walk(plan) {
-        Walked::Accepted(p) => Checked::Plan(p),
-        Walked::Refused(s) => {
-            let cause = s.cause;
-            Checked::Refused(refusal_of(cause))
-        }
-    }
-}
-
-// The refusal of a check that has no plan; nobody asks for that of a plan.
-pub fn refusal_in(a: Checked) -> Refusal
-    ensures { result ≡ refusal_of a }
-{
-    match a {
-        Checked::Refused(r) => r,
-        Checked::Plan(_) => Refusal::Unreadable,
+        Ok(p) => Ok(p),
+        Err(s) => Err(Refusal::from(s.cause)),
     }
 }
 
@@ -817,10 +744,11 @@ fn shared_by(c: Cause) -> Shared
     }
 }
 
+#[tactic(auto, unfolding(crate::specs::Fields::same_pair))]
 fn same_pair(h: Hi, e: Hi) -> bool
     ensures { result ≡ same_pair h e }
 {
-    (h.group == e.group) & (h.sequence == e.sequence)
+    h == e
 }
 
 fn same_rnti(u: User, v: User) -> bool
@@ -850,26 +778,24 @@ fn in_common(plan: &[u8], s: Shared, at: usize, before: usize) -> bool
 }
 
 // The first command before number n, at position at, that is of its kind and has it in common.
-fn earlier_of(plan: &[u8], n: usize, at: usize, s: Shared) -> Earlier
+fn earlier_of(plan: &[u8], n: usize, at: usize, s: Shared) -> Option<Numbered>
     ensures { result ≡ earlier_of plan.now n at s }
 {
     if let Shared::Nothing = s {
-        return Earlier::Nothing;
+        return None;
     }
     let code = byte_at(plan, at, 0);
-    let mut number: usize = 1;
     let mut before: usize = 0;
-    while number < n {
+    for number in 1..n {
         if (byte_at(plan, before, 0) == code) & in_common(plan, s, at, before) {
-            return Earlier::Is(Numbered {
+            return Some(Numbered {
                 command: number,
                 offset: before,
             });
         }
-        number = number + 1;
         before = next_at(plan, before);
     }
-    Earlier::Nothing
+    None
 }
 
 fn finding_at(plan: &[u8], s: Stop) -> Finding
@@ -877,20 +803,20 @@ fn finding_at(plan: &[u8], s: Stop) -> Finding
 {
     let cause = s.cause;
     Finding {
-        refusal: refusal_of(cause),
+        refusal: Refusal::from(cause),
         command: s.command,
         offset: s.offset,
-        cause: cause,
+        cause,
         earlier: earlier_of(plan, s.command, s.offset, shared_by(cause)),
     }
 }
 
 // The plan, or why it is refused. The earlier command is looked for here alone, so that the plan check does not wait for it.
-pub fn explain(plan: &[u8]) -> Explained
+pub fn explain(plan: &[u8]) -> Result<Plan, Finding>
     ensures { result ≡ finding_of plan.now }
 {
     match walk(plan) {
-        Walked::Accepted(p) => Explained::Accepted(p),
-        Walked::Refused(s) => Explained::Refused(finding_at(plan, s)),
+        Ok(p) => Ok(p),
+        Err(s) => Err(finding_at(plan, s)),
     }
 }

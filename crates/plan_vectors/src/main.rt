@@ -2,117 +2,75 @@
 // accepted plan, else the refusal's number. After 0 stand the plan's fields, command by command.
 #![tactic(auto)]
 
-use plan::{Cell, Checked, CommandList, Frame, Hi, Plan, User};
+use plan::{Cell, CommandList, Frame, Plan};
 use std::io;
 
-fn field(rt: &impl Print, n: u64) -> io::Result<()> {
-    print::space(rt)?;
-    print::number(rt, n)
-}
-
 fn cell(rt: &impl Print, c: Cell) -> io::Result<()> {
-    print::text(rt, b" cell")?;
-    field(rt, c.identity as u64)?;
-    field(rt, c.blocks as u64)?;
-    field(rt, c.prefix as u64)?;
-    field(rt, c.ports as u64)?;
-    field(rt, c.sixths as u64)?;
-    field(rt, c.duration as u64)
+    print!(rt;
+        " cell {} {} {} {} {} {}",
+        c.identity, c.blocks, c.prefix, c.ports, c.sixths, c.duration
+    )
 }
 
 fn frame(rt: &impl Print, f: Frame) -> io::Result<()> {
-    print::text(rt, b" frame")?;
-    field(rt, f.number as u64)?;
-    field(rt, f.subframe as u64)?;
-    field(rt, f.cfi as u64)
+    print!(rt; " frame {} {} {}", f.number, f.subframe, f.cfi)
 }
 
-fn hi(rt: &impl Print, h: Hi) -> io::Result<()> {
-    print::text(rt, b" hi")?;
-    field(rt, h.group as u64)?;
-    field(rt, h.sequence as u64)
+fn hi(rt: &impl Print, plan: &[u8], at: usize) -> io::Result<()> {
+    let h = plan::hi_at(plan, at);
+    print!(rt; " hi {} {}", h.group, h.sequence)
 }
 
-fn user(rt: &impl Print, u: User) -> io::Result<()> {
-    print::text(rt, b" user")?;
-    field(rt, u.rnti as u64)?;
-    field(rt, u.order as u64)?;
-    field(rt, u.first as u64)?;
-    field(rt, u.count as u64)
+fn user(rt: &impl Print, plan: &[u8], at: usize) -> io::Result<()> {
+    let u = plan::user_at(plan, at);
+    print!(rt; " user {} {} {} {}", u.rnti, u.order, u.first, u.count)
 }
 
-fn his(rt: &impl Print, plan: &[u8], row: CommandList) -> io::Result<()> {
-    let mut at = row.at;
-    let mut left = row.count;
-    while 0 < left {
-        hi(rt, plan::hi_at(plan, at))?;
+// Shows each command of a list, by its position in the plan.
+fn each<F: Fn(usize) -> io::Result<()>>(plan: &[u8], list: CommandList, show: F) -> io::Result<()>
+    requires { F.IsAlwaysCallable show }
+{
+    let mut at = list.at;
+    for _ in 0..list.count {
+        show(at)?;
         at = plan::next_at(plan, at);
-        left -= 1;
-    }
-    Ok(())
-}
-
-fn users(rt: &impl Print, plan: &[u8], row: CommandList) -> io::Result<()> {
-    let mut at = row.at;
-    let mut left = row.count;
-    while 0 < left {
-        user(rt, plan::user_at(plan, at))?;
-        at = plan::next_at(plan, at);
-        left -= 1;
     }
     Ok(())
 }
 
 fn accepted(rt: &impl Print, plan: &[u8], p: Plan) -> io::Result<()> {
-    print::text(rt, b"0")?;
+    print!(rt; "0")?;
     cell(rt, p.cell)?;
     frame(rt, p.frame)?;
-    his(rt, plan, p.his)?;
-    users(rt, plan, p.users)
+    each(plan, p.his, |at| hi(rt, plan, at))?;
+    each(plan, p.users, |at| user(rt, plan, at))
 }
 
 // What the check answers of a plan: 0 and its fields, or the refusal's number.
 fn verdict(rt: &impl Print, plan: &[u8]) -> io::Result<()> {
     match plan::check(plan) {
-        Checked::Plan(p) => accepted(rt, plan, p),
-        Checked::Refused(r) => print::number(rt, plan::number(r) as u64),
+        Ok(p) => accepted(rt, plan, p),
+        Err(r) => print!(rt; "{}", u8::from(r)),
     }
 }
 
-fn answer(rt: &impl Print, number: usize, plan: &[u8]) -> io::Result<()> {
-    print::text(rt, b"plan ")?;
-    print::number(rt, number as u64)?;
-    print::space(rt)?;
+// The record that the bytes start with: the plan's length in four bytes, the plan. Answers with what follows it, none for one that is cut off.
+fn record<'a>(rt: &impl Print, number: usize, bytes: &'a [u8]) -> io::Result<Option<&'a [u8]>> {
+    let Some((plan, rest)) = records::counted(bytes, 4) else {
+        return Ok(None);
+    };
+    print!(rt; "plan {number} ")?;
     verdict(rt, plan)?;
-    print::line(rt)
+    println!(rt)?;
+    Ok(Some(rest))
 }
 
-// The record that the bytes start with: the plan's length in four bytes, the plan. Answers with the record's length, 0 for one that is cut
-// off.
-fn record(rt: &impl Print, number: usize, bytes: &[u8]) -> io::Result<usize> {
-    if bytes.len() < 4 {
-        return Ok(0);
-    }
-    let end = 4 + records::value(&bytes[0..4]);
-    if bytes.len() < end {
-        return Ok(0);
-    }
-    answer(rt, number, &bytes[4..end])?;
-    Ok(end)
-}
-
-fn walk(rt: &impl Print, input: &[u8]) -> io::Result<()> {
-    let mut number = 0;
-    let mut at = 0;
-    while at < input.len() {
-        number += 1;
-        at = records::next_at(input, at, record(rt, number, &input[at..])?);
-    }
-    Ok(())
+fn answer(rt: &impl Print, input: &[u8]) -> io::Result<()> {
+    records::walk(input, |number, bytes| record(rt, number, bytes))
 }
 
 fn main(rt: HostRuntime) -> io::Result<()> {
     let mut buffer = [0u8; 600000];
     let n = input::read_full(&mut rt.stdin(), &mut buffer)?;
-    walk(&rt, &buffer[..n])
+    answer(&rt, &buffer[..n])
 }

@@ -51,13 +51,11 @@ fn fill(phich: bool, ports: u8, places: usize, m: usize, unit: u8, grid: &mut [u
     ensures { Room ports places grid.new }
 {
     grid::silence(grid);
-    let mut j: usize = 0;
-    while j < places {
+    for j in 0..places {
         let odd = (j % 2) as u8;
         let d = symbol(j);
         let e = symbol(beside(j));
         grid::put_place(grid, ports, places, j, pair(phich, m, j), unit, odd, d, e);
-        j += 1;
     }
 }
 
@@ -67,7 +65,7 @@ fn field(rt: &impl Print, n: usize) -> io::Result<()> {
 }
 
 fn element(rt: &impl Print, e: Element) -> io::Result<()> {
-    field(rt, base::wide(e.byte))?;
+    field(rt, usize::from(e.byte))?;
     print::space(rt)?;
     show::pair(
         rt,
@@ -83,14 +81,14 @@ fn element(rt: &impl Print, e: Element) -> io::Result<()> {
 fn name(rt: &impl Print, phich: bool, ports: u8, m: usize, j: usize) -> io::Result<()> {
     if phich {
         print::text(rt, b"phich")?;
-        field(rt, base::wide(ports))?;
+        field(rt, usize::from(ports))?;
         field(rt, m)?;
         field(rt, j / 4)?;
         field(rt, j % 4)?;
         return Ok(());
     }
     print::text(rt, b"td")?;
-    field(rt, base::wide(ports))?;
+    field(rt, usize::from(ports))?;
     field(rt, m)?;
     field(rt, j)
 }
@@ -107,12 +105,10 @@ fn place(
 ) -> io::Result<()>
     requires { Room ports places grid.now × (j < places) }
 {
-    let mut port: u8 = 0;
-    while port < ports {
+    for port in 0..ports {
         name(rt, phich, ports, m, j)?;
-        field(rt, base::wide(port))?;
-        element(rt, grid::get(grid, base::wide(port) * places + j))?;
-        port += 1;
+        field(rt, usize::from(port))?;
+        element(rt, grid::get(grid, usize::from(port) * places + j))?;
     }
     Ok(())
 }
@@ -127,10 +123,8 @@ fn lines(
 ) -> io::Result<()>
     requires { Room ports places grid.now }
 {
-    let mut j: usize = 0;
-    while j < places {
+    for j in 0..places {
         place(rt, phich, ports, places, m, j, grid)?;
-        j += 1;
     }
     Ok(())
 }

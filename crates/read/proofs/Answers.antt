@@ -4,18 +4,13 @@ use mathlib.Core.Path.{◌≡◌, refl, sym, ◌∙◌}
 use mathlib.Core.Bool.{Bool, true, false}
 use mathlib.Core.List.{List, [], ◌∷◌}
 use lib.ListN.{length}
-use types.Run.{OneOf}
-use denote.Enum.Declared.{tag_of}
-use Rattle.plan.specs.Lists.{one_of}
+use Rattle.std.specs.declared.result.Result.{Result}
+use Rattle.std.specs.declared.result.Result.TheVariants.{Ok as accepted, Err as refused}
 use Rattle.plan.specs.Answers.{Answer, given}
-use Rattle.plan.specs.Check.{check_of, refused_as, refusal_of}
+use Rattle.plan.specs.Check.{check_of, refused_as}
 use Rattle.plan.specs.declared.Plan.{Plan}
 use Rattle.plan.specs.declared.Refusal.{Refusal}
 use Rattle.plan.specs.declared.Refusal.TheVariants.{GridLength, PayloadLength, NoPayload}
-use Rattle.plan.specs.declared.Checked.{Checked}
-use Rattle.plan.specs.declared.Checked.TheVariants.{Plan as accepted, Refused as refused}
-use Rattle.plan.specs.contracts.Checked.{the_type}
-use Rattle.plan.proofs.OneOf.{not_in}
 use Rattle.payload.specs.Payload.{grid_length, payload_length}
 use Rattle.recovery.specs.Recovery.{payload_in}
 use Rattle.build.specs.Build.{pdsch_elements}
@@ -33,10 +28,8 @@ module _ (w grid payload : List ℕ) where
   answered : {a : Answer} {after : List ℕ} → Settles w grid payload a after → Answered a after
   answered s = (sym s.answer, sym s.payload, s.meets)
 
-  pub way-refused : (a : Checked) → a ≡ check_of w → OneOf (1 ∷ []) (tag_of the_type a) → (r : Refusal) → r ≡ refusal_of a → Answered (refused_as r) payload
-  unfolding one_of
-  way-refused (accepted p) e h r q = absurd (not_in (1 ∷ []) 0 h refl)
-  way-refused (refused x) e h r q = rw q (answered (plan-refused w grid payload x (sym e)))
+  pub way-refused : {a : Result Plan Refusal} {r : Refusal} → a ≡ check_of w → a ≡ refused r → Answered (refused_as r) payload
+  way-refused {a} {r} e h = answered (plan-refused w grid payload r (sym e ∙ h))
 
   module _ (p : Plan) (ok : check_of w ≡ accepted p) where
     pub way-grid : (n : ℕ) → n ≡ grid_length p → (length grid ≡ n → ⊥) → Answered (refused_as GridLength) payload

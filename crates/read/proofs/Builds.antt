@@ -6,11 +6,11 @@ use mathlib.Core.Path.{◌≡◌, sym, ◌∙◌}
 use mathlib.Core.Logic.{◌↔◌}
 use mathlib.Core.List.{List}
 use lib.ListN.{length}
+use Rattle.std.specs.declared.result.Result.TheVariants.{Ok as accepted}
 use Rattle.plan.specs.Answers.{Answer, given}
 use Rattle.plan.specs.Check.{check_of, refused_as}
 use Rattle.plan.specs.declared.Plan.{Plan}
 use Rattle.plan.specs.declared.Refusal.TheVariants.{NoPayload}
-use Rattle.plan.specs.declared.Checked.TheVariants.{Plan as accepted}
 use Rattle.payload.specs.Payload.{grid_length, payload_length, AcceptedPayload}
 use Rattle.build.specs.Build.{pdsch_elements, grid_after}
 use Rattle.build.proofs.Apart.{left_is}

@@ -23,6 +23,7 @@ use Rattle.schedule.specs.Schedule.{start_pair, present_in}
 use Rattle.schedule.specs.declared.Channel.{Channel}
 use Rattle.schedule.specs.declared.Channel.TheVariants.{Crs, Sync, Pbch, Pcfich, Phich, User as UserOf}
 use Rattle.schedule.specs.contracts.Channel.{the_type}
+use Rattle.std.specs.declared.option.Option.{Option}
 use Rattle.read.specs.Reading.{PartIn, part_read, PartOf, own_part, part_after, ChannelIn}
 
 -- ---- the call for an area
@@ -46,7 +47,7 @@ kept-part p g part Pcfich k = refl
 kept-part p g part (Phich m) k = refl
 kept-part p g part (UserOf u) k = absurd (not_in (0 ∷ 1 ∷ 3 ∷ 4 ∷ []) 5 k refl)
 
-module _ {p : Plan} {ch : Channel} {have : ℕ} {d masks g part : List ℕ} (given : ChannelIn p ch have d masks g part) {b : Bool} (eb : b ≡ present_in p ch) where
+module _ {p : Plan} {ch : Channel} {have : Option ℕ} {d masks g part : List ℕ} (given : ChannelIn p ch have d masks g part) {b : Bool} (eb : b ≡ present_in p ch) where
   -- the subframe does not have the channel
   pub absent-after : not b ≡ true → part ≡ part_after p ch g part
   absent-after n = rw (sym eb ∙ not-true b n) refl

@@ -5,12 +5,13 @@ use mathlib.Core.List.{List}
 use lib.Dec.{eqb}
 use lib.ListN.{length}
 use borrow.Author.Tests.{eqb-true, eqb-false}
+use Rattle.std.specs.declared.result.Result.{Result}
+use Rattle.std.specs.declared.result.Result.TheVariants.{Ok as accepted, Err as refused}
 use Rattle.base.proofs.Tests.{by-test, clash}
 use Rattle.plan.specs.Answers.{Answer}
 use Rattle.plan.specs.Check.{check_of}
 use Rattle.plan.specs.declared.Plan.{Plan}
-use Rattle.plan.specs.declared.Checked.{Checked}
-use Rattle.plan.specs.declared.Checked.TheVariants.{Plan as accepted, Refused as refused}
+use Rattle.plan.specs.declared.Refusal.{Refusal}
 use Rattle.payload.specs.Payload.{grid_length, payload_length}
 use Rattle.read.specs.Read.{Reads}
 use Rattle.read.specs.Equation.{is_made, read_of, payload_after}
@@ -37,7 +38,7 @@ module _ (w grid before : List ℕ) where
   settled : One w grid before
   settled = pick (check_of w) refl
     where
-      pick : (x : Checked) → check_of w ≡ x → One w grid before
+      pick : (x : Result Plan Refusal) → check_of w ≡ x → One w grid before
       pick (accepted p) e = under p e
       pick (refused r) e = (_, _, plan-refused w grid before r e)
 

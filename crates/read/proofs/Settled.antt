@@ -6,14 +6,14 @@ use mathlib.Core.Bool.{Bool, true, false}
 use mathlib.Core.Logic.{◌⊎◌, inl, inr}
 use mathlib.Core.List.{List}
 use lib.ListN.{length}
+use Rattle.std.specs.declared.result.Result.{Result}
+use Rattle.std.specs.declared.result.Result.TheVariants.{Ok as accepted, Err as refused}
 use Rattle.base.proofs.Tests.{clash}
 use Rattle.plan.specs.Answers.{Answer, given, refused_by}
 use Rattle.plan.specs.Check.{refusal_number, check_of, refused_as}
 use Rattle.plan.specs.declared.Plan.{Plan}
 use Rattle.plan.specs.declared.Refusal.{Refusal}
 use Rattle.plan.specs.declared.Refusal.TheVariants.{GridLength, PayloadLength, NoPayload}
-use Rattle.plan.specs.declared.Checked.{Checked}
-use Rattle.plan.specs.declared.Checked.TheVariants.{Plan as accepted, Refused as refused}
 use Rattle.plan.proofs.Answers.{no_number}
 use Rattle.payload.specs.Payload.{grid_length, payload_length, unless_lengths, AcceptedPayload}
 use Rattle.payload.proofs.Refusals.{grid-refused, payload-refused, lengths-right}
@@ -29,7 +29,7 @@ use Rattle.read.specs.Equation.{is_made, read_of, payload_after}
 use Rattle.read.proofs.Made.{made-true, made-false}
 
 -- ---- the answers of the plan check exclude each other, and have one plan or refusal
-is_plan : Checked → Bool
+is_plan : Result Plan Refusal → Bool
 is_plan (accepted p) = true
 is_plan (refused r) = false
 
@@ -37,19 +37,19 @@ no-plan : {r : Refusal} {p : Plan} {X : Type 0} → refused r ≡ accepted p →
 unfolding is_plan
 no-plan e = clash {b = true} refl (ap is_plan (sym e))
 
-plan_in : Plan → Checked → Plan
+plan_in : Plan → Result Plan Refusal → Plan
 plan_in p (accepted q) = q
 plan_in p (refused r) = p
 
-same-plan : {p q : Plan} → accepted p ≡ accepted q → p ≡ q
+same-plan : {p q : Plan} → ◌≡◌ {A = Result Plan Refusal} (accepted p) (accepted q) → p ≡ q
 unfolding plan_in
 same-plan {p = p} e = ap (plan_in p) e
 
-refusal_in : Refusal → Checked → Refusal
+refusal_in : Refusal → Result Plan Refusal → Refusal
 refusal_in r (accepted q) = r
 refusal_in r (refused x) = x
 
-same-refusal : {x y : Refusal} → refused x ≡ refused y → x ≡ y
+same-refusal : {x y : Refusal} → ◌≡◌ {A = Result Plan Refusal} (refused x) (refused y) → x ≡ y
 unfolding refusal_in
 same-refusal {x = x} e = ap (refusal_in x) e
 

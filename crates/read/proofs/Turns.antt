@@ -7,6 +7,7 @@ use native.Mathlib.Omega.{arith}
 use borrow.Author.Tests.{eqb-true, eqb-false}
 use lib.ListN.{length, drop}
 use borrow.Rule.Slice.PartMut.{put_mid, mid_len, put_same}
+use Rattle.std.specs.declared.result.Result.TheVariants.{Ok as accepted}
 use Rattle.base.proofs.Tests.{by-test, clash}
 use Rattle.gold.specs.declared.Registers.{Registers}
 use Rattle.plan.specs.Check.{check_of}
@@ -14,7 +15,6 @@ use Rattle.plan.specs.CommandLists.{his_from, his_of, users_of, nth_user}
 use Rattle.plan.specs.Valid.{CellIn, FrameIn}
 use Rattle.plan.specs.declared.User.{User}
 use Rattle.plan.specs.declared.Plan.{Plan}
-use Rattle.plan.specs.declared.Checked.TheVariants.{Plan as accepted}
 use Rattle.plan.proofs.Valid.{valid}
 use Rattle.plan.proofs.Counts.{units-least, users-most}
 use Rattle.layout.specs.declared.Mark.{Mark}

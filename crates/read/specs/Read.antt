@@ -1,19 +1,16 @@
 -- What the promises cite: what read answers and what it leaves in the payload, for any plan bytes w, grid and payload. Document 01,
 -- Refusals: the plan's refusal, then 10, 11 and "13 grid made by no payload (read only)"; "A refusal returns its number .. and buffers
 -- stay. Build and read return the count of user elements, ports not multiplied; read fills the payload, spare bits zero".
-use Rattle.std.specs.Prelude.{ℕ, ◌<◌, ◌≡◌, ◌↔◌, ◌⊎◌, List, length}
+use Rattle.std.specs.Prelude.{ℕ, ◌<◌, ◌≡◌, ◌↔◌, ◌⊎◌, List, length, Result, Err, Err as refused, Ok, Ok as accepted}
 use Rattle.plan.specs.Lists.{Every}
 use Rattle.plan.specs.Answers.{Answer, given, refused_by}
 use Rattle.plan.specs.Check.{check_of, refused_as}
 use Rattle.plan.specs.declared.Refusal.{Refusal}
 use Rattle.plan.specs.declared.Refusal.TheVariants.{NoPayload}
 use Rattle.plan.specs.declared.Plan.{Plan}
-use Rattle.plan.specs.declared.Checked.TheVariants.{Plan as accepted, Refused as refused}
 use Rattle.payload.specs.Payload.{grid_length, payload_length, unless_lengths, AcceptedPayload}
 use Rattle.subframe.specs.Grid.{grid_of}
 use Rattle.build.specs.Build.{pdsch_elements}
-use Rattle.read.specs.declared.ReadBack.{ReadBack}
-use Rattle.read.specs.declared.ReadBack.TheVariants.{Elements, Refused}
 
 -- a payload is bytes
 abbrev pub Bytes : List ℕ → Type 0
@@ -43,8 +40,3 @@ pub record Reads (w grid before : List ℕ) (a : Answer) (after : List ℕ) : Ty
   pub under : (p : Plan) → check_of w ≡ accepted p → ReadUnder w p grid before a after
   -- "buffers stay"
   pub kept : (n : ℕ) → a ≡ refused_by n → after ≡ before
-
--- the numbers of the call's enum
-abbrev pub read_answer : ReadBack → Answer
-read_answer (Elements n) = given n
-read_answer (Refused r) = refused_as r

@@ -1,9 +1,8 @@
 -- For the inner contracts and loops only: what reading the sections needs, and how far it has come.
-use Rattle.std.specs.Prelude.{if◌then◌else◌, ℕ, ◌+◌, ◌*◌, ◌≤◌, ◌<◌, ◌≡◌, true, List, length, get_or}
+use Rattle.std.specs.Prelude.{if◌then◌else◌, ℕ, ◌+◌, ◌*◌, ◌≤◌, ◌<◌, ◌≡◌, true, List, length, get_or, Ok as accepted, Option, Some}
 use Rattle.plan.specs.Check.{check_of}
 use Rattle.plan.specs.Valid.{CellIn, FrameIn}
 use Rattle.plan.specs.declared.Plan.{Plan}
-use Rattle.plan.specs.declared.Checked.TheVariants.{Plan as accepted}
 use Rattle.places.specs.Places.{places_of}
 use Rattle.payload.specs.Sections.{section_bytes}
 use Rattle.payload.specs.Payload.{pbch_bit_count, payload_length}
@@ -74,11 +73,11 @@ part_after p ch grid part = if present_in p ch then own_part p ch grid part else
 abbrev pub UserMasks : Plan → List ℕ → Type 0
 UserMasks p masks = RowMasks p.cell p.frame p.cell.ports true 14 masks
 
-abbrev pub AxisOf : ℕ → List ℕ → Type 0
-AxisOf have d = (length d ≡ 32) × ((have ≡ 0 → ⊥) → Axis have d)
+abbrev pub AxisOf : Option ℕ → List ℕ → Type 0
+AxisOf have d = (length d ≡ 32) × ((q : ℕ) → have ≡ Some q → Axis q d)
 
 -- what reading a channel needs, where the subframe has it, with the tables that callers lend
-pub record ChannelIn (p : Plan) (ch : Channel) (have : ℕ) (d masks grid part : List ℕ) : Type 0 where
+pub record ChannelIn (p : Plan) (ch : Channel) (have : Option ℕ) (d masks grid part : List ℕ) : Type 0 where
   pub own : present_in p ch ≡ true → PartOf p ch grid part
   pub axis : AxisOf have d
   pub rows : UserMasks p masks

@@ -3,417 +3,163 @@
 // in turn, how many grids were refused and read, how many of those read are built again by what was read, and a digest of all.
 #![tactic(auto)]
 
-use base::wide;
-use build::Built;
-use read::ReadBack;
-use records::{Digest, value};
+mod sweep;
+
+use records::{Answer, Digest};
 use std::io;
+use sweep::Tally;
 
-// What a sweep has seen.
+// What a record asks for, calls or a sweep, on a grid that the payload builds. `whole` is that grid's length, `lent` how many bytes of it are
+// lent, `lists` has the changes.
 #[derive(Clone, Copy)]
-struct Tally {
-    refused: usize,
-    read: usize,
-    built: usize,
-    digest: Digest,
-}
-
-fn answer(rt: &impl Print, r: ReadBack) -> io::Result<()> {
-    match r {
-        ReadBack::Elements(n) => print::number(rt, n as u64),
-        ReadBack::Refused(why) => {
-            print::text(rt, b"refused ")?;
-            print::number(rt, plan::number(why) as u64)
-        }
-    }
-}
-
-// One byte of a grid, where the grid has it.
-fn put(i: usize, b: u8, grid: &mut [u8]) {
-    if i < grid.len() {
-        grid[i] = b;
-    }
-}
-
-// Changes of a grid, five bytes each: the byte's number and its new value.
-fn change(changes: &[u8], grid: &mut [u8]) {
-    let mut at: usize = 0;
-    while at < changes.len() {
-        if changes.len() - at < 5 {
-            return;
-        }
-        put(value(&changes[at..at + 4]), changes[at + 4], grid);
-        at += 5;
-    }
-}
-
-// One call, on a grid that was built and changed.
-fn call(
-    rt: &impl Print,
-    number: usize,
-    plan: &[u8],
-    grid: &[u8],
-    out: &mut [u8],
-) -> io::Result<()> {
-    records::fill(out);
-    let r = read::read(plan, grid, out);
-    print::number(rt, number as u64)?;
-    print::space(rt)?;
-    answer(rt, r)?;
-    print::space(rt)?;
-    records::show(rt, records::added(records::empty(), out))?;
-    print::line(rt)
-}
-
-// The unit byte after this one, of those that elements have.
-fn next_unit_byte(b: u8) -> u8 {
-    match b {
-        0 => 1,
-        1 => 2,
-        2 => 4,
-        4 => 10,
-        10 => 20,
-        20 => 42,
-        42 => 63,
-        63 => 84,
-        84 => 170,
-        170 => 255,
-        _ => 0,
-    }
-}
-
-// What byte i of the grid is changed to: 0, one more, one less, and another unit or the opposite level.
-fn other(i: usize, b: u8, k: usize) -> u8 {
-    if k == 0 {
-        return 0;
-    }
-    if k == 1 {
-        return ((wide(b) + 1) % 256) as u8;
-    }
-    if k == 2 {
-        return ((wide(b) + 255) % 256) as u8;
-    }
-    if i % 3 == 0 {
-        return next_unit_byte(b);
-    }
-    ((256 - wide(b)) % 256) as u8
-}
-
-fn equal(a: &[u8], b: &[u8]) -> bool {
-    if a.len() != b.len() {
-        return false;
-    }
-    let mut same = true;
-    let mut i: usize = 0;
-    while i < a.len() {
-        if i < b.len() {
-            if a[i] != b[i] {
-                same = false;
-            }
-        }
-        i += 1;
-    }
-    same
-}
-
-// Whether building what was read makes the grid.
-fn rebuilt(plan: &[u8], payload: &[u8], grid: &[u8], again: &mut [u8]) -> bool {
-    match build::build(plan, payload, again) {
-        Built::Elements(_) => equal(grid, again),
-        Built::Refused(_) => false,
-    }
-}
-
-// A count with this one. None comes near 2^32.
-fn counted(n: usize, one: bool) -> usize {
-    if one {
-        return n % 4294967296 + 1;
-    }
-    n
-}
-
-// One changed grid.
-fn seen(t: Tally, plan: &[u8], grid: &[u8], again: &mut [u8], out: &mut [u8]) -> Tally {
-    records::fill(out);
-    let digest = t.digest;
-    match read::read(plan, grid, out) {
-        ReadBack::Elements(_) => {
-            let built = rebuilt(plan, out, grid, again);
-            Tally {
-                refused: t.refused,
-                read: counted(t.read, true),
-                built: counted(t.built, built),
-                digest: records::added(digest, out),
-            }
-        }
-        ReadBack::Refused(_) => Tally {
-            refused: counted(t.refused, true),
-            read: t.read,
-            built: t.built,
-            digest: records::added(digest, out),
-        },
-    }
-}
-
-// Change k of byte i, and back.
-fn changed(
-    t: Tally,
-    i: usize,
-    k: usize,
-    plan: &[u8],
-    grid: &mut [u8],
-    again: &mut [u8],
-    out: &mut [u8],
-) -> Tally {
-    if grid.len() <= i {
-        return t;
-    }
-    let old = grid[i];
-    let new = other(i, old, k);
-    if new == old {
-        return t;
-    }
-    put(i, new, grid);
-    let after = seen(t, plan, grid, again, out);
-    put(i, old, grid);
-    after
-}
-
-// Byte i with its four changes.
-fn changes_of(
-    start: Tally,
-    i: usize,
-    plan: &[u8],
-    grid: &mut [u8],
-    again: &mut [u8],
-    out: &mut [u8],
-) -> Tally {
-    let mut t = start;
-    let mut k: usize = 0;
-    while k < 4 {
-        t = changed(t, i, k, plan, grid, again, out);
-        k += 1;
-    }
-    t
-}
-
-fn sweep(plan: &[u8], grid: &mut [u8], again: &mut [u8], out: &mut [u8]) -> Tally {
-    let mut t = Tally {
-        refused: 0,
-        read: 0,
-        built: 0,
-        digest: records::empty(),
-    };
-    let n = grid.len();
-    let mut i: usize = 0;
-    while i < n {
-        t = changes_of(t, i, plan, grid, again, out);
-        i += 1;
-    }
-    t
-}
-
-fn tell(rt: &impl Print, number: usize, t: Tally) -> io::Result<()> {
-    print::number(rt, number as u64)?;
-    print::text(rt, b" refused ")?;
-    print::number(rt, t.refused as u64)?;
-    print::text(rt, b" read ")?;
-    print::number(rt, t.read as u64)?;
-    print::text(rt, b" built ")?;
-    print::number(rt, t.built as u64)?;
-    print::space(rt)?;
-    records::show(rt, t.digest)?;
-    print::line(rt)
-}
-
-// A grid built in the first `whole` bytes of a buffer.
-fn build_in(plan: &[u8], payload: &[u8], whole: usize, grid: &mut [u8]) {
-    if whole <= grid.len() {
-        build::build(plan, payload, &mut grid[..whole]);
-    }
-}
-
-// One call on the first n bytes of a buffer.
-fn call_on(
-    rt: &impl Print,
-    number: usize,
-    plan: &[u8],
-    n: usize,
-    grid: &[u8],
-    out: &mut [u8],
-) -> io::Result<()> {
-    if n <= grid.len() {
-        call(rt, number, plan, &grid[..n], out)?;
-    }
-    Ok(())
-}
-
-// One call on the first n bytes of a buffer whose first `whole` bytes are the grid, with some changes.
-fn once(
-    rt: &impl Print,
-    number: usize,
-    plan: &[u8],
-    payload: &[u8],
-    changes: &[u8],
+struct Request<'a> {
+    kind: u8,
     whole: usize,
-    n: usize,
-    grid: &mut [u8],
-    out: &mut [u8],
-) -> io::Result<()> {
-    records::fill(grid);
-    build_in(plan, payload, whole, grid);
-    change(changes, grid);
-    call_on(rt, number, plan, n, grid, out)
+    lent: usize,
+    of_payload: u8,
+    plan: &'a [u8],
+    payload: &'a [u8],
+    lists: &'a [u8],
 }
 
-// A call for each list of changes: the number of its changes, then the changes.
-fn calls(
-    rt: &impl Print,
-    number: usize,
-    plan: &[u8],
-    payload: &[u8],
-    lists: &[u8],
-    whole: usize,
-    n: usize,
-    grid: &mut [u8],
-    out: &mut [u8],
-) -> io::Result<()> {
-    let mut at: usize = 0;
-    while at < lists.len() {
-        let end = at + 1 + 5 * wide(lists[at]);
-        if lists.len() < end {
-            return Ok(());
-        }
-        once(
-            rt,
-            number,
+impl<'a> Request<'a> {
+    // The request that the bytes start with, and what follows it; none for one that is cut off. It stands there as a byte for the kind, one for
+    // the grid's length and one for the payload's, the plan's length in two bytes, the plan, the payload's length in four bytes, the payload,
+    // the length of the lists of changes in two bytes, the lists.
+    fn read(bytes: &'a [u8]) -> Option<(Request<'a>, &'a [u8])> {
+        let (kind, rest) = bytes.split_first()?;
+        let (of_grid, rest) = rest.split_first()?;
+        let (of_payload, rest) = rest.split_first()?;
+        let (plan, rest) = records::counted(rest, 2)?;
+        let (payload, rest) = records::counted(rest, 4)?;
+        let (lists, rest) = records::counted(rest, 2)?;
+        let whole = records::wanted(plan);
+        let request = Request {
+            kind: *kind,
+            whole,
+            lent: records::lent(whole, *of_grid),
+            of_payload: *of_payload,
             plan,
             payload,
-            &lists[at + 1..end],
-            whole,
-            n,
-            grid,
-            out,
-        )?;
-        at = end;
+            lists,
+        };
+        Some((request, rest))
     }
-    Ok(())
+
+    // The grid, built in the front of a buffer.
+    fn build_in(self, buffer: &mut [u8]) {
+        if let Some(grid) = buffer.get_mut(..self.whole) {
+            let _ = build::build(self.plan, self.payload, grid);
+        }
+    }
+
+    // One call, on a grid that is built and changed.
+    fn call(
+        self,
+        rt: &impl Print,
+        number: usize,
+        changes: &[u8],
+        buffer: &mut [u8],
+        out: &mut [u8],
+    ) -> io::Result<()> {
+        records::fill(buffer);
+        self.build_in(buffer);
+        change(changes, buffer);
+        let Some(grid) = buffer.get(..self.lent) else {
+            return Ok(());
+        };
+        records::fill(out);
+        let answer = Answer(read::read(self.plan, grid, out));
+        let digest = Digest::EMPTY.added(out);
+        println!(rt; "{number} {answer} {digest}")
+    }
+
+    // A call for each list of changes. A list has a byte at least.
+    fn calls(
+        self,
+        rt: &impl Print,
+        number: usize,
+        buffer: &mut [u8],
+        out: &mut [u8],
+    ) -> io::Result<()> {
+        let mut rest = self.lists;
+        for _ in 0..self.lists.len() {
+            let Some((changes, next)) = first_list(rest) else {
+                return Ok(());
+            };
+            self.call(rt, number, changes, buffer, out)?;
+            rest = next;
+        }
+        Ok(())
+    }
+
+    // A sweep of the grid in the front of a buffer; what is read is built again in the other.
+    fn sweep(
+        self,
+        rt: &impl Print,
+        number: usize,
+        buffer: &mut [u8],
+        other: &mut [u8],
+        out: &mut [u8],
+    ) -> io::Result<()> {
+        self.build_in(buffer);
+        let Some(grid) = buffer.get_mut(..self.whole) else {
+            return Ok(());
+        };
+        let Some(again) = other.get_mut(..self.whole) else {
+            return Ok(());
+        };
+        let tally = Tally::of_sweep(self.plan, grid, again, out);
+        println!(rt; "{number} {tally}")
+    }
+
+    // A sweep for kind 1, calls for any other.
+    fn perform(self, rt: &impl Print, number: usize, payload: &mut [u8]) -> io::Result<()> {
+        let Some(out) = payload.get_mut(..records::lent(self.payload.len(), self.of_payload)) else {
+            return Ok(());
+        };
+        let mut grid = [0u8; 201601];
+        if self.kind == 1 {
+            let mut again = [0u8; 201600];
+            return self.sweep(rt, number, &mut grid, &mut again, out);
+        }
+        self.calls(rt, number, &mut grid, out)
+    }
 }
 
-// A sweep of the grid in the first `whole` bytes of a buffer.
-fn sweep_in(
-    rt: &impl Print,
-    number: usize,
-    plan: &[u8],
-    whole: usize,
-    grid: &mut [u8],
-    again: &mut [u8],
-    out: &mut [u8],
-) -> io::Result<()> {
-    if grid.len() < whole {
-        return Ok(());
+// Changes of a grid, five bytes each: the byte's number and its new value. What the grid hasn't is passed over.
+fn change(changes: &[u8], grid: &mut [u8]) {
+    for one in changes.chunks_exact(5) {
+        if let Some((new, place)) = one.split_last() {
+            if let Some(byte) = grid.get_mut(records::value(place)) {
+                *byte = *new;
+            }
+        }
     }
-    if again.len() < whole {
-        return Ok(());
-    }
-    let t = sweep(plan, &mut grid[..whole], &mut again[..whole], out);
-    tell(rt, number, t)
 }
 
-// What a record asks for: a sweep for kind 1, calls for any other. The two bytes say what is lent of the grid and of the payload.
-fn perform(
-    rt: &impl Print,
-    number: usize,
-    kind: u8,
-    of_grid: u8,
-    of_payload: u8,
-    plan: &[u8],
-    payload: &[u8],
-    lists: &[u8],
-    out: &mut [u8],
-) -> io::Result<()> {
-    let whole = records::wanted(plan);
-    let n = records::lent(whole, of_grid);
-    let size = records::lent(payload.len(), of_payload);
-    if out.len() < size {
-        return Ok(());
-    }
-    let mut grid = [0u8; 201601];
-    if kind == 1 {
-        let mut again = [0u8; 201600];
-        build_in(plan, payload, whole, &mut grid);
-        sweep_in(
-            rt,
-            number,
-            plan,
-            whole,
-            &mut grid,
-            &mut again,
-            &mut out[..size],
-        )?;
-        return Ok(());
-    }
-    calls(
-        rt,
-        number,
-        plan,
-        payload,
-        lists,
-        whole,
-        n,
-        &mut grid,
-        &mut out[..size],
-    )
+// The list of changes that the lists start with, after the number of its changes, and what follows it.
+fn first_list(lists: &[u8]) -> Option<(&[u8], &[u8])> {
+    let (changes, rest) = lists.split_first()?;
+    rest.split_at_checked(5 * usize::from(*changes))
 }
 
-// The record that the bytes start with: a byte for the kind, one for the grid's length and one for the payload's, the plan's length
-// in two bytes, the plan, the payload's length in four bytes, the payload, the length of the lists of changes in two bytes, the lists.
-// Answers with the record's length, 0 for one that is cut off.
-fn record(rt: &impl Print, number: usize, bytes: &[u8]) -> io::Result<usize> {
-    if bytes.len() < 5 {
-        return Ok(0);
-    }
-    let end = 5 + value(&bytes[3..5]);
-    let start = end + 4;
-    if bytes.len() < start {
-        return Ok(0);
-    }
-    let last = start + value(&bytes[end..start]);
-    let first = last + 2;
-    if bytes.len() < first {
-        return Ok(0);
-    }
-    let finish = first + value(&bytes[last..first]);
-    if bytes.len() < finish {
-        return Ok(0);
-    }
-    let mut out = [0u8; 20000];
-    perform(
-        rt,
-        number,
-        bytes[0],
-        bytes[1],
-        bytes[2],
-        &bytes[5..end],
-        &bytes[start..last],
-        &bytes[first..finish],
-        &mut out,
-    )?;
-    Ok(finish)
+// Does what the record asks for that the bytes start with, and answers with what follows it.
+fn record<'a>(rt: &impl Print, number: usize, bytes: &'a [u8]) -> io::Result<Option<&'a [u8]>> {
+    let Some((request, rest)) = Request::read(bytes) else {
+        return Ok(None);
+    };
+    let mut payload = [0u8; 20000];
+    request.perform(rt, number, &mut payload)?;
+    Ok(Some(rest))
 }
 
-fn walk(rt: &impl Print, input: &[u8]) -> io::Result<()> {
-    let mut number = 0;
-    let mut at = 0;
-    while at < input.len() {
-        number += 1;
-        at = records::next_at(input, at, record(rt, number, &input[at..])?);
-    }
-    Ok(())
+fn answer(rt: &impl Print, input: &[u8]) -> io::Result<()> {
+    records::walk(input, |number, bytes| record(rt, number, bytes))
 }
 
 fn main(rt: HostRuntime) -> io::Result<()> {
     let mut buffer = [0u8; 500000];
     let n = input::read_full(&mut rt.stdin(), &mut buffer)?;
-    walk(&rt, &buffer[..n])
+    answer(&rt, &buffer[..n])
 }

@@ -9,11 +9,11 @@ use native.Mathlib.Nat.{div-add-mod', div-lt_iff_lt-mul, mod-lt}
 use native.Mathlib.Omega.{arith}
 use lib.ListN.{get_or}
 use lib.Seq.{ext_get_or}
+use Rattle.std.specs.declared.result.Result.TheVariants.{Ok as accepted-plan}
 use Rattle.base.specs.Bits.{bit_at}
 use Rattle.plan.specs.Lists.{Among, Every}
 use Rattle.plan.specs.Check.{check_of}
 use Rattle.plan.specs.declared.Plan.{Plan}
-use Rattle.plan.specs.declared.Checked.TheVariants.{Plan as accepted-plan}
 use Rattle.layout.specs.Owners.{symbols, carriers, owns}
 use Rattle.layout.specs.declared.Mark.TheVariants.{Primary, Secondary}
 use Rattle.layout.specs.declared.Owner.{Owner}

@@ -6,6 +6,7 @@ use native.Mathlib.Omega.{arith}
 use borrow.Author.Tests.{ltb-true, ltb-false}
 use lib.Dec.{ltb}
 use lib.ListN.{length, length-append, get_or-eq_default}
+use Rattle.std.specs.declared.result.Result.TheVariants.{Ok as accepted-plan}
 use Rattle.base.proofs.Tests.{by-test}
 use Rattle.base.specs.Bits.{bit_at}
 use Rattle.base.specs.Tables.{table}
@@ -14,7 +15,6 @@ use Rattle.plan.specs.Lists.{Every}
 use Rattle.plan.specs.Check.{check_of}
 use Rattle.plan.specs.CommandLists.{his_of, users_of}
 use Rattle.plan.specs.declared.Plan.{Plan}
-use Rattle.plan.specs.declared.Checked.TheVariants.{Plan as accepted-plan}
 use Rattle.plan.proofs.Valid.{valid}
 use Rattle.layout.specs.declared.Owner.{Owner}
 use Rattle.layout.specs.declared.Owner.TheVariants.{Crs, Sync, Pbch, Pcfich, Phich, User as UserOf, Held, Idle}

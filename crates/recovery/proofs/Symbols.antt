@@ -7,6 +7,7 @@ use mathlib.Core.List.{List}
 use native.Mathlib.Omega.{arith}
 use lib.Dec.{eqb}
 use lib.ListN.{get_or}
+use Rattle.std.specs.declared.result.Result.TheVariants.{Ok as accepted}
 use Rattle.base.specs.declared.Pair.{Pair}
 use Rattle.base.specs.declared.Element.{Element}
 use Rattle.base.specs.Bytes.{pair_of, byte_in}
@@ -15,7 +16,6 @@ use Rattle.precoding.specs.Places.{own_port, on_port}
 use Rattle.precoding.proofs.Ports.{read}
 use Rattle.plan.specs.Check.{check_of}
 use Rattle.plan.specs.declared.Plan.{Plan}
-use Rattle.plan.specs.declared.Checked.TheVariants.{Plan as accepted}
 use Rattle.layout.specs.Owners.{symbols, carriers}
 use Rattle.layout.specs.declared.Owner.{Owner}
 use Rattle.counts.specs.Counts.{count_of}

@@ -1,4 +1,5 @@
 -- What the answer for three bytes is worth: each f32 of a pair is a level, exact, times the gain nearest 1 / √u. Assumes nothing.
+use Rattle.std.specs.Prelude.{Option, Some, None}
 use mathlib.Core.Path.{◌≡◌, refl, sym, ◌∙◌, subst}
 use mathlib.Core.Bool.{Bool, true, false, cond, ◌&&◌}
 use Prim.Native.Nat.{ℕ}
@@ -7,13 +8,10 @@ use lib.Dec.{T, leb, eqb, leb→le}
 use lib.IntN.{ℤ, nat_abs}
 use lib.Ieee.Fits.{and_l, and_r}
 use Rattle.base.specs.Bytes.{signed_of}
+use Rattle.sample.specs.declared.UnitRow.{UnitRow}
 use Rattle.sample.specs.declared.Point.{Point}
 use Rattle.sample.specs.declared.Sample.{Sample}
 use Rattle.sample.specs.declared.Sample.TheVariants.{Silence, Phase, At}
-use Rattle.sample.specs.declared.SampleAnswer.{SampleAnswer}
-use Rattle.sample.specs.declared.SampleAnswer.TheVariants.{Is, Refused}
-use Rattle.sample.specs.declared.Scale.{Scale}
-use Rattle.sample.specs.declared.Scale.TheVariants.{Levels, Nothing}
 use Rattle.sample.specs.Units.{scale_of}
 use Rattle.sample.specs.Answer.{point_of}
 use Rattle.sample.specs.Cases.{silent_of, phase_of, scaled_of, by_unit}
@@ -23,20 +21,20 @@ use Rattle.sample.proofs.Bounds.{sample-of}
 use Rattle.sample.proofs.Nearness.{nearest}
 
 -- i and j are the levels
-abbrev Pair : ℕ → ℤ → ℤ → SampleAnswer → Type 0
-Pair b i j a = (p : Point) → a ≡ Is (At p) → Levelled b i j p.re p.im
+abbrev Pair : ℕ → ℤ → ℤ → Option Sample → Type 0
+Pair b i j a = (p : Point) → a ≡ Some (At p) → Levelled b i j p.re p.im
 
 module _ (b : ℕ) (i j : ℤ) where
-  refused : Pair b i j Refused
+  refused : Pair b i j None
   refused p e = let z : ◌≡◌ {A = ℕ} 0 1 = cc in absurd (omega arith)
 
-  tested : (t : Bool) (s : Sample) → (T t → Pair b i j (Is s)) → Pair b i j (cond t (Is s) Refused)
+  tested : (t : Bool) (s : Sample) → (T t → Pair b i j (Some s)) → Pair b i j (cond t (Some s) None)
   tested true s f = f tt
   tested false s f = refused
 
-  scaled : (s : Scale) → scale_of b ≡ s → Pair b i j (scaled_of s i j)
-  scaled Nothing e = refused
-  scaled (Levels r) e =
+  scaled : (s : Option UnitRow) → scale_of b ≡ s → Pair b i j (scaled_of s i j)
+  scaled None e = refused
+  scaled (Some r) e =
       let m = leb (nat_abs i) r.limit in
       let n = leb (nat_abs j) r.limit in
       tested (m && n) (At (point_of r.gain i j))
@@ -60,5 +58,5 @@ pairs b i j = pick (eqb b 0) (eqb b 63)
     pick false false = scaled b (signed_of i) (signed_of j) (scale_of b) refl
 
 -- WHAT `sample_at` PROMISES follows from the answer by the kinds of units
-pub sampled : (b i j : ℕ) (r : SampleAnswer) → r ≡ by_unit b i j → Sampled b i j r
+pub sampled : (b i j : ℕ) (r : Option Sample) → r ≡ by_unit b i j → Sampled b i j r
 sampled b i j r e = record { answer = e ∙ by-unit b i j; pair = λ p h. pairs b i j p (sym e ∙ h) }

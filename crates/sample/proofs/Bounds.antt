@@ -1,5 +1,6 @@
 -- A level is an f32 exactly, and the sample of each level of each unit is within one part in 2 ^ 22 of I / √u: one test that antt computes over the table,
 -- and the law that turns it into the bound. Assumes nothing.
+use Rattle.std.specs.Prelude.{Some}
 use mathlib.Core.Path.{◌≡◌, refl, sym, ap, ◌∙◌}
 use mathlib.Core.Bool.{Bool, true, false, ◌&&◌, beq}
 use Prim.Native.Nat.{ℕ, suc, ◌+◌, ◌-◌, ◌*◌, ◌^◌, ◌≤◌, ◌<◌, suc-le-suc}
@@ -17,7 +18,6 @@ use Rattle.base.specs.Signs.{negative}
 use Rattle.base.proofs.Computed.{all_below, below_at, every}
 use Rattle.base.proofs.Fits.{abs8}
 use Rattle.sample.specs.declared.UnitRow.{UnitRow}
-use Rattle.sample.specs.declared.Scale.TheVariants.{Levels}
 use Rattle.sample.specs.Units.{unit_rows, scale_of}
 use Rattle.sample.specs.Answer.{part_of}
 use Rattle.sample.specs.Bound.{WithinBound, Close}
@@ -106,7 +106,7 @@ abbrev limited : UnitRow → Bool
 limited r = leb r.limit (2 ^ 24)
 
 -- THE SAMPLE of each level z up to the limit of its unit's row
-pub sample-of : (b : ℕ) (r : UnitRow) (z : ℤ) → scale_of b ≡ Levels r → nat_abs z ≤ r.limit → Product r.unit r.gain z (part_of r.gain z)
+pub sample-of : (b : ℕ) (r : UnitRow) (z : ℤ) → scale_of b ≡ Some r → nat_abs z ≤ r.limit → Product r.unit r.gain z (part_of r.gain z)
 unfolding scale_of
 sample-of b r z e h =
     record {

@@ -1,4 +1,5 @@
 -- The answer by the kinds of units, as the code finds it, is the answer: refusal 9 phrase by phrase, else what the element means. Assumes nothing.
+use Rattle.std.specs.Prelude.{Option, Some, None}
 use mathlib.Core.Path.{◌≡◌, refl, sym, subst}
 use mathlib.Core.Bool.{Bool, true, false, not, cond, ◌&&◌, ◌||◌, or-false}
 use Prim.Native.Nat.{ℕ}
@@ -6,18 +7,16 @@ use borrow.Author.Tests.{eqb-true}
 use lib.Dec.{leb, eqb}
 use lib.IntN.{ℤ, nat_abs}
 use Rattle.base.specs.Bytes.{signed_of}
+use Rattle.sample.specs.declared.UnitRow.{UnitRow}
 use Rattle.sample.specs.declared.Sample.{Sample}
 use Rattle.sample.specs.declared.Sample.TheVariants.{Silence, Phase, At}
-use Rattle.sample.specs.declared.SampleAnswer.TheVariants.{Is, Refused}
-use Rattle.sample.specs.declared.Scale.{Scale}
-use Rattle.sample.specs.declared.Scale.TheVariants.{Levels, Nothing}
 use Rattle.sample.specs.Units.{scale_of, gain_of}
 use Rattle.sample.specs.Refusal.{has_levels, beyond, no_element}
 use Rattle.sample.specs.Answer.{point_of, sample_of}
 use Rattle.sample.specs.Cases.{scaled_of, by_unit}
 
 -- each kind of unit has a test and a meaning; refused is where the test fails
-tested : (t n : Bool) (s : Sample) → n ≡ not t → cond t (Is s) Refused ≡ cond n Refused (Is s)
+tested : (t n : Bool) (s : Sample) → n ≡ not t → cond t (Some s) None ≡ cond n None (Some s)
 tested true n s e = rw e refl
 tested false n s e = rw e refl
 
@@ -33,12 +32,12 @@ phase : (i j : ℕ) → by_unit 63 i j ≡ sample_of 63 i j
 unfolding scale_of
 phase i j = tested (leb i 62 && eqb j 0) (no_element 63 i j) (Phase i) (simp (or-false, either-not))
 
-levels : (s : Scale) (i j : ℤ) → scaled_of s i j ≡ cond (not (has_levels s) || (beyond s i || beyond s j)) Refused (Is (At (point_of (gain_of s) i j)))
-levels (Levels r) i j =
+levels : (s : Option UnitRow) (i j : ℤ) → scaled_of s i j ≡ cond (not (has_levels s) || (beyond s i || beyond s j)) None (Some (At (point_of (gain_of s) i j)))
+levels (Some r) i j =
     let m = leb (nat_abs i) r.limit in
     let n = leb (nat_abs j) r.limit in
     tested (m && n) (not m || not n) (At (point_of r.gain i j)) (either-not m n)
-levels Nothing i j = refl
+levels None i j = refl
 
 -- THE LAW
 pub by-unit : (b i j : ℕ) → by_unit b i j ≡ sample_of b i j

@@ -1,4 +1,5 @@
 -- The bytes of units differ; three bytes that are an element: those of a unit of the table with levels up to its limit. Assumes nothing.
+use Rattle.std.specs.Prelude.{Option, Some, None}
 use mathlib.Core.Path.{◌≡◌, refl, sym, ap, ◌∙◌}
 use mathlib.Core.Bool.{Bool, true, false, not, ◌&&◌}
 use Prim.Native.Nat.{ℕ, ◌≤◌}
@@ -9,16 +10,14 @@ use lib.IntN.{nat_abs}
 use Rattle.base.specs.Bytes.{signed_of}
 use Rattle.base.proofs.Computed.{every}
 use Rattle.sample.specs.declared.UnitRow.{UnitRow}
-use Rattle.sample.specs.declared.Scale.{Scale}
-use Rattle.sample.specs.declared.Scale.TheVariants.{Levels, Nothing}
 use Rattle.sample.specs.Units.{unit_rows, scale_of}
 use Rattle.sample.specs.Refusal.{no_element}
 use Rattle.sample.proofs.Table.{found, has-byte}
 
 -- each unit has a byte of its own: the row found by it is that unit's
-abbrev is_unit : Scale → ℕ → Bool
-is_unit (Levels r) u = eqb r.unit u
-is_unit Nothing u = false
+abbrev is_unit : Option UnitRow → ℕ → Bool
+is_unit (Some r) u = eqb r.unit u
+is_unit None u = false
 
 pub own-bytes : T (every (λ (r : UnitRow). is_unit (scale_of r.byte) r.unit) unit_rows)
 unfolding scale_of
@@ -32,7 +31,7 @@ is-not : (t : Bool) → T (not t) → t ≡ false
 is-not true h = absurd h
 is-not false h = refl
 
-module _ (b : ℕ) (r : UnitRow) (e : scale_of b ≡ Levels r) where
+module _ (b : ℕ) (r : UnitRow) (e : scale_of b ≡ Some r) where
   pub limit-few : r.limit ≤ 127
   unfolding scale_of
   limit-few = leb→le r.limit 127 (found (λ (x : UnitRow). leb x.limit 127) unit_rows tt b r e)

@@ -1,5 +1,6 @@
 -- The gain of each unit u is the f32 nearest 1 / √u. It is M / 2 ^ k with 2 ^ 23 ≤ M < 2 ^ 24, so an f32 above it is at least (M + 1) / 2 ^ k, and one
 -- below it at most (M - 1) / 2 ^ k or less than 2 ^ 23 / 2 ^ k. The two middles are tested by squares, over the table. Assumes nothing.
+use Rattle.std.specs.Prelude.{Some}
 use mathlib.Core.Path.{◌≡◌, refl, sym, ap, ◌∙◌}
 use mathlib.Core.Logic.{◌⊎◌, inl, inr}
 use mathlib.Core.Bool.{Bool, true, false, not, ◌&&◌}
@@ -31,7 +32,6 @@ use lib.Ieee.Positive.{positive}
 use lib.Ieee.Fits.{and_l, and_r, down_pos}
 use Rattle.base.proofs.Computed.{every}
 use Rattle.sample.specs.declared.UnitRow.{UnitRow}
-use Rattle.sample.specs.declared.Scale.TheVariants.{Levels}
 use Rattle.sample.specs.Units.{unit_rows, scale_of}
 use Rattle.sample.specs.Bound.{NoNearer, Nearest}
 use Rattle.sample.proofs.Squares.{square, double, most-by, least_by, same_by, less_by}
@@ -181,6 +181,6 @@ unfolding of_bits to_bits fits
 passes = tt
 
 -- THE GAIN: of each row
-pub nearest : (b : ℕ) (r : UnitRow) → scale_of b ≡ Levels r → Nearest r.unit r.gain
+pub nearest : (b : ℕ) (r : UnitRow) → scale_of b ≡ Some r → Nearest r.unit r.gain
 unfolding scale_of
 nearest b r e = central-at r.unit r.gain (found (λ r. central r.unit r.gain) unit_rows passes b r e)

@@ -1,13 +1,11 @@
 -- What the promises cite: the sample of an element's three bytes, a unit's, I and J. Quoted words are document 01's, under the heading named.
-use Rattle.std.specs.Prelude.{ℕ, cond, eqb, ℤ, Float}
+use Rattle.std.specs.Prelude.{ℕ, cond, eqb, ℤ, Float, Option, Some, None}
 use Rattle.std.specs.Float.{binary32}
 use Rattle.std.specs.Float.Ieee.{mul, of_int}
 use Rattle.base.specs.Bytes.{signed_of}
 use Rattle.sample.specs.declared.Point.{Point}
 use Rattle.sample.specs.declared.Sample.{Sample}
 use Rattle.sample.specs.declared.Sample.TheVariants.{Silence, Phase, At}
-use Rattle.sample.specs.declared.SampleAnswer.{SampleAnswer}
-use Rattle.sample.specs.declared.SampleAnswer.TheVariants.{Is, Refused}
 use Rattle.sample.specs.Units.{scale_of, gain_of}
 use Rattle.sample.specs.Refusal.{no_element}
 
@@ -23,6 +21,6 @@ point_of gain i j = record { re = part_of gain i; im = part_of gain j }
 abbrev pub meaning_of : ℕ → ℕ → ℕ → Sample
 meaning_of b i j = cond (eqb b 0) Silence (cond (eqb b 63) (Phase i) (At (point_of (gain_of (scale_of b)) (signed_of i) (signed_of j))))
 
--- THE ANSWER for any three bytes. `Refused` is document 01's refusal 9
-abbrev pub sample_of : ℕ → ℕ → ℕ → SampleAnswer
-sample_of b i j = cond (no_element b i j) Refused (Is (meaning_of b i j))
+-- THE ANSWER for any three bytes. `None` is document 01's refusal 9
+abbrev pub sample_of : ℕ → ℕ → ℕ → Option Sample
+sample_of b i j = cond (no_element b i j) None (Some (meaning_of b i j))

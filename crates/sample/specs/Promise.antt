@@ -1,16 +1,14 @@
 -- What the promises cite: the promise of the public call, `sample_at` here and in `mapper`. Quoted words are document 01's, under Samples.
-use Rattle.std.specs.Prelude.{ℕ, ◌≡◌, ℤ, nat_abs, Float}
+use Rattle.std.specs.Prelude.{ℕ, ◌≡◌, ℤ, nat_abs, Float, Option, Some}
 use Rattle.std.specs.Float.{binary32}
 use Rattle.std.specs.Float.Ieee.{of_int}
 use Rattle.std.specs.Float.Ieee.Exact.{HasValue}
 use Rattle.base.specs.Bytes.{signed_of}
 use Rattle.base.specs.Signs.{negative}
+use Rattle.sample.specs.declared.Sample.{Sample}
 use Rattle.sample.specs.declared.Point.{Point}
 use Rattle.sample.specs.declared.UnitRow.{UnitRow}
 use Rattle.sample.specs.declared.Sample.TheVariants.{At}
-use Rattle.sample.specs.declared.SampleAnswer.{SampleAnswer}
-use Rattle.sample.specs.declared.SampleAnswer.TheVariants.{Is}
-use Rattle.sample.specs.declared.Scale.TheVariants.{Levels}
 use Rattle.sample.specs.Units.{scale_of}
 use Rattle.sample.specs.Answer.{part_of, sample_of}
 use Rattle.sample.specs.Bound.{Close, Nearest}
@@ -28,12 +26,12 @@ pub record Product (u : ℕ) (gain : Float) (z : ℤ) (x : Float) : Type 0 where
 -- x and y are the samples of the levels I and J of a byte's unit u: "the gain is the f32 nearest 1/√u, shown by whole-number squares"
 pub record Levelled (b : ℕ) (i j : ℤ) (x y : Float) : Type 0 where
   pub row : UnitRow
-  pub known : scale_of b ≡ Levels row
+  pub known : scale_of b ≡ Some row
   pub nearest : Nearest row.unit row.gain
   pub re : Product row.unit row.gain i x
   pub im : Product row.unit row.gain j y
 
 -- The answer is `sample_of`'s, and a pair of f32 is always such a pair of products.
-pub record Sampled (b i j : ℕ) (r : SampleAnswer) : Type 0 where
+pub record Sampled (b i j : ℕ) (r : Option Sample) : Type 0 where
   pub answer : r ≡ sample_of b i j
-  pub pair : (p : Point) → r ≡ Is (At p) → Levelled b (signed_of i) (signed_of j) p.re p.im
+  pub pair : (p : Point) → r ≡ Some (At p) → Levelled b (signed_of i) (signed_of j) p.re p.im

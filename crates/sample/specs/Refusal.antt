@@ -1,18 +1,17 @@
 -- What the promises cite: refusal 9, phrase by phrase. Quoted words are document 01's, under Refusals. b, i and j are the bytes: a unit's, I and J.
-use Rattle.std.specs.Prelude.{ℕ, Bool, true, false, not, ◌&&◌, ◌||◌, eqb, leb, ℤ, nat_abs}
+use Rattle.std.specs.Prelude.{ℕ, Bool, true, false, not, ◌&&◌, ◌||◌, eqb, leb, ℤ, nat_abs, Option, Some, None}
 use Rattle.base.specs.Bytes.{signed_of}
-use Rattle.sample.specs.declared.Scale.{Scale}
-use Rattle.sample.specs.declared.Scale.TheVariants.{Levels, Nothing}
+use Rattle.sample.specs.declared.UnitRow.{UnitRow}
 use Rattle.sample.specs.Units.{scale_of}
 
 -- whether a byte names a unit of levels, and whether a level is beyond that unit's limit
-abbrev pub has_levels : Scale → Bool
-has_levels (Levels r) = true
-has_levels Nothing = false
+abbrev pub has_levels : Option UnitRow → Bool
+has_levels (Some r) = true
+has_levels None = false
 
-abbrev pub beyond : Scale → ℤ → Bool
-beyond (Levels r) z = not (leb (nat_abs z) r.limit)
-beyond Nothing z = false
+abbrev pub beyond : Option UnitRow → ℤ → Bool
+beyond (Some r) z = not (leb (nat_abs z) r.limit)
+beyond None z = false
 
 -- "9 (sample call only) three bytes that are no element:"
 abbrev pub no_element : ℕ → ℕ → ℕ → Bool

@@ -1,11 +1,9 @@
 -- What the promises cite: THE table of units.
-use Rattle.std.specs.Prelude.{ℕ, false, cond, List, [], ◌∷◌, eqb, pos, Float}
+use Rattle.std.specs.Prelude.{ℕ, false, List, [], ◌∷◌, eqb, pos, Float, find, Option, Some, None}
 use Rattle.std.specs.Float.{fin, binary32}
 use Rattle.std.specs.Float.Ieee.{of_bits}
 use Rattle.base.specs.Bytes.{unit_byte}
 use Rattle.sample.specs.declared.UnitRow.{UnitRow}
-use Rattle.sample.specs.declared.Scale.{Scale}
-use Rattle.sample.specs.declared.Scale.TheVariants.{Levels, Nothing}
 
 -- A row: the unit (document 01's term: u of (I + jJ)/√u) with its byte in the grid, the largest level either way, the bits of the gain, an f32.
 abbrev pub unit_row : ℕ → ℕ → ℕ → UnitRow
@@ -28,14 +26,13 @@ unit_rows =
     ∷ []
 
 -- the first row with the byte
-abbrev pub seek : ℕ → List UnitRow → Scale
-seek b [] = Nothing
-seek b (r ∷ rs) = cond (eqb b r.byte) (Levels r) (seek b rs)
+abbrev pub seek : ℕ → List UnitRow → Option UnitRow
+seek b rs = find (λ (r : UnitRow). eqb r.byte b) rs
 
-unfoldable pub scale_of : ℕ → Scale
+unfoldable pub scale_of : ℕ → Option UnitRow
 scale_of b = seek b unit_rows
 
 -- the gain, and +0 where the byte has no row
-abbrev pub gain_of : Scale → Float
-gain_of (Levels r) = r.gain
-gain_of Nothing = fin false 0 (pos 0)
+abbrev pub gain_of : Option UnitRow → Float
+gain_of (Some r) = r.gain
+gain_of None = fin false 0 (pos 0)

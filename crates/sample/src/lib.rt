@@ -2,7 +2,7 @@
 // A level I of unit u stands for I / √u: I as an f32, exactly, times the gain, the f32 nearest 1 / √u, rounded once.
 #![tactic(auto)]
 
-ghost use Rattle.std.specs.Prelude.{◌≡◌, nat_abs};
+ghost use Rattle.std.specs.Prelude.{◌≡◌};
 ghost use Rattle.std.specs.Float.{binary32};
 ghost use Rattle.std.specs.Float.Ieee.{of_int};
 ghost use Rattle.base.specs.Bytes.{signed_of};
@@ -26,13 +26,6 @@ pub enum Sample {
     At(Point),
 }
 
-// Refused is document 01's refusal 9.
-#[derive(Clone, Copy)]
-pub enum SampleAnswer {
-    Is(Sample),
-    Refused,
-}
-
 // A unit of levels: its byte in the grid, the unit u itself, the largest level either way, and the f32 nearest 1 / √u.
 // Nothing computes with u: it is what the contracts hold the gain and the samples to. Public for the laws of crates above.
 #[derive(Clone, Copy)]
@@ -43,21 +36,13 @@ pub struct UnitRow {
     pub gain: f32,
 }
 
-#[derive(Clone, Copy)]
-pub enum Scale {
-    Levels(UnitRow),
-    Nothing,
-}
-
-const COUNT: usize = 9;
-
 // The largest level either way: in document 01's units, and in the two of 256QAM.
 const LIMIT: u8 = 8;
 
 const LIMIT_256QAM: u8 = 15;
 
 // The table of units. A new unit is a new row here and in specs/Units.antt.
-const ROWS: [UnitRow; COUNT] = [
+const ROWS: [UnitRow; 9] = [
     UnitRow {
         byte: 1,
         unit: 1,
@@ -115,25 +100,10 @@ const ROWS: [UnitRow; COUNT] = [
 ];
 
 // The row of a unit's byte, if it has one.
-fn scale_of(byte: u8) -> Scale
+fn scale_of(byte: u8) -> Option<UnitRow>
     ensures { result ≡ scale_of byte }
 {
-    let mut k = 0;
-    while k < COUNT {
-        let row = ROWS[k];
-        if row.byte == byte {
-            return Scale::Levels(row);
-        }
-        k += 1;
-    }
-    Scale::Nothing
-}
-
-// The size of a level, from its byte.
-fn size(b: u8) -> u8
-    ensures { result ≡ nat_abs (signed_of b) }
-{
-    if b < 128 { b } else { 255 - b + 1 }
+    ROWS.iter().find(|row| row.byte == byte).copied()
 }
 
 // A level as an f32, exactly.
@@ -159,56 +129,35 @@ fn point_of(gain: f32, i: u8, j: u8) -> Point
     }
 }
 
-fn silent(i: u8, j: u8) -> SampleAnswer
+fn silent(i: u8, j: u8) -> Option<Sample>
     ensures { result ≡ silent_of i j }
 {
-    if i != 0 {
-        return SampleAnswer::Refused;
-    }
-    if j != 0 {
-        return SampleAnswer::Refused;
-    }
-    SampleAnswer::Is(Sample::Silence)
+    (i == 0 && j == 0).then_some(Sample::Silence)
 }
 
-fn phase(i: u8, j: u8) -> SampleAnswer
+fn phase(i: u8, j: u8) -> Option<Sample>
     ensures { result ≡ phase_of i j }
 {
-    if 62 < i {
-        return SampleAnswer::Refused;
-    }
-    if j != 0 {
-        return SampleAnswer::Refused;
-    }
-    SampleAnswer::Is(Sample::Phase(i))
+    (i <= 62 && j == 0).then_some(Sample::Phase(i))
 }
 
-fn scaled(s: Scale, i: u8, j: u8) -> SampleAnswer
+fn scaled(s: Option<UnitRow>, i: u8, j: u8) -> Option<Sample>
     ensures { result ≡ scaled_of s (signed_of i) (signed_of j) }
 {
-    match s {
-        Scale::Levels(row) => {
-            if row.limit < size(i) {
-                return SampleAnswer::Refused;
-            }
-            if row.limit < size(j) {
-                return SampleAnswer::Refused;
-            }
-            SampleAnswer::Is(Sample::At(point_of(row.gain, i, j)))
-        }
-        Scale::Nothing => SampleAnswer::Refused,
+    let row = s?;
+    if row.limit < base::signed(i).unsigned_abs() || row.limit < base::signed(j).unsigned_abs() {
+        return None;
     }
+    Some(Sample::At(point_of(row.gain, i, j)))
 }
 
-// The sample of any three bytes of a grid: a unit's byte, I, J. Refused where they are no element.
-pub fn sample_at(byte: u8, i: u8, j: u8) -> SampleAnswer
+// The sample of any three bytes of a grid: a unit's byte, I, J. `None` is document 01's refusal 9: they are no element.
+pub fn sample_at(byte: u8, i: u8, j: u8) -> Option<Sample>
     ensures { Sampled byte i j result }
 {
-    if byte == 0 {
-        return silent(i, j);
+    match byte {
+        0 => silent(i, j),
+        63 => phase(i, j),
+        _ => scaled(scale_of(byte), i, j),
     }
-    if byte == 63 {
-        return phase(i, j);
-    }
-    scaled(scale_of(byte), i, j)
 }

@@ -5,6 +5,7 @@ use mathlib.Core.Path.{◌≡◌, sym, ◌∙◌}
 use mathlib.Core.Bool.{true}
 use mathlib.Core.List.{List}
 use lib.ListN.{take, drop}
+use Rattle.std.specs.declared.result.Result.TheVariants.{Ok as accepted}
 use Rattle.gold.specs.Sequence.{pair_at}
 use Rattle.phich.specs.Spreading.{spread_length}
 use Rattle.phich.specs.Loops.{QuadSums}
@@ -12,7 +13,6 @@ use Rattle.plan.specs.Check.{check_of}
 use Rattle.plan.specs.Fields.{mapping_units}
 use Rattle.plan.specs.CommandLists.{his_of}
 use Rattle.plan.specs.declared.Plan.{Plan}
-use Rattle.plan.specs.declared.Checked.TheVariants.{Plan as accepted}
 use Rattle.layout.specs.declared.Owner.TheVariants.{Pcfich, Phich}
 use Rattle.places.specs.Places.{places_of, owns_at, index_of}
 use Rattle.grid.specs.Writing.{sends, Room}

@@ -7,6 +7,7 @@ use mathlib.Core.List.{List}
 use native.Mathlib.Nat.{add_comm}
 use native.Mathlib.Omega.{arith}
 use lib.ListN.{length}
+use Rattle.std.specs.declared.result.Result.TheVariants.{Ok as accepted}
 use Rattle.base.specs.Bits.{bit_at}
 use Rattle.gold.specs.Sequence.{c, pair_at}
 use Rattle.modulation.specs.Symbols.{unit_of}
@@ -19,7 +20,6 @@ use Rattle.plan.specs.Check.{check_of}
 use Rattle.plan.specs.CommandLists.{users_of, nth_user}
 use Rattle.plan.specs.declared.User.{User}
 use Rattle.plan.specs.declared.Plan.{Plan}
-use Rattle.plan.specs.declared.Checked.TheVariants.{Plan as accepted}
 use Rattle.layout.specs.declared.Owner.TheVariants.{Pbch, User as UserOf}
 use Rattle.counts.specs.Counts.{count_of}
 use Rattle.places.specs.Places.{places_of, owns_at, index_of}

@@ -8,6 +8,7 @@ use native.Mathlib.Nat.{mod-lt, div-lt_iff_lt-mul}
 use native.Mathlib.Omega.{arith}
 use borrow.Author.Tests.{eqb-true}
 use lib.Dec.{eqb}
+use Rattle.std.specs.declared.result.Result.TheVariants.{Ok as accepted}
 use Rattle.base.specs.declared.Pair.{Pair}
 use Rattle.precoding.specs.Layers.{Occurs}
 use Rattle.precoding.specs.Matrices.{precoded}
@@ -15,7 +16,6 @@ use Rattle.precoding.specs.Places.{own_port, other_port, placed}
 use Rattle.precoding.proofs.Diversity.{by_place, same-elements}
 use Rattle.plan.specs.Check.{check_of}
 use Rattle.plan.specs.declared.Plan.{Plan}
-use Rattle.plan.specs.declared.Checked.TheVariants.{Plan as accepted}
 use Rattle.layout.specs.Owners.{GridPlace}
 use Rattle.layout.specs.declared.Owner.{Owner}
 use Rattle.counts.specs.Counts.{count_of}

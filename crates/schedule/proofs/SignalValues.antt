@@ -3,11 +3,11 @@ use Prim.Native.Nat.{ℕ, ◌+◌, ◌-◌, ◌*◌, ◌/◌, ◌%◌}
 use mathlib.Core.Path.{◌≡◌, sym, ap, ◌∙◌}
 use mathlib.Core.Bool.{true}
 use mathlib.Core.List.{List}
+use Rattle.std.specs.declared.result.Result.TheVariants.{Ok as accepted}
 use Rattle.gold.specs.Sequence.{pair_at}
 use Rattle.crs.specs.Crs.{crs_init}
 use Rattle.plan.specs.Check.{check_of}
 use Rattle.plan.specs.declared.Plan.{Plan}
-use Rattle.plan.specs.declared.Checked.TheVariants.{Plan as accepted}
 use Rattle.layout.specs.Rules.{slot_of, in_slot, marked}
 use Rattle.layout.specs.Owners.{owns}
 use Rattle.layout.specs.declared.Mark.TheVariants.{Primary, Secondary}

@@ -6,6 +6,7 @@ use native.Mathlib.Omega.{arith}
 use lib.ListN.{drop}
 use types.Run.{OneOf}
 use denote.Enum.Declared.{tag_of}
+use Rattle.std.specs.declared.result.Result.TheVariants.{Ok as accepted}
 use Rattle.plan.specs.Check.{check_of}
 use Rattle.plan.specs.Commands.{user_of}
 use Rattle.plan.specs.Fields.{mapping_units}
@@ -13,7 +14,6 @@ use Rattle.plan.specs.Lists.{one_of}
 use Rattle.plan.specs.CommandLists.{next_of, nth_user}
 use Rattle.plan.specs.declared.Plan.{Plan}
 use Rattle.plan.specs.declared.User.{User}
-use Rattle.plan.specs.declared.Checked.TheVariants.{Plan as accepted}
 use Rattle.plan.proofs.Counts.{units-most, his-most, users-most}
 use Rattle.plan.proofs.OneOf.{not_in}
 use Rattle.plan.proofs.Valid.{valid}

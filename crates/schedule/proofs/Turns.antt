@@ -7,6 +7,7 @@ use native.Mathlib.Omega.{arith}
 use borrow.Author.Tests.{lt-ltb, le-ltb, ltb-true, ltb-false}
 use lib.Dec.{ltb}
 use lib.ListN.{length, drop}
+use Rattle.std.specs.declared.result.Result.TheVariants.{Ok as accepted}
 use Rattle.base.proofs.Tests.{on-if}
 use Rattle.plan.specs.Check.{check_of}
 use Rattle.plan.specs.Commands.{user_of}
@@ -15,7 +16,6 @@ use Rattle.plan.specs.CommandLists.{next_of, users_of, nth_user}
 use Rattle.plan.specs.Valid.{CellIn, FrameIn}
 use Rattle.plan.specs.declared.Plan.{Plan}
 use Rattle.plan.specs.declared.User.{User}
-use Rattle.plan.specs.declared.Checked.TheVariants.{Plan as accepted}
 use Rattle.plan.proofs.Valid.{valid}
 use Rattle.layout.specs.declared.Mark.TheVariants.{Primary, Secondary}
 use Rattle.payload.specs.Sections.{section_bytes}

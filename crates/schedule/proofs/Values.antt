@@ -7,6 +7,7 @@ use mathlib.Core.List.{List}
 use native.Mathlib.Omega.{arith}
 use borrow.Author.Tests.{eqb-true}
 use lib.ListN.{take, drop}
+use Rattle.std.specs.declared.result.Result.TheVariants.{Ok as accepted}
 use Rattle.base.specs.Bits.{bit_at}
 use Rattle.phich.specs.Spreading.{spread_length}
 use Rattle.phich.specs.Loops.{QuadSums}
@@ -14,7 +15,6 @@ use Rattle.plan.specs.Check.{check_of}
 use Rattle.plan.specs.CommandLists.{his_of}
 use Rattle.plan.specs.declared.Plan.{Plan}
 use Rattle.plan.specs.declared.User.{User}
-use Rattle.plan.specs.declared.Checked.TheVariants.{Plan as accepted}
 use Rattle.layout.specs.declared.Mark.TheVariants.{Primary, Secondary}
 use Rattle.layout.specs.declared.Owner.TheVariants as owner
 use Rattle.counts.specs.Counts.{count_of}

@@ -1,10 +1,9 @@
 -- For the inner contracts and loops only: the cursor over the schedule. It has the number of the turn, the position of the next user's command
 -- in the plan, and the byte of the payload at which the next user's section starts.
-use Rattle.std.specs.Prelude.{ℕ, ◌+◌, ◌-◌, ◌≤◌, ◌<◌, ◌≡◌, List, length, drop}
+use Rattle.std.specs.Prelude.{ℕ, ◌+◌, ◌-◌, ◌≤◌, ◌<◌, ◌≡◌, List, length, drop, Ok as accepted}
 use Rattle.plan.specs.Check.{check_of}
 use Rattle.plan.specs.CommandLists.{users_from, users_of}
 use Rattle.plan.specs.declared.Plan.{Plan}
-use Rattle.plan.specs.declared.Checked.TheVariants.{Plan as accepted}
 use Rattle.payload.specs.Sections.{start_of}
 use Rattle.payload.specs.Payload.{heads, sections, users_start}
 use Rattle.schedule.specs.Schedule.{signal_turns, users_first, channel_count, channel_at, section_of}

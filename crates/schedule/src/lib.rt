@@ -56,6 +56,7 @@ pub fn count(p: Plan) -> usize
 }
 
 // The first turn.
+#[tactic(auto, unfolding(crate::specs::Cursor::first_turn))]
 pub fn first(p: Plan) -> Turn
     ensures { result ≡ first_turn p }
 {
@@ -67,13 +68,13 @@ pub fn first(p: Plan) -> Turn
 }
 
 // The first turn after the reference signals.
+#[tactic(auto, unfolding(crate::specs::Cursor::later_turn))]
 pub fn after_signals(p: Plan) -> Turn
     ensures { result ≡ later_turn p }
 {
     Turn {
         number: layout::symbols(p.cell),
-        at: p.users.at,
-        start: payload::users_start(p),
+        ..first(p)
     }
 }
 
@@ -110,19 +111,15 @@ pub fn channel_at(plan: &[u8], p: Plan, turn: Turn) -> Channel
 }
 
 // Whether a reference signal stands in symbol s: that of ports 0 and 1 or, with four ports, that of ports 2 and 3.
+#[tactic(auto, unfolding(signals::specs::Signals::signalled))]
 fn is_signalled(cell: Cell, s: usize) -> bool
     ensures { result ≡ signalled cell s }
 {
-    if layout::crs_uses(cell, 0, s) {
-        return true;
-    }
-    if cell.ports == 4 {
-        return layout::crs_uses(cell, 2, s);
-    }
-    false
+    layout::crs_uses(cell, 0, s) || (cell.ports == 4 && layout::crs_uses(cell, 2, s))
 }
 
 // Whether the subframe has the channel.
+#[tactic(auto, unfolding(crate::specs::Schedule::present_in))]
 pub fn present(p: Plan, ch: Channel) -> bool
     ensures { result ≡ present_in p ch }
 {
@@ -130,31 +127,28 @@ pub fn present(p: Plan, ch: Channel) -> bool
         Channel::Crs(s) => is_signalled(p.cell, base::wide(s)),
         Channel::Sync(_) => layout::is_marked(p.frame),
         Channel::Pbch => p.frame.subframe == 0,
-        Channel::Pcfich => true,
-        Channel::Phich(_) => true,
-        Channel::User(_) => true,
+        Channel::Pcfich | Channel::Phich(_) | Channel::User(_) => true,
     }
 }
 
 // The section of a channel, empty for one without bits. All PHICH units share the HIs' section. No payload is longer than the bound.
+#[tactic(auto, unfolding(crate::specs::Schedule::section_of))]
 pub fn section_of(p: Plan, shape: Shape, start: usize, ch: Channel) -> Section
     requires { (shape ≡ shape_of p.cell p.frame) × (start ≤ 4294967296) }
     ensures { result ≡ section_of p start ch }
 {
     match ch {
-        Channel::Crs(_) => Section { start: 0, end: 0 },
-        Channel::Sync(_) => Section { start: 0, end: 0 },
+        Channel::Crs(_) | Channel::Sync(_) | Channel::Pcfich => Section { start: 0, end: 0 },
         Channel::Pbch => Section {
             start: 0,
             end: payload::section_bytes(payload::pbch_bits(p.cell, p.frame)),
         },
-        Channel::Pcfich => Section { start: 0, end: 0 },
         Channel::Phich(_) => Section {
             start: payload::section_bytes(payload::pbch_bits(p.cell, p.frame)),
             end: payload::users_start(p),
         },
         Channel::User(u) => Section {
-            start: start,
+            start,
             end: start + payload::section_bytes(payload::user_bits(p.cell, shape, u)),
         },
     }
@@ -169,8 +163,7 @@ pub fn next(plan: &[u8], turn: Turn, ch: Channel, end: usize) -> Turn
     let Channel::User(_) = ch else {
         return Turn {
             number: turn.number + 1,
-            at: turn.at,
-            start: turn.start,
+            ..turn
         };
     };
     Turn {
@@ -223,6 +216,7 @@ fn pbch_first(cell: Cell, frame: Frame) -> usize
 }
 
 // The c_init of a channel. Callers have the plan from the plan check.
+#[tactic(auto, unfolding(crate::specs::Schedule::init_of))]
 fn c_init(p: Plan, ch: Channel) -> u32
     requires { CellIn p.cell × FrameIn p.frame × Among p ch }
     ensures { result ≡ init_of p ch }
@@ -233,13 +227,13 @@ fn c_init(p: Plan, ch: Channel) -> u32
         Channel::Crs(s) => crs_init(cell, frame, s),
         Channel::Sync(_) => 0,
         Channel::Pbch => cell.identity as u32,
-        Channel::Pcfich => control_init(cell, frame),
-        Channel::Phich(_) => control_init(cell, frame),
+        Channel::Pcfich | Channel::Phich(_) => control_init(cell, frame),
         Channel::User(u) => user_init(cell, frame, u),
     }
 }
 
 // The bit of its sequence at which the channel starts. Callers have the plan from the plan check: at most 100 blocks.
+#[tactic(auto, unfolding(crate::specs::Schedule::first_bit))]
 fn first_bit(p: Plan, ch: Channel) -> usize
     requires { CellIn p.cell }
     ensures { result ≡ first_bit p ch }
@@ -248,11 +242,8 @@ fn first_bit(p: Plan, ch: Channel) -> usize
     let frame = p.frame;
     match ch {
         Channel::Crs(_) => 2 * (110 - base::wide(cell.blocks)),
-        Channel::Sync(_) => 0,
         Channel::Pbch => pbch_first(cell, frame),
-        Channel::Pcfich => 0,
-        Channel::Phich(_) => 0,
-        Channel::User(_) => 0,
+        Channel::Sync(_) | Channel::Pcfich | Channel::Phich(_) | Channel::User(_) => 0,
     }
 }
 

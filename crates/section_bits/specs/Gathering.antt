@@ -6,7 +6,7 @@ use Rattle.gold.specs.Steps.{after}
 use Rattle.gold.specs.Wide.{wide_of}
 use Rattle.codeword.specs.Codewords.{scrambled}
 use Rattle.codeword.specs.Streams.{outputs}
-use Rattle.codeword.specs.Bits48.{wide_in}
+use Rattle.section_bits.specs.declared.SectionBits.{SectionBits}
 
 -- ---- bytes
 -- two and four bytes of a number in a list
@@ -28,47 +28,46 @@ abbrev pub Bits : (ℕ → ℕ) → Type 0
 Bits x = (i : ℕ) → x i < 2
 
 -- ---- the state: so many bits are taken in, and the last of them, fewer than 48, are held
-abbrev pub bits_in : List ℕ → ℕ
-bits_in st = 8 * get_or st 2 0 + get_or st 4 0
+abbrev pub bits_in : SectionBits → ℕ
+bits_in st = 8 * st.at + st.held
 
-pub record State (st : List ℕ) : Type 0 where
-  pub size : length st ≡ 8
-  pub few : get_or st 4 0 < 48
-  pub whole : get_or st 2 0 % 6 ≡ 0
+pub record State (st : SectionBits) : Type 0 where
+  pub few : st.held < 48
+  pub whole : st.at % 6 ≡ 0
 
 -- they are those of b, and what the pair r gives is taken off those that are put
-pub record Gathered (b : ℕ → ℕ) (r : Registers) (st part : List ℕ) : Type 0 where
-  pub pair : wide_in st ≡ wide_of (after r (8 * get_or st 2 0))
-  pub held : get_or st 3 0 % 2 ^ get_or st 4 0 ≡ binary b (8 * get_or st 2 0) (get_or st 4 0)
-  pub bytes : Bytes (scrambled b (outputs r)) (get_or st 2 0) part
+pub record Gathered (b : ℕ → ℕ) (r : Registers) (st : SectionBits) (part : List ℕ) : Type 0 where
+  pub pair : st.wide ≡ wide_of (after r (8 * st.at))
+  pub held : st.word % 2 ^ st.held ≡ binary b (8 * st.at) st.held
+  pub bytes : Bytes (scrambled b (outputs r)) st.at part
 
 -- what `begin` gives
-pub record Begun (r : Registers) (st : List ℕ) : Type 0 where
+pub record Begun (r : Registers) (st : SectionBits) : Type 0 where
   pub state : State st
   pub none : bits_in st ≡ 0
   pub gathered : (b : ℕ → ℕ) (part : List ℕ) → Gathered b r st part
 
 -- what `put48` gives: six bytes more, and the pair after them
-pub record Puts48 (v : ℕ) (st part st' part' : List ℕ) : Type 0 where
-  pub state-size : length st' ≡ length st
+pub record Puts48 (v : ℕ) (st : SectionBits) (part : List ℕ) (st' : SectionBits) (part' : List ℕ) : Type 0 where
   pub size : length part' ≡ length part
-  pub byte : get_or st' 2 0 ≡ get_or st 2 0 + 6
-  pub kept : (i : ℕ) → 3 ≤ i → get_or st' i 0 ≡ get_or st i 0
+  pub byte : st'.at ≡ st.at + 6
+  pub word : st'.word ≡ st.word
+  pub held : st'.held ≡ st.held
   pub puts :
-      (b : ℕ → ℕ) (r : Registers) → Bits b → v ≡ binary b (8 * get_or st 2 0) 48 → wide_in st ≡ wide_of (after r (8 * get_or st 2 0))
-      → Bytes (scrambled b (outputs r)) (get_or st 2 0) part
-      → (wide_in st' ≡ wide_of (after r (8 * get_or st 2 0 + 48))) × Bytes (scrambled b (outputs r)) (get_or st 2 0 + 6) part'
+      (b : ℕ → ℕ) (r : Registers) → Bits b → v ≡ binary b (8 * st.at) 48 → st.wide ≡ wide_of (after r (8 * st.at))
+      → Bytes (scrambled b (outputs r)) st.at part
+      → (st'.wide ≡ wide_of (after r (8 * st.at + 48))) × Bytes (scrambled b (outputs r)) (st.at + 6) part'
 
 -- what `give` needs: the section has n bits more, and the word has room for them
-pub record GiveIn (n v : ℕ) (st part : List ℕ) : Type 0 where
+pub record GiveIn (n v : ℕ) (st : SectionBits) (part : List ℕ) : Type 0 where
   pub state : State st
-  pub fits : get_or st 4 0 + n ≤ 64
+  pub fits : st.held + n ≤ 64
   pub most : n ≤ 48
   pub value : v < 2 ^ n
   pub room : bits_in st + n ≤ 8 * length part
 
 -- and what it gives
-pub record Gives (n v : ℕ) (st part st' part' : List ℕ) : Type 0 where
+pub record Gives (n v : ℕ) (st : SectionBits) (part : List ℕ) (st' : SectionBits) (part' : List ℕ) : Type 0 where
   pub state : State st'
   pub size : length part' ≡ length part
   pub taken : bits_in st' ≡ bits_in st + n
@@ -89,7 +88,7 @@ pub record PutLast (v at : ℕ) (before after' : List ℕ) : Type 0 where
       → Bytes x (length before) after'
 
 -- the bytes of all bits that were taken in, with zeros after them
-pub record Flushed (st before after' : List ℕ) : Type 0 where
+pub record Flushed (st : SectionBits) (before after' : List ℕ) : Type 0 where
   pub size : length after' ≡ length before
   pub bytes :
       (b : ℕ → ℕ) (r : Registers) → Bits b → length before ≡ (bits_in st + 7) / 8 → Gathered b r st before

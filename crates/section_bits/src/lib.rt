@@ -2,12 +2,12 @@
 // time.
 #![tactic(auto)]
 
-ghost use Rattle.std.specs.Prelude.{◌≡◌, ◌+◌, ◌^◌, ◌≤◌, ◌<◌, length, get_or};
+ghost use Rattle.std.specs.Prelude.{◌≡◌, ◌+◌, ◌^◌, ◌≤◌, ◌<◌, length};
 ghost use Rattle.section_bits.specs.Gathering.{with_four, with_two, Puts48, Begun, GiveIn, Gives, PutLast, State, Flushed};
 
 use gold::{Registers, Wide};
 
-// Bytes of a word, its highest first.
+// Bytes of a word, its highest first: `to_be_bytes` with a store for each byte is no plainer.
 fn put_two(part: &mut [u8], at: usize, v: u32)
     requires { at + 1 < length part.old }
     ensures { part.new ≡ with_two v at part.old }
@@ -24,48 +24,71 @@ fn put_four(part: &mut [u8], at: usize, v: u32)
     put_two(part, at + 2, v);
 }
 
-// The state of a section, for an array that is lent: the 64 values of x1 and of x2 where the next byte begins, that byte, and a word whose
-// lowest bits are read and not put, and how many they are. The other three are its holder's.
-pub fn begin(r: Registers) -> [u64; 8]
-    ensures { Begun r result }
-{
-    let w = gold::widen(r);
-    [w.x1, w.x2, 0, 0, 0, 0, 0, 0]
+// A section that is being filled: the 64 values of x1 and of x2 where the next byte begins, that byte, and a word whose lowest bits are read and
+// not put, and how many they are. It is lent: by value it would be copied at each call that is not inlined.
+#[derive(Clone, Copy)]
+pub struct SectionBits {
+    pub wide: Wide,
+    pub at: usize,
+    pub word: u64,
+    pub held: u64,
 }
 
-// The next 48 bits, as six bytes.
-fn put48(st: &mut [u64; 8], v: u64, part: &mut [u8])
-    requires { (length st.old ≡ 8) × (get_or st.old 2 0 + 6 ≤ length part.old) }
-    ensures { Puts48 v st.old part.old st.new part.new }
-{
-    let a = st[0];
-    let b = st[1];
-    let at = st[2] as usize;
-    let w = Wide { x1: a, x2: b };
-    let x = v ^ gold::word48(w);
-    let next = gold::advance48(w);
-    put_four(part, at, (x / 65536 % 4294967296) as u32);
-    st[2] = (at + 6) as u64;
-    put_two(part, at + 4, (x % 65536) as u32);
-    st[0] = next.x1;
-    st[1] = next.x2;
-}
-
-// n bits more, which are v. Callers have so many bits left in the section, and give them in groups that 48 bits are whole groups of.
-pub fn give(st: &mut [u64; 8], n: u64, v: u64, part: &mut [u8])
-    requires { GiveIn n v st.old part.old }
-    ensures { Gives n v st.old part.old st.new part.new }
-{
-    let word = (st[3] << n) + v;
-    let got = st[4] + n;
-    st[3] = word;
-    if got < 48 {
-        st[4] = got;
-        return;
+impl SectionBits {
+    pub fn begin(r: Registers) -> Self
+        ensures { Begun r result }
+    {
+        Self {
+            wide: gold::widen(r),
+            at: 0,
+            word: 0,
+            held: 0,
+        }
     }
-    let left = got - 48;
-    st[4] = left;
-    put48(st, (word >> left) % 281474976710656, part);
+
+    // The next 48 bits, as six bytes.
+    fn put48(&mut self, v: u64, part: &mut [u8])
+        requires { self.old.at + 6 ≤ length part.old }
+        ensures { Puts48 v self.old part.old self.new part.new }
+    {
+        let at = self.at;
+        let x = v ^ gold::word48(self.wide);
+        self.wide = gold::advance48(self.wide);
+        put_four(part, at, (x / 65536 % 4294967296) as u32);
+        self.at = at + 6;
+        put_two(part, at + 4, (x % 65536) as u32);
+    }
+
+    // n bits more, which are v. Callers have so many bits left in the section, and give them in groups that 48 bits are whole groups of.
+    pub fn give(&mut self, n: u64, v: u64, part: &mut [u8])
+        requires { GiveIn n v self.old part.old }
+        ensures { Gives n v self.old part.old self.new part.new }
+    {
+        let word = (self.word << n) + v;
+        let got = self.held + n;
+        self.word = word;
+        if got < 48 {
+            self.held = got;
+            return;
+        }
+        let left = got - 48;
+        self.held = left;
+        self.put48((word >> left) % 281474976710656, part);
+    }
+
+    // The bits that are still held, as the last bytes, filled with zeros.
+    pub fn flush(&self, part: &mut [u8])
+        requires { State self.now }
+        ensures { Flushed self.now part.old part.new }
+    {
+        let got = self.held;
+        if got == 0 {
+            return;
+        }
+        let sequence = gold::word48(self.wide) >> (48 - got);
+        let bits = self.word % power(got) ^ sequence;
+        put_last(part, self.at, bits << (48 - got));
+    }
 }
 
 // 2 to the power n.
@@ -81,27 +104,8 @@ fn put_last(part: &mut [u8], start: usize, bits: u64)
     ensures { PutLast bits start part.old part.new }
 {
     let mut v = bits;
-    let mut at = start;
-    while at < part.len() {
+    for at in start..part.len() {
         part[at] = (v / 1099511627776 % 256) as u8;
         v = v % 1099511627776 * 256;
-        at += 1;
     }
-}
-
-// The bits that are still held, as the last bytes, filled with zeros.
-pub fn flush(st: &[u64; 8], part: &mut [u8])
-    requires { State st.now }
-    ensures { Flushed st.now part.old part.new }
-{
-    let got = st[4];
-    if got == 0 {
-        return;
-    }
-    let a = st[0];
-    let b = st[1];
-    let sequence = gold::word48(Wide { x1: a, x2: b }) >> (48 - got);
-    let at = st[2] as usize;
-    let bits = st[3] % power(got) ^ sequence;
-    put_last(part, at, bits << (48 - got));
 }

@@ -3,11 +3,10 @@ use Prim.Native.Nat.{ℕ, zero, suc, ◌+◌, ◌-◌, ◌*◌, ◌/◌, ◌%◌
 use mathlib.Core.Path.{◌≡◌, refl, sym, ◌∙◌}
 use mathlib.Core.Logic.{◌⊎◌, inl, inr}
 use mathlib.Core.Bool.{true, false, ◌&&◌, ◌||◌}
-use mathlib.Core.List.{List}
+use mathlib.Core.List.{List, [], ◌∷◌}
 use native.Mathlib.Decide.{ℕ_discrete}
 use native.Mathlib.Omega.{arith}
 use lib.Dec.{eqb, ltb}
-use lib.ListN.{length}
 use borrow.Author.Tests.{eq-eqb, eqb-true, lt-ltb, ltb-true}
 use Rattle.base.proofs.Tests.{by-test, both, or_cases, or_left, or_right, same_test}
 use Rattle.base.proofs.Rows.{row_inside}
@@ -22,8 +21,9 @@ use Rattle.places.specs.Places.{symbol_at, carrier_at, places_of}
 use Rattle.plan.proofs.Counts.{blocks-least}
 use Rattle.grid.proofs.Accumulating.{Deed, Step, Accumulates}
 use Rattle.signals.specs.Signals.{port_sends, signalled, crs_port, crs_sends, crs_sent}
-use Rattle.signals.specs.Rows.{SymbolIn, crs_place, every_sixth, pair_sent, on_first, on_both}
+use Rattle.signals.specs.Rows.{SymbolIn, crs_place, every_sixth, pair_sent, on_first, on_both, on_each, EachIn}
 use Rattle.signals.proofs.Stretches.{sixth-of, on-first, on-second, sixth-both}
+use Rattle.signals.proofs.ValueByValue.{each-one}
 use Rattle.signals.proofs.Numbers.{crs-inside, port-elements, port-values}
 
 -- what it says of an element that a port's signal, or a symbol's, stands there
@@ -117,13 +117,13 @@ module _ {c : Cell} {s : ℕ} {g : List ℕ} (ready : SymbolIn c s g) {q : ℕ} 
 
   -- ---- what is done from the first elements on, inside the grid, is done in the symbol
   module _ {first N : ℕ} (ef : first ≡ crs_place c s q) (eN : N ≡ c.blocks) where
-    pub one_inside : 3 * (first + 6 * (2 * N)) + 2 < length g + 18
-    one_inside = crs-inside first-port ef eN ready.room
+    pub one_inside : EachIn (first ∷ []) (2 * N) g
+    one_inside = record { ports = inl refl; apart = λ z. absurd (let no : ⊥ = omega arith in no); inside = crs-inside first-port ef eN ready.room }
 
     pub one-done :
         {X : Type 0} {Done : Deed X} {Also : Step X} {none x : X} → Accumulates Done Also none → (r : Registers) → c.ports ≡ 1
-        → Done (every_sixth first (2 * N)) (pair_sent r first) x → Done (crs_sends c s) (crs_sent c r) x
-    one-done A r n d = A.same (λ e. port-elements first-port ef eN e ∙ on_one n e) (port-values first-port ef eN r) d
+        → Done (on_each (first ∷ []) (every_sixth first (2 * N))) (on_each (first ∷ []) (pair_sent r first)) x → Done (crs_sends c s) (crs_sent c r) x
+    one-done A r n d = A.same (λ e. port-elements first-port ef eN e ∙ on_one n e) (port-values first-port ef eN r) (each-one (first ∷ []) A refl d)
 
     module _ (n : c.ports ≡ 1 → ⊥) {second : ℕ} (es : second ≡ crs_place c s (q + 1)) where
       apart : first + 6 * (2 * N) ≤ second
@@ -133,8 +133,8 @@ module _ {c : Cell} {s : ℕ} {g : List ℕ} (ready : SymbolIn c s g) {q : ℕ} 
           let next : (q + 1) * places_of c ≡ q * places_of c + places_of c = omega arith in
           omega (arith, blocks-least c ready.cell)
 
-      pub both-inside : (first + 6 * (2 * N) ≤ second) × (3 * (second + 6 * (2 * N)) + 2 < length g + 18)
-      both-inside = (apart, crs-inside (second-port n) es eN ready.room)
+      pub both-inside : EachIn (first ∷ second ∷ []) (2 * N) g
+      both-inside = record { ports = inr refl; apart = λ z. apart; inside = crs-inside (second-port n) es eN ready.room }
 
       pub both-done :
           {X : Type 0} {Done : Deed X} {Also : Step X} {none x : X} → Accumulates Done Also none → (r : Registers)

@@ -9,6 +9,7 @@ use native.Mathlib.Omega.{arith}
 use lib.Dec.{eqb, ltb}
 use lib.IntN.{pos}
 use borrow.Author.Tests.{eq-eqb, eqb-true, lt-ltb, ltb-true, ltb-false}
+use Rattle.std.specs.declared.result.Result.TheVariants.{Ok as accepted}
 use Rattle.base.proofs.Tests.{both, by-test, or_left, or_right}
 use Rattle.base.specs.Signs.{flip}
 use Rattle.base.specs.Bytes.{element_of}
@@ -24,7 +25,6 @@ use Rattle.plan.specs.Fields.{port_counts}
 use Rattle.plan.specs.Valid.{CellIn}
 use Rattle.plan.specs.declared.Cell.{Cell}
 use Rattle.plan.specs.declared.Plan.{Plan}
-use Rattle.plan.specs.declared.Checked.TheVariants.{Plan as accepted}
 use Rattle.plan.proofs.Valid.{valid}
 use Rattle.plan.proofs.Listed.{and_left, and_right}
 use Rattle.layout.specs.Rules.{slot_length, slot_of, in_slot, crs_symbol, crs_shift, stands_at, crs_of, crs, marked, used, pss, sss}

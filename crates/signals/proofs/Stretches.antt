@@ -1,6 +1,6 @@
 -- Elements by their numbers: every sixth from a first one on, on one port or on two, and all from a first one on. Assumes nothing.
 use Prim.Native.Nat.{ℕ, ◌+◌, ◌-◌, ◌*◌, ◌/◌, ◌%◌, ◌≤◌, ◌<◌}
-use mathlib.Core.Path.{◌≡◌, refl, sym, ◌∙◌}
+use mathlib.Core.Path.{◌≡◌, refl, ◌∙◌}
 use mathlib.Core.Logic.{◌⊎◌, inl, inr}
 use mathlib.Core.Bool.{true, false, ◌&&◌, ◌||◌}
 use native.Mathlib.Decide.{dec_le}
@@ -73,6 +73,14 @@ pub on-first : (first second e : ℕ) → e < second → on_first first second e
 unfolding on_first
 on-first first second e l = rw (lt-leb second e l) refl
 
+-- on one port
+pub on-own : (first e : ℕ) → on_first first first e ≡ e
+on-own first e = pick (dec_le first e)
+  where
+    pick : Dec (first ≤ e) → on_first first first e ≡ e
+    pick (yes l) = let j : first + (e - first) ≡ e = omega arith in on-second first first e l ∙ j
+    pick (no l) = on-first first first e (omega arith)
+
 -- n elements from f and from s on, which lie as far past `first` and `second`; those from f on end before `second`
 module _ (first second f s n e : ℕ) (past : first ≤ f) (alike : f + second ≡ s + first) (before : f + 6 * n ≤ second) where
   pub sixth-both : every_sixth f n (on_first first second e) ≡ every_sixth s n e || every_sixth f n e
@@ -92,20 +100,6 @@ module _ (first second f s n e : ℕ) (past : first ≤ f) (alike : f + second �
           let d = sixth-of s n e h in
           rw (on-second first second e (omega arith)) (sixth-is f n (first + (e - second)) (omega arith) (omega arith) (omega arith))
       up (inr h) = let d = sixth-of f n e h in rw (on-first first second e (omega arith)) h
-
--- so it is the same to count from f and s
-pub sixth-like : (first second f s n e : ℕ) → first ≤ f → f + second ≡ s + first → f + 6 * n ≤ second
-    → (every_sixth f n (on_first f s e) ≡ every_sixth f n (on_first first second e)) × (every_sixth f n (on_first f s e) ≡ true → on_first f s e ≡ on_first first second e)
-sixth-like first second f s n e past alike before =
-    let own = sixth-both f s f s n e (omega arith) (omega arith) (omega arith) in
-    (own ∙ sym (sixth-both first second f s n e past alike before), λ h. by (or_cases (every_sixth s n e) (every_sixth f n e) (sym own ∙ h)))
-  where
-    by : (every_sixth s n e ≡ true) ⊎ (every_sixth f n e ≡ true) → on_first f s e ≡ on_first first second e
-    by (inl h) =
-        let d = sixth-of s n e h in
-        let j : f + (e - s) ≡ first + (e - second) = omega arith in
-        on-second f s e d.0 ∙ j ∙ sym (on-second first second e (omega arith))
-    by (inr h) = let d = sixth-of f n e h in on-first f s e (omega arith) ∙ sym (on-first first second e (omega arith))
 
 -- one element on either
 pub one-both : (first second f s e : ℕ) → first ≤ f → f + second ≡ s + first → f + 6 ≤ second → eqb f (on_first first second e) ≡ eqb s e || eqb f e
@@ -143,3 +137,6 @@ row_one first i e =
 
 pub row-past : (first i e : ℕ) → in_row first i e ≡ true → eqb (first + i) e ≡ true → ⊥
 row-past first i e h k = let a = row_of first i e h in let b = eqb-true (first + i) e k in omega arith
+
+pub row_in : (first n i e : ℕ) → i < n → eqb (first + i) e ≡ true → in_row first n e ≡ true
+row_in first n i e l h = let d = eqb-true (first + i) e h in row_is first n e (omega arith) (omega arith)

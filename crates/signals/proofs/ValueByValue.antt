@@ -2,7 +2,12 @@
 use Prim.Native.Nat.{ℕ, ◌+◌, ◌-◌, ◌*◌, ◌/◌, ◌%◌, ◌^◌, ◌≤◌, ◌<◌}
 use mathlib.Core.Path.{◌≡◌, refl, sym, ap, ◌∙◌}
 use native.Mathlib.Omega.{arith}
+use mathlib.Core.Logic.{◌⊎◌, inl, inr}
+use mathlib.Core.Bool.{Bool, true, false, ◌||◌}
+use mathlib.Core.List.{List}
 use lib.Dec.{eqb}
+use lib.ListN.{length, get_or}
+use Rattle.base.proofs.Tests.{clash}
 use borrow.Author.Tests.{eqb-true}
 use Rattle.base.specs.declared.Pair.{Pair}
 use Rattle.base.specs.declared.Element.{Element}
@@ -12,8 +17,8 @@ use Rattle.gold.specs.Steps.{after, word_of}
 use Rattle.gold.proofs.Laws.{after_none}
 use Rattle.crs.specs.Crs.{word_value}
 use Rattle.grid.proofs.Accumulating.{Deed, Step, Accumulates, empty}
-use Rattle.signals.specs.Rows.{every_sixth, word_sent, pair_sent, on_first, on_both, in_row}
-use Rattle.signals.proofs.Stretches.{sixth-none, sixth-more, sixth-one, sixth-apart, sixth-past, sixth-like, one-both, row-none, row_one, row-past}
+use Rattle.signals.specs.Rows.{every_sixth, word_sent, pair_sent, on_first, on_both, first_of, last_of, on_each, EachIn, in_row}
+use Rattle.signals.proofs.Stretches.{sixth-none, sixth-more, sixth-one, sixth-apart, sixth-past, one-both, on-own, row-none, row_one, row-past}
 use Rattle.signals.proofs.Values.{word_value_lem, pair-value, pair-next}
 
 -- the first i of the n values of one word
@@ -99,14 +104,66 @@ module _ (first second : ℕ) {X : Type 0} {Done : Deed X} {Also : Step X} {none
       A.more (λ e h t. let a = eqb-true (first + 6 * i) e h in let b = eqb-true (second + 6 * i) e t in omega arith) d also (λ e t. refl)
       (λ e. one-both first second (first + 6 * i) (second + 6 * i) e (omega arith) (omega arith) (omega arith))
 
-  -- a word's values, counted from their own first elements
-  pub word-both :
-      (m count word : ℕ) {x : X} → let f = first + 6 * m in let s = second + 6 * m in let W = word_sent word count f in
-      first + 6 * (m + count) ≤ second → Done (on_both f s (every_sixth f count)) (on_both f s W) x → Done (on_both first second (every_sixth f count)) (on_both first second W) x
-  word-both m count word l d =
-      let f = first + 6 * m in
-      let s = second + 6 * m in
-      let past : first ≤ f = omega arith in
-      let alike : f + second ≡ s + first = omega arith in
-      let before : f + 6 * count ≤ second = omega arith in
-      A.same (λ e. (sixth-like first second f s count e past alike before).0) (λ e t. ap (word_sent word count f) ((sixth-like first second f s count e past alike before).1 t)) d
+-- ---- and on each of the ports that send
+pub each-less : {firsts g h : List ℕ} {n m : ℕ} → EachIn firsts n g → m ≤ n → length h ≡ length g → EachIn firsts m h
+each-less r l e = record { ports = r.ports; apart = λ z. let a = r.apart z in omega arith; inside = omega (arith, r.inside) }
+
+pub each-few : {firsts g : List ℕ} {n : ℕ} → EachIn firsts n g → length firsts ≤ 2
+each-few {firsts} r = pick r.ports
+  where
+    pick : (length firsts ≡ 1) ⊎ (length firsts ≡ 2) → length firsts ≤ 2
+    pick (inl h) = omega arith
+    pick (inr h) = omega arith
+
+-- the first k of them have value i
+pub record EachDone {X : Type 0} (Done : Deed X) (firsts : List ℕ) (i : ℕ) (el : Element) (k : ℕ) (x : X) : Type 0 where
+  pub none : k ≡ 0 → Done (λ (e : ℕ). false) (λ (e : ℕ). el) x
+  pub one : k ≡ 1 → Done (eqb (first_of firsts + 6 * i)) (λ (e : ℕ). el) x
+  pub two : k ≡ 2 → Done (on_both (first_of firsts) (get_or firsts 1 0) (eqb (first_of firsts + 6 * i))) (λ (e : ℕ). el) x
+
+module _ (firsts : List ℕ) {X : Type 0} {Done : Deed X} {Also : Step X} {none : X} (A : Accumulates Done Also none) where
+  pub on_each_lem : Accumulates (BothDone (first_of firsts) (last_of firsts) Done) (λ D W x y. Also (on_each firsts D) (on_each firsts W) x y) none
+  on_each_lem = on_both_lem (first_of firsts) (last_of firsts) A
+
+  pub each-first : (i : ℕ) (el : Element) → EachDone Done firsts i el 0 none
+  each-first i el = record { none = λ z. A.nothing (λ (e : ℕ). el); one = λ z. absurd (omega arith); two = λ z. absurd (omega arith) }
+
+  pub each-step :
+      {g : List ℕ} {i k : ℕ} {x y : X} {el : Element} → EachIn firsts (i + 1) g → k < length firsts → EachDone Done firsts i el k x
+      → Also (eqb (get_or firsts k 0 + 6 * i)) (λ (e : ℕ). el) x y → EachDone Done firsts i el (k + 1) y
+  each-step {i = i} {k = k} {x = x} {y = y} {el = el} ready l h also =
+      record {
+        none = λ z. absurd (omega arith);
+        one = λ z. let j : k ≡ 0 = omega arith in
+            A.more (λ e f t. clash f refl) (h.none j) (rw j at also) (λ e t. refl) (λ e. sym (or_none (eqb (first_of firsts + 6 * i) e)));
+        two = λ z. let j : k ≡ 1 = omega arith in both j (rw j at also);
+      }
+    where
+      or_none : (b : Bool) → b || false ≡ b
+      or_none true = refl
+      or_none false = refl
+
+      both : k ≡ 1 → Also (eqb (get_or firsts 1 0 + 6 * i)) (λ (e : ℕ). el) x y
+          → Done (on_both (first_of firsts) (get_or firsts 1 0) (eqb (first_of firsts + 6 * i))) (λ (e : ℕ). el) y
+      both j a = value-both (first_of firsts) (get_or firsts 1 0) A {n = i + 1} (space ready.ports) (omega arith) (h.one j) a
+        where
+          space : (length firsts ≡ 1) ⊎ (length firsts ≡ 2) → first_of firsts + 6 * (i + 1) ≤ get_or firsts 1 0
+          space (inl one) = absurd (omega arith)
+          space (inr two) = let m : length firsts - 1 ≡ 1 = omega arith in rw m at (ready.apart two)
+
+  pub each-last :
+      {g : List ℕ} {i k : ℕ} {x : X} {el : Element} → EachIn firsts (i + 1) g → length firsts ≤ k → k ≤ length firsts → EachDone Done firsts i el k x
+      → Done (on_each firsts (eqb (first_of firsts + 6 * i))) (λ (e : ℕ). el) x
+  each-last {i = i} {k = k} {x = x} {el = el} ready l m h = pick ready.ports
+    where
+      pick : (length firsts ≡ 1) ⊎ (length firsts ≡ 2) → Done (on_each firsts (eqb (first_of firsts + 6 * i))) (λ (e : ℕ). el) x
+      pick (inl one) =
+          let j : length firsts - 1 ≡ 0 = omega arith in
+          rw j (A.same (λ e. ap (eqb (first_of firsts + 6 * i)) (sym (on-own (first_of firsts) e))) (λ e t. refl) (h.one (omega arith)))
+      pick (inr two) = let j : length firsts - 1 ≡ 1 = omega arith in rw j (h.two (omega arith))
+
+  -- one port
+  pub each-one : {D : ℕ → Bool} {W : ℕ → Element} {x : X} → length firsts ≡ 1 → Done (on_each firsts D) (on_each firsts W) x → Done D W x
+  each-one {D = D} {W = W} one d =
+      let j : length firsts - 1 ≡ 0 = omega arith in
+      A.same (λ e. ap D (on-own (first_of firsts) e)) (λ e t. ap W (on-own (first_of firsts) e)) (rw j at d)

@@ -1,5 +1,5 @@
 -- For the inner contracts and loops only: what the functions over a signal need, and its elements by their numbers, from the first one on.
-use Rattle.std.specs.Prelude.{ℕ, ◌+◌, ◌-◌, ◌*◌, ◌/◌, ◌%◌, ◌^◌, ◌<◌, ◌≡◌, Bool, true, cond, ◌&&◌, List, leb, ltb, eqb, pos}
+use Rattle.std.specs.Prelude.{ℕ, ◌+◌, ◌-◌, ◌*◌, ◌/◌, ◌%◌, ◌^◌, ◌<◌, ◌≤◌, ◌≡◌, ◌⊎◌, Bool, true, cond, ◌&&◌, List, leb, ltb, eqb, pos, get_or, length}
 use Rattle.base.specs.declared.Element.{Element}
 use Rattle.base.specs.Bytes.{element_of}
 use Rattle.gold.specs.declared.Registers.{Registers}
@@ -54,6 +54,22 @@ on_first first second e = cond (leb second e) (first + (e - second)) e
 abbrev pub on_both : {A : Type 0} → ℕ → ℕ → (ℕ → A) → ℕ → A
 on_both first second f e = f (on_first first second e)
 
+-- and on each of the ports that send a symbol's reference signals, by the first elements there: one port, or two
+abbrev pub first_of : List ℕ → ℕ
+first_of firsts = get_or firsts 0 0
+
+abbrev pub last_of : List ℕ → ℕ
+last_of firsts = get_or firsts (length firsts - 1) 0
+
+abbrev pub on_each : {A : Type 0} → List ℕ → (ℕ → A) → ℕ → A
+on_each firsts f = on_both (first_of firsts) (last_of firsts) f
+
+-- n elements on each port lie in the grid, and those on the one end before the other's
+pub record EachIn (firsts : List ℕ) (n : ℕ) (grid : List ℕ) : Type 0 where
+  pub ports : (length firsts ≡ 1) ⊎ (length firsts ≡ 2)
+  pub apart : length firsts ≡ 2 → first_of firsts + 6 * n ≤ last_of firsts
+  pub inside : 3 * (last_of firsts + 6 * n) + 2 < length grid + 18
+
 -- ---- synchronisation: 62 elements from `first` on
 unfoldable pub in_row : ℕ → ℕ → ℕ → Bool
 in_row first n e = leb first e && ltb e (first + n)
@@ -69,3 +85,7 @@ level_element d i = element_of 1 (record { re = level_in d i; im = pos 0 })
 
 unfoldable pub level_sent : Sss → ℕ → ℕ → Element
 level_sent d first e = level_element d (e - first)
+
+-- what may be element i of such a signal is what W says from `first` on
+abbrev pub Gives : (ℕ → Element → Type 0) → ℕ → (ℕ → Element) → Type 0
+Gives P first W = (i : ℕ) (el : Element) → i < 62 → P i el → el ≡ W (first + i)

@@ -19,7 +19,7 @@ fn row_at(cell: Cell, s: usize, port: u8) -> usize
     requires { s < 14 }
     ensures { result ≡ port * places_of cell + s * carriers cell }
 {
-    let rows = base::wide(port) * layout::symbols(cell) + s;
+    let rows = usize::from(port) * layout::symbols(cell) + s;
     rows * layout::carriers(cell)
 }
 
@@ -43,7 +43,7 @@ pub fn at_once(left: usize) -> usize
     requires { 0 < left }
     ensures { (0 < result) × (result ≤ 14) × (result ≤ left) }
 {
-    if left < 14 { left } else { 14 }
+    left.min(14)
 }
 
 // The number of the first of 62 elements in the middle of the symbol that stands y from the first slot's end, on port 0.
@@ -52,7 +52,7 @@ pub fn mark_at(cell: Cell, y: usize) -> usize
     ensures { result ≡ (slot_length cell - y) * carriers cell + (6 * cell.blocks - 31) }
 {
     let s = layout::slot_length(cell) - y;
-    row_at(cell, s, 0) + (6 * base::wide(cell.blocks) - 31)
+    row_at(cell, s, 0) + (6 * usize::from(cell.blocks) - 31)
 }
 
 // Number i of the primary signal's 62 elements, unit 63.
@@ -60,10 +60,9 @@ pub fn phase_element(identity: u16, i: usize) -> Element
     requires { i < 62 }
     ensures { result ≡ phase_element identity i }
 {
-    let phase = sync::pss_phase(identity, i);
     Element {
         byte: 63,
-        i: phase,
+        i: sync::pss_phase(identity, i),
         j: 0,
     }
 }

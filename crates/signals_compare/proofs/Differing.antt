@@ -9,6 +9,7 @@ use lib.Bits.{bit_or, bit_xor}
 use lib.Dec.{eqb}
 use lib.IntN.{pos}
 use lib.ListN.{length}
+use mathlib.Core.Logic.{◌⊎◌, inl, inr}
 use borrow.Author.Tests.{eqb-true, eq-eqb}
 use Rattle.base.proofs.Tests.{clash, or_left, or_right}
 use Rattle.base.specs.declared.Element.{Element}
@@ -19,14 +20,14 @@ use Rattle.codeword.specs.Streams.{outputs}
 use Rattle.crs.specs.Crs.{word_value}
 use Rattle.grid.specs.Elements.{element_in}
 use Rattle.grid.proofs.Accumulating.{Deed, Accumulates}
-use Rattle.compare.specs.declared.Seen.TheVariants.{Weight, Differs}
+use Rattle.std.specs.Prelude.{Some, None}
 use Rattle.compare.specs.Comparing.{nonzero, weight_of, weight_in, Compared}
 use Rattle.compare.proofs.Comparing.{weight-same, weight-or, weight-none, weight-one, holds_of, differs, holds-less, holds-both, holds-old, holds-new}
 use Rattle.element_pairs.specs.Numbers.{element_from, OneRead}
 use Rattle.element_pairs.proofs.Puts.{or-none, none_or, none-same, same_none}
 use Rattle.signals.specs.Signals.{crs_from}
-use Rattle.signals.specs.Rows.{every_sixth, pair_sent, on_first, on_both}
-use Rattle.signals.proofs.Stretches.{sixth-of, sixth-none, sixth-one, sixth-past, sixth-both}
+use Rattle.signals.specs.Rows.{every_sixth, pair_sent, on_first, on_both, first_of, last_of, on_each, EachIn}
+use Rattle.signals.proofs.Stretches.{sixth-of, sixth-none, sixth-one, sixth-past, sixth-both, on-own}
 use Rattle.signals_compare.specs.Differing.{Differing}
 
 abbrev pub DifferingIn : List ℕ → Deed ℕ
@@ -131,6 +132,20 @@ both-weight g first second n apart l w =
       sixth-weight g second n l (λ e t. w e (d e ∙ or_left (other e) (one e) t)),
     )
 
+-- and on each port that sends
+pub each-weight :
+    {firsts g : List ℕ} {n : ℕ} → EachIn firsts n g → ((e : ℕ) → on_each firsts (every_sixth (first_of firsts) n) e ≡ true → weight_of (element_in g e) ≡ 3)
+    → weight_in (on_each firsts (every_sixth (first_of firsts) n)) g (length g / 3) ≡ 3 * n * length firsts
+each-weight {firsts} {g} {n} r w = pick r.ports
+  where
+    pick : (length firsts ≡ 1) ⊎ (length firsts ≡ 2) → weight_in (on_each firsts (every_sixth (first_of firsts) n)) g (length g / 3) ≡ 3 * n * length firsts
+    pick (inl h) =
+        let j : length firsts - 1 ≡ 0 = omega arith in
+        let own : (e : ℕ) → on_each firsts (every_sixth (first_of firsts) n) e ≡ every_sixth (first_of firsts) n e = λ e. rw j (ap (every_sixth (first_of firsts) n) (on-own (first_of firsts) e)) in
+        weight-same g (on_each firsts (every_sixth (first_of firsts) n)) (every_sixth (first_of firsts) n) (length g / 3) (λ e l. own e)
+        ∙ sixth-weight g (first_of firsts) n (rw j at r.inside) (λ e t. w e (own e ∙ t)) ∙ rw h (omega arith)
+    pick (inr h) = both-weight g (first_of firsts) (last_of firsts) n (r.apart h) r.inside w ∙ rw h (omega arith)
+
 pub pair-weight : (r : Registers) (first e : ℕ) → weight_of (pair_sent r first e) ≡ 3
 unfolding pair_sent crs_from
 pair-weight r first e = let i = 2 * ((e - first) / 6) in value-weight (outputs r i) (outputs r (i + 1))
@@ -138,8 +153,8 @@ pair-weight r first e = let i = 2 * ((e - first) / 6) in value-weight (outputs r
 -- all values are compared
 module _ {D : ℕ → Bool} {W : ℕ → Element} {g : List ℕ} {bits : ℕ} (d : Differing D W g bits) where
   pub all_same : (k : ℕ) → ((e : ℕ) → weight_of (W e) ≡ 3) → (((e : ℕ) → D e ≡ true → weight_of (element_in g e) ≡ 3) → weight_in D g (length g / 3) ≡ k)
-      → bits ≡ 0 → Compared D W g (Weight k)
+      → bits ≡ 0 → Compared D W g (Some k)
   all_same k three sum z = let h = d.none z in holds_of h (sym (sum (λ e t. ap weight_of (h.elements e t) ∙ three e)))
 
-  pub some-differ : (bits ≡ 0 → ⊥) → Compared D W g Differs
+  pub some-differ : (bits ≡ 0 → ⊥) → Compared D W g None
   some-differ z = differs (λ k. z (d.same k))

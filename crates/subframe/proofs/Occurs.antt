@@ -1,6 +1,6 @@
 -- The numbers of symbols of PBCH and of a user are such as transmit diversity maps: even with two and four ports. Assumes nothing
 -- beyond the plan check's answer.
-use Rattle.std.specs.Prelude.{if◌then◌else◌}
+use Rattle.std.specs.Prelude.{if◌then◌else◌, Ok as accepted}
 use Prim.Native.Nat.{ℕ, ◌%◌, ◌<◌}
 use mathlib.Core.Path.{◌≡◌, refl, sym, ap, ◌∙◌, subst}
 use mathlib.Core.Logic.{◌⊎◌, inl, inr}
@@ -14,7 +14,6 @@ use Rattle.plan.specs.Fields.{port_counts}
 use Rattle.plan.specs.Check.{check_of}
 use Rattle.plan.specs.CommandLists.{users_of}
 use Rattle.plan.specs.declared.Plan.{Plan}
-use Rattle.plan.specs.declared.Checked.TheVariants.{Plan as accepted}
 use Rattle.plan.proofs.Valid.{valid}
 use Rattle.layout.specs.declared.Owner.TheVariants.{Pbch, User as UserOf}
 use Rattle.counts.proofs.FixedCounts.{pbch-count}

@@ -7,13 +7,13 @@ use mathlib.Core.List.{List}
 use borrow.Author.Tests.{ltb-true}
 use lib.Dec.{ltb}
 use lib.ListN.{length, get_or}
+use Rattle.std.specs.declared.result.Result.TheVariants.{Ok as accepted}
 use Rattle.base.specs.declared.Element.{Element}
 use Rattle.base.specs.Bytes.{byte_in}
 use Rattle.plan.specs.Fields.{mapping_units}
 use Rattle.plan.specs.Check.{check_of}
 use Rattle.plan.specs.CommandLists.{users_of}
 use Rattle.plan.specs.declared.Plan.{Plan}
-use Rattle.plan.specs.declared.Checked.TheVariants.{Plan as accepted}
 use Rattle.plan.proofs.Listed.{and_left}
 use Rattle.layout.specs.Rules.{slot_of, phich}
 use Rattle.layout.specs.Owners.{GridPlace, symbols, carriers, fixed_rule, user_rule, owns, owner_of}

@@ -1,6 +1,6 @@
 -- Two builds of one plan hold the same bytes at an acknowledgement unit's elements exactly where the payloads agree in the unit's
 -- bits. Assumes nothing beyond the plan check's answer.
-use Rattle.std.specs.Prelude.{if◌then◌else◌}
+use Rattle.std.specs.Prelude.{if◌then◌else◌, Ok as accepted}
 use Prim.Native.Nat.{ℕ, zero, suc, ◌+◌, ◌*◌, ◌/◌, ◌%◌, ◌<◌, suc-le-suc, zero-le}
 use mathlib.Core.Path.{◌≡◌, refl, sym, ap, ◌∙◌, subst}
 use mathlib.Core.Logic.Iff
@@ -32,7 +32,6 @@ use Rattle.plan.specs.CommandLists.{his_of}
 use Rattle.plan.specs.Check.{check_of}
 use Rattle.plan.specs.declared.Hi.{Hi}
 use Rattle.plan.specs.declared.Plan.{Plan}
-use Rattle.plan.specs.declared.Checked.TheVariants.{Plan as accepted}
 use Rattle.plan.proofs.Valid.{valid}
 use Rattle.layout.specs.declared.Owner.TheVariants.{Phich}
 use Rattle.counts.specs.Counts.{count_of}

@@ -5,7 +5,7 @@ use native.Mathlib.Decide.{ℕ_discrete}
 use native.Mathlib.Omega.{arith}
 use Rattle.base.specs.Digits.{dig, dig-shr, dig-mod}
 use Rattle.sync.specs.Sss.{going_on, s_bit, c_bit, z_bit}
-use Rattle.sync.specs.Inner.{Holds, Sequences, pushed_of}
+use Rattle.sync.specs.Inner.{pushed_of}
 
 -- after i steps bit j is x(i + j - 26), where that is a place of the sequence
 pub record Run (x : ℕ → ℕ) (i w : ℕ) : Type 0 where
@@ -147,16 +147,4 @@ filled_more i s c z s' c' z' h t e f g =
       s-run = rw e (flipped s_bit i s (s / 2 ^ 28 + s / 2 ^ 26) t.s-run (s-next i s t.s-run));
       c-run = rw f (flipped c_bit i c (c / 2 ^ 29 + c / 2 ^ 26) t.c-run (c-next i c t.c-run));
       z-run = rw g (flipped z_bit i z (z / 2 ^ 30 + z / 2 ^ 28 + z / 2 ^ 27 + z / 2 ^ 26) t.z-run (z-next i z t.z-run));
-    }
-
-whole : (x : ℕ → ℕ) (i w : ℕ) → i ≡ 26 → Run x i w → Holds x w
-whole x i w e t = record { small = t.small; bit = λ j less. t.bit j j less (omega arith) }
-
-pub filled-all : (i s c z : ℕ) → 26 ≤ i → Filled i s c z → Sequences (record { s = s; c = c; z = z })
-filled-all i s c z h t =
-    let e : i ≡ 26 = omega (arith, t.few) in
-    record {
-      s-bits = whole s_bit i s e t.s-run;
-      c-bits = whole c_bit i c e t.c-run;
-      z-bits = whole z_bit i z e t.z-run;
     }

@@ -50,12 +50,6 @@ unfolding pss_phase
 phase-is C i u t e f = rw (e, f) refl
 
 -- ---- the indices of a group
-pub q-small : (d t : ℕ) → d < 65536 → t ≡ d / 30 * (d / 30 + 1) / 2 → d + t ≤ 2451555
-q-small d t h e = omega (arith, triangle-le (d / 30) 2184 (omega arith))
-
-pub e-small : (d t u : ℕ) → d < 65536 → t ≡ d / 30 * (d / 30 + 1) / 2 → u ≡ (d + t) / 30 * ((d + t) / 30 + 1) / 2 → u ≤ 3338956621
-e-small d t u h e f = omega (arith, triangle-le ((d + t) / 30) 81718 (omega (arith, q-small d t h e)))
-
 pub indices-are : (d t u : ℕ) → t ≡ d / 30 * (d / 30 + 1) / 2 → u ≡ (d + t) / 30 * ((d + t) / 30 + 1) / 2
     → ◌≡◌ {A = Indices} (record { m0 = (d + u) % 31; m1 = ((d + u) % 31 + (d + u) / 31 + 1) % 31 }) (indices_of d)
 unfolding indices_of m0_of m1_of e_of q_of q_prime

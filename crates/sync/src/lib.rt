@@ -39,11 +39,11 @@ fn triangle(n: u64) -> u64
 fn root(cell: u16) -> u64
     ensures { result ≡ pss_root (cell % 3) }
 {
-    let r = cell % 3;
-    if r == 0 {
-        return 25;
+    match cell % 3 {
+        0 => 25,
+        1 => 29,
+        _ => 34,
     }
-    if r == 1 { 29 } else { 34 }
 }
 
 // i(i+1)/2, and past the middle subcarrier, which is left out, (i+1)(i+2)/2.
@@ -95,14 +95,12 @@ fn sequences() -> Words
     let mut s: u32 = 0x4000_0000;
     let mut c: u32 = 0x4000_0000;
     let mut z: u32 = 0x4000_0000;
-    let mut i: u32 = 0;
-    while i < 26 {
+    for _ in 0..26u32 {
         s = pushed(s, (s >> 28) + (s >> 26));
         c = pushed(c, (c >> 29) + (c >> 26));
         z = pushed(z, (z >> 30) + (z >> 28) + (z >> 27) + (z >> 26));
-        i += 1;
     }
-    Words { s: s, c: c, z: z }
+    Words { s, c, z }
 }
 
 // A cyclic shift: bit n of the answer is bit (n + k) mod 31 of w. The product is w written twice.
@@ -143,12 +141,8 @@ fn sign_bit(s: Sss, i: usize) -> u32
     requires { i < 62 }
     ensures { result ≡ bit_in s i }
 {
-    let n = i / 2;
-    if i % 2 == 0 {
-        (s.even >> n) % 2
-    } else {
-        (s.odd >> n) % 2
-    }
+    let w = if i % 2 == 0 { s.even } else { s.odd };
+    (w >> (i / 2)) % 2
 }
 
 // d(i), 1 or -1. Callers count the signal's 62 places by i, so it is below 62.

@@ -4,11 +4,9 @@
 use std::io;
 
 fn phases(rt: &impl Print, r: u16) -> io::Result<()> {
-    let mut i: usize = 0;
-    while i < 62 {
+    for i in 0..62 {
         print::space(rt)?;
         print::number(rt, sync::pss_phase(r, i) as u64)?;
-        i += 1;
     }
     Ok(())
 }
@@ -32,27 +30,19 @@ fn pair(rt: &impl Print, d: u16) -> io::Result<()> {
 }
 
 fn pairs(rt: &impl Print) -> io::Result<()> {
-    let mut d: u16 = 0;
-    while d < 168 {
+    for d in 0..168 {
         pair(rt, d)?;
-        d += 1;
     }
     Ok(())
 }
 
 fn sign(rt: &impl Print, z: i8) -> io::Result<()> {
-    if z == 1 {
-        print::text(rt, b"+")
-    } else {
-        print::text(rt, b"-")
-    }
+    print::text(rt, if z == 1 { b"+" } else { b"-" })
 }
 
 fn signs(rt: &impl Print, s: sync::Sss) -> io::Result<()> {
-    let mut i: usize = 0;
-    while i < 62 {
+    for i in 0..62 {
         sign(rt, sync::sss_level(s, i))?;
-        i += 1;
     }
     Ok(())
 }
@@ -73,10 +63,8 @@ fn both(rt: &impl Print, cell: u16) -> io::Result<()> {
 }
 
 fn cells(rt: &impl Print) -> io::Result<()> {
-    let mut k: u16 = 0;
-    while k <= 100 {
+    for k in 0..=100 {
         both(rt, 5 * k)?;
-        k += 1;
     }
     Ok(())
 }

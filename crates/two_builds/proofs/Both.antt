@@ -5,27 +5,20 @@ use mathlib.Core.Path.{◌≡◌, refl, sym, ap, ◌∙◌}
 use mathlib.Core.Bool.{Bool, true, false}
 use mathlib.Core.List.{List, [], ◌∷◌}
 use lib.ListN.{length}
-use types.Run.{OneOf}
-use denote.Enum.Declared.{tag_of}
 use borrow.Author.Tests.{eq-eqb, ne_eqb}
-use Rattle.plan.specs.Lists.{one_of}
+use Rattle.std.specs.declared.result.Result.{Result}
+use Rattle.std.specs.declared.result.Result.TheVariants.{Ok as accepted, Ok, Err as refused, Err}
 use Rattle.plan.specs.Answers.{Answer, given}
-use Rattle.plan.specs.Check.{check_of, refused_as, refusal_of}
+use Rattle.plan.specs.Check.{check_of, refused_as, number_answer}
 use Rattle.plan.specs.declared.Plan.{Plan}
 use Rattle.plan.specs.declared.Refusal.{Refusal}
 use Rattle.plan.specs.declared.Refusal.TheVariants.{GridLength, PayloadLength, SpareBit}
-use Rattle.plan.specs.declared.Checked.{Checked}
-use Rattle.plan.specs.declared.Checked.TheVariants.{Plan as accepted, Refused as refused}
-use Rattle.plan.specs.contracts.Checked.{the_type}
-use Rattle.plan.proofs.OneOf.{not_in}
 use Rattle.payload.specs.Payload.{grid_length, payload_length, spare_clear, AcceptedPayload}
 use Rattle.payload.proofs.Refusals.{accepted-payload, payload-clear}
 use Rattle.subframe.specs.Grid.{grid_of}
 use Rattle.subframe.proofs.TwoBuilds.{two-builds}
-use Rattle.build.specs.Build.{pdsch_elements, built_answer}
+use Rattle.build.specs.Build.{pdsch_elements}
 use Rattle.build.specs.Filling.{Ready}
-use Rattle.build.specs.declared.Built.{Built}
-use Rattle.build.specs.declared.Built.TheVariants.{Elements, Refused}
 use Rattle.build.proofs.Answers.{plan-room}
 use Rattle.two_builds.specs.Both.{unless_both, both_built, first_after, second_after, Separate}
 
@@ -70,8 +63,8 @@ module _ {R : Type 0} (refusal : Refusal → R) (w : List ℕ) (p : Plan) (A B g
 
 -- ---- the ways
 module _ (w A B g h : List ℕ) where
-  abbrev Answered : Built → List ℕ → List ℕ → Type 0
-  Answered r g' h' = (built_answer r ≡ both_built w A B g h) × (g' ≡ first_after w A B g h) × (h' ≡ second_after w A B g h) × Separate w A B g h g' h'
+  abbrev Answered : Result ℕ Refusal → List ℕ → List ℕ → Type 0
+  Answered r g' h' = (number_answer r ≡ both_built w A B g h) × (g' ≡ first_after w A B g h) × (h' ≡ second_after w A B g h) × Separate w A B g h g' h'
 
   module _ (p : Plan) (ok : check_of w ≡ accepted p) (a : AcceptedPayload w p A) (b : AcceptedPayload w p B) (eg : length g ≡ grid_length p) (eh : length h ≡ grid_length p) where
     all_right : {R : Type 0} (refusal : Refusal → R) (answer : R) → unless_both refusal w p A B g h answer ≡ answer
@@ -93,44 +86,43 @@ module _ (w A B g h : List ℕ) where
   separate : Separate w A B g h (first_after w A B g h) (second_after w A B g h)
   separate = record { apart = λ p ok a b eg eh. rw (first-is p ok a b eg eh, second_is p ok a b eg eh) (two-builds w p ok A B) }
 
-  answered : (r : Built) (g' h' : List ℕ) → built_answer r ≡ both_built w A B g h → g' ≡ first_after w A B g h → h' ≡ second_after w A B g h → Answered r g' h'
+  answered : (r : Result ℕ Refusal) (g' h' : List ℕ) → number_answer r ≡ both_built w A B g h → g' ≡ first_after w A B g h → h' ≡ second_after w A B g h → Answered r g' h'
   answered r g' h' er e₁ e₂ = (er, e₁, e₂, rw (e₁, e₂) separate)
 
-  pub way-refused : (a : Checked) → a ≡ check_of w → OneOf (1 ∷ []) (tag_of the_type a) → (r : Refusal) → r ≡ refusal_of a → Answered (Refused r) g h
-  unfolding one_of both_built first_after second_after
-  way-refused (accepted p) e k r q = absurd (not_in (1 ∷ []) 0 k refl)
-  way-refused (refused x) e k r q = answered (Refused r) g h (ap refused_as q ∙ rw (← e) refl) (rw (← e) refl) (rw (← e) refl)
+  pub way-refused : {a : Result Plan Refusal} {r : Refusal} → a ≡ check_of w → a ≡ refused r → Answered (Err r) g h
+  unfolding both_built first_after second_after
+  way-refused {a} {r} e k = answered (Err r) g h (rw (sym e ∙ k) refl) (rw (sym e ∙ k) refl) (rw (sym e ∙ k) refl)
 
   module _ (p : Plan) (ok : check_of w ≡ accepted p) where
-    refused-by : (x : Refusal) → ((R : Type 0) (refusal : Refusal → R) (answer : R) → unless_both refusal w p A B g h answer ≡ refusal x) → Answered (Refused x) g h
+    refused-by : (x : Refusal) → ((R : Type 0) (refusal : Refusal → R) (answer : R) → unless_both refusal w p A B g h answer ≡ refusal x) → Answered (Err x) g h
     unfolding both_built first_after second_after
-    refused-by x u = answered (Refused x) g h (rw ok (sym (u Answer refused_as _))) (rw ok (sym (u (List ℕ) (λ (r : Refusal). g) _))) (rw ok (sym (u (List ℕ) (λ (r : Refusal). h) _)))
+    refused-by x u = answered (Err x) g h (rw ok (sym (u Answer refused_as _))) (rw ok (sym (u (List ℕ) (λ (r : Refusal). g) _))) (rw ok (sym (u (List ℕ) (λ (r : Refusal). h) _)))
 
     module _ (n : ℕ) (en : n ≡ grid_length p) where
-      pub way-first-grid : (length g ≡ n → ⊥) → Answered (Refused GridLength) g h
+      pub way-first-grid : (length g ≡ n → ⊥) → Answered (Err GridLength) g h
       way-first-grid k = refused-by GridLength (λ R refusal answer. first-grid-refused refusal w p A B g h answer (λ x. k (x ∙ sym en)))
 
       module _ (eg : length g ≡ n) where
-        pub way-second-grid : (length h ≡ n → ⊥) → Answered (Refused GridLength) g h
+        pub way-second-grid : (length h ≡ n → ⊥) → Answered (Err GridLength) g h
         way-second-grid k = refused-by GridLength (λ R refusal answer. second-grid-refused refusal w p A B g h answer (eg ∙ en) (λ x. k (x ∙ sym en)))
 
         module _ (eh : length h ≡ n) (m : ℕ) (em : m ≡ payload_length w p) where
-          pub way-first-payload : (length A ≡ m → ⊥) → Answered (Refused PayloadLength) g h
+          pub way-first-payload : (length A ≡ m → ⊥) → Answered (Err PayloadLength) g h
           way-first-payload k =
               refused-by PayloadLength (λ R refusal answer. first-payload-refused refusal w p A B g h answer (eg ∙ en) (eh ∙ en) (λ x. k (x ∙ sym em)))
 
           module _ (eA : length A ≡ m) where
-            pub way-second-payload : (length B ≡ m → ⊥) → Answered (Refused PayloadLength) g h
+            pub way-second-payload : (length B ≡ m → ⊥) → Answered (Err PayloadLength) g h
             way-second-payload k =
                 refused-by PayloadLength (λ R refusal answer. second-payload-refused refusal w p A B g h answer (eg ∙ en) (eh ∙ en) (eA ∙ em) (λ x. k (x ∙ sym em)))
 
             module _ (eB : length B ≡ m) (s : Bool) (es : s ≡ spare_clear w p A) where
-              pub way-first-spare : s ≡ false → Answered (Refused SpareBit) g h
+              pub way-first-spare : s ≡ false → Answered (Err SpareBit) g h
               way-first-spare k =
                   refused-by SpareBit (λ R refusal answer. first-spare-refused refusal w p A B g h answer (eg ∙ en) (eh ∙ en) (eA ∙ em) (eB ∙ em) (sym es ∙ k))
 
               module _ (clear : s ≡ true) (t : Bool) (et : t ≡ spare_clear w p B) where
-                pub way-second-spare : t ≡ false → Answered (Refused SpareBit) g h
+                pub way-second-spare : t ≡ false → Answered (Err SpareBit) g h
                 way-second-spare k =
                     refused-by SpareBit (λ R refusal answer. second-spare-refused refusal w p A B g h answer (eg ∙ en) (eh ∙ en) (eA ∙ em) (eB ∙ em) (sym es ∙ clear) (sym et ∙ k))
 
@@ -147,9 +139,9 @@ module _ (w A B g h : List ℕ) where
                   pub way-second-ready : Ready w p B h
                   way-second-ready = record { answer = ok; right = second-accepted; room = plan-room w p ok h (eh ∙ en) }
 
-                  pub way-both : (c : ℕ) → c ≡ pdsch_elements w p → (g' : List ℕ) → g' ≡ grid_of w p A → (h' : List ℕ) → h' ≡ grid_of w p B → Answered (Elements c) g' h'
+                  pub way-both : (c : ℕ) → c ≡ pdsch_elements w p → (g' : List ℕ) → g' ≡ grid_of w p A → (h' : List ℕ) → h' ≡ grid_of w p B → Answered (Ok c) g' h'
                   way-both c ec g' e₁ h' e₂ =
-                      answered (Elements c) g' h'
+                      answered (Ok c) g' h'
                       (ap given ec ∙ sym (answer-is p ok first-accepted second-accepted (eg ∙ en) (eh ∙ en)))
                       (e₁ ∙ sym (first-is p ok first-accepted second-accepted (eg ∙ en) (eh ∙ en)))
                       (e₂ ∙ sym (second_is p ok first-accepted second-accepted (eg ∙ en) (eh ∙ en)))

@@ -1,13 +1,12 @@
 -- What `build_both` promises: what building two payloads A and B under one plan answers and leaves in the two grids, g for A and h for B, for
 -- any plan bytes w, and that the two grids then answer the regulator's second question (demand 3). Document 01, Refusals: the plan's
 -- refusal, then "by number: 10 grid not 36×N×S×P bytes; 11 payload length wrong; 12 a spare bit set"; "buffers stay".
-use Rattle.std.specs.Prelude.{if◌then◌else◌, ℕ, ◌≡◌, ◌&&◌, List, eqb, length}
+use Rattle.std.specs.Prelude.{if◌then◌else◌, ℕ, ◌≡◌, ◌&&◌, List, eqb, length, Ok as accepted}
 use Rattle.plan.specs.Answers.{Answer, given}
 use Rattle.plan.specs.Check.{check_of, refused_as, unless_refused}
 use Rattle.plan.specs.declared.Plan.{Plan}
 use Rattle.plan.specs.declared.Refusal.{Refusal}
 use Rattle.plan.specs.declared.Refusal.TheVariants.{GridLength, PayloadLength, SpareBit}
-use Rattle.plan.specs.declared.Checked.TheVariants.{Plan as accepted}
 use Rattle.payload.specs.Payload.{grid_length, payload_length, spare_clear, AcceptedPayload}
 use Rattle.subframe.specs.Grid.{grid_of}
 use Rattle.subframe.specs.TwoBuilds.{TwoBuilds}

@@ -8,6 +8,7 @@ use native.Mathlib.Nat.{mul_comm, mul-suc, mul-le-mul_left}
 use native.Mathlib.Omega.{arith}
 use borrow.Author.Tests.{eq-eqb}
 use lib.Dec.{eqb}
+use Rattle.std.specs.declared.result.Result.TheVariants.{Ok as accepted}
 use Rattle.base.specs.declared.Pair.{Pair}
 use Rattle.base.specs.declared.Element.{Element}
 use Rattle.base.specs.Bytes.{pair_of}
@@ -27,7 +28,6 @@ use Rattle.precoding.specs.Matrices.{precoded}
 use Rattle.precoding.specs.Places.{own_port, partner_index, placed}
 use Rattle.plan.specs.Check.{check_of}
 use Rattle.plan.specs.declared.Plan.{Plan}
-use Rattle.plan.specs.declared.Checked.TheVariants.{Plan as accepted}
 use Rattle.layout.specs.declared.Owner.{Owner}
 use Rattle.counts.specs.Counts.{count_of}
 use Rattle.places.specs.Places.{places_of, owns_at, place_of, index_of}

@@ -17,7 +17,6 @@ use Rattle.plan.specs.Check.{check_of}
 use Rattle.plan.specs.CommandLists.{users_of, nth_user}
 use Rattle.plan.specs.declared.Plan.{Plan}
 use Rattle.plan.specs.declared.User.{User}
-use Rattle.plan.specs.declared.Checked.TheVariants.{Plan as accepted}
 use Rattle.layout.specs.declared.Owner.{Owner}
 use Rattle.layout.specs.declared.Owner.TheVariants.{Pbch, User as UserOf}
 use Rattle.counts.specs.Counts.{count_of}
@@ -25,8 +24,7 @@ use Rattle.places.specs.Places.{places_of, owns_at, place_of, place_by, place_or
 use Rattle.base.proofs.Counts.{nth-same}
 use Rattle.grid.specs.Elements.{element_in}
 use Rattle.grid.specs.Writing.{sends, Room}
-use Rattle.compare.specs.declared.Seen.{Seen}
-use Rattle.compare.specs.declared.Seen.TheVariants.{Weight, Differs}
+use Rattle.std.specs.Prelude.{Option, Some, None, Ok as accepted}
 use Rattle.compare.specs.Comparing.{Holds, Compared}
 use Rattle.compare.proofs.Comparing.{weight-same, holds_of, differs}
 use Rattle.payload.specs.Payload.{user_bit_count}
@@ -83,11 +81,11 @@ module _
               holds = record { elements = λ e k. (from h).elements e (sym (sending e) ∙ k) ∙ sym (sent_is e) };
             }
 
-        area-compared : (r : Seen) → AreaCompared a Q u g r → Compared (owner_sends w p o) (element_due w p g) g r
+        area-compared : (r : Option ℕ) → AreaCompared a Q u g r → Compared (owner_sends w p o) (element_due w p g) g r
         unfolding AreaCompared
-        area-compared (Weight n) h =
+        area-compared (Some n) h =
             holds_of (area-to h.0) (h.1 ∙ weight-same g (area_sends a) (owner_sends w p o) (length g / 3) (λ e l. sending e))
-        area-compared Differs h = differs (λ k. h (area-from k))
+        area-compared None h = differs (λ k. h (area-from k))
 
 module _ (w : List ℕ) (p : Plan) (ok : check_of w ≡ accepted p) (g : List ℕ) (room : Room p.cell.ports (places_of p.cell) g) where
   abbrev P : ℕ
@@ -134,7 +132,7 @@ module _ (w : List ℕ) (p : Plan) (ok : check_of w ≡ accepted p) (g : List �
         known_from w p g Pbch pbch 2 2 (pbch-count w p ok zero-th) pbch-symbols (λ e. pbch-area w p ok zero-th e) pbch-area-sent
         (due-known w p ok g room Pbch 2 2 pbch_scrambling (omega arith) (pbch-occurs w p ok) pbch-sent pbch-bits pbch-pairs h)
 
-    pub pbch-seen : (r : Seen) → AreaCompared (pbch_area p.cell p.frame) 2 2 g r → Compared (owner_sends w p Pbch) (element_due w p g) g r
+    pub pbch-seen : (r : Option ℕ) → AreaCompared (pbch_area p.cell p.frame) 2 2 g r → Compared (owner_sends w p Pbch) (element_due w p g) g r
     pbch-seen =
         area-compared w p g Pbch pbch 2 2 (pbch-count w p ok zero-th) pbch-symbols (λ e. pbch-area w p ok zero-th e) pbch-area-sent
         (to-due w p ok g room Pbch 2 2 pbch_scrambling (omega arith) (pbch-occurs w p ok) pbch-sent pbch-bits pbch-pairs)
@@ -197,7 +195,7 @@ module _ (w : List ℕ) (p : Plan) (ok : check_of w ≡ accepted p) (g : List �
         (due-known w p ok g room (UserOf i) Q (unit_of Q) scrambling (user-order w p ok i in-i) (user-occurs w p ok i in-i) user-sent user-bits user-pairs h)
 
     pub user-seen :
-        (r : Seen) → AreaCompared (user_area p.cell p.frame (nth_user w p i)) (nth_user w p i).order (unit_of (nth_user w p i).order) g r
+        (r : Option ℕ) → AreaCompared (user_area p.cell p.frame (nth_user w p i)) (nth_user w p i).order (unit_of (nth_user w p i).order) g r
         → Compared (owner_sends w p (UserOf i)) (element_due w p g) g r
     user-seen =
         area-compared w p g (UserOf i) area Q (unit_of Q) user-count user-symbols (λ e. user-area w p ok i in-i e) user-area-sent

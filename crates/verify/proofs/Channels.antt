@@ -2,11 +2,12 @@
 -- turn after turn. Assumes nothing beyond the plan check's answer.
 use Prim.Native.Nat.{ℕ, ◌+◌, ◌-◌, ◌*◌, ◌%◌, ◌≤◌, ◌<◌}
 use mathlib.Core.Path.{◌≡◌, refl, sym, ap, subst, ◌∙◌}
-use mathlib.Core.Bool.{true, false}
+use mathlib.Core.Bool.{Bool, true, false}
 use mathlib.Core.List.{List, []}
 use native.Mathlib.Omega.{arith}
 use borrow.Author.Tests.{eqb-true}
 use lib.ListN.{length, take, drop}
+use Rattle.base.proofs.Tests.{by-test, clash}
 use Rattle.gold.specs.declared.Registers.{Registers}
 use Rattle.modulation.specs.Symbols.{Order, unit_of}
 use Rattle.modulation.proofs.Orders.{unit-some}
@@ -19,17 +20,15 @@ use Rattle.plan.specs.CommandLists.{his_from, his_of, users_of, nth_user}
 use Rattle.plan.specs.Valid.{CellIn, FrameIn}
 use Rattle.plan.specs.declared.User.{User}
 use Rattle.plan.specs.declared.Plan.{Plan}
-use Rattle.plan.specs.declared.Checked.TheVariants.{Plan as accepted}
 use Rattle.plan.proofs.Counts.{blocks-least, units-most, users-most}
 use Rattle.plan.proofs.Valid.{valid}
 use Rattle.counts.specs.Shape.{shape_of}
 use Rattle.counts.specs.declared.Shape.{Shape}
 use Rattle.layout.specs.declared.Mark.TheVariants.{Primary, Secondary}
-use Rattle.compare.specs.declared.Seen.{Seen}
-use Rattle.compare.specs.declared.Seen.TheVariants.{Weight, Differs}
+use Rattle.std.specs.Prelude.{Option, Some, None, Ok as accepted}
 use Rattle.compare.specs.Comparing.{Compared, both_of, Few}
 use Rattle.compare.proofs.Accumulating.{also, comparing}
-use Rattle.compare.proofs.Comparing.{none, same, few}
+use Rattle.compare.proofs.Comparing.{none, same, few, part-differs}
 use Rattle.subframe.proofs.OwnerBits.{user-order}
 use Rattle.recovery.specs.Recovery.{payload_in}
 use Rattle.recovery.proofs.Payload.{hi-bit}
@@ -72,6 +71,8 @@ use Rattle.schedule.proofs.Turns.{turn-of, begins, first-in}
 use Rattle.schedule.proofs.Senders.{present-sends, absent-sends, pbch-sends, user-sends}
 use Rattle.schedule.proofs.Owners.{user-in}
 use Rattle.schedule.proofs.Values.{value}
+use Rattle.schedule.specs.Senders.{some_below}
+use Rattle.schedule.proofs.Some.{none-at}
 use Rattle.schedule.proofs.TurnByTurn.{turn-none, turn_more, turn-all}
 use Rattle.verify.specs.Made.{element_due, Given, Planned, Shared, SentSeen, ChannelSeen}
 use Rattle.verify.proofs.Areas.{pbch-seen, user-seen}
@@ -173,7 +174,7 @@ module _ {w : List ℕ} {p : Plan} {g : List ℕ} where
         })
 
 -- ---- WHAT IT ANSWERS, by channel
-module _ (p : Plan) {ch : Channel} (sums g : List ℕ) (x : Seen) where
+module _ (p : Plan) {ch : Channel} (sums g : List ℕ) (x : Option ℕ) where
   pub crs-answer :
       {s y : ℕ} {r : Registers} → ch ≡ Crs s → y ≡ s → r ≡ start_pair p (Crs s) → Compared (crs_sends p.cell y) (crs_sent p.cell r) g x → ChannelSeen p ch sums g x
   unfolding ChannelSeen elements_of sent_of
@@ -233,7 +234,7 @@ module _ (w : List ℕ) (p : Plan) {g : List ℕ} (given : Given w p g) where
       }
 
   -- ---- A CHANNEL'S ANSWER is that of the elements that are due
-  module _ {sums : List ℕ} (units : SumsOf w p (payload_in w p g) sums) (n : ℕ) {x : Seen} where
+  module _ {sums : List ℕ} (units : SumsOf w p (payload_in w p g) sums) (n : ℕ) {x : Option ℕ} where
     sent-due :
         (ch : Channel) → TurnOf w p n ch → present_in p ch ≡ true → BitsOf w p (payload_in w p g) n (lent_to ch sums []) ch → SentSeen p ch sums g x
         → Compared (sends_of p ch) (element_due w p g) g x
@@ -261,12 +262,12 @@ module _ (w : List ℕ) (p : Plan) {g : List ℕ} (given : Given w p g) where
     channel-due (UserOf u) t h c = user-due u t c
 
 -- ---- TURN AFTER TURN
-both-none : (x : Seen) → x ≡ both_of x (Weight 0)
-both-none (Weight n) = let e : n ≡ n + 0 = omega arith in ap Weight e
-both-none Differs = refl
+both-none : (x : Option ℕ) → x ≡ both_of x (Some 0)
+both-none (Some n) = let e : n ≡ n + 0 = omega arith in ap Some e
+both-none None = refl
 
 -- what channels share is made, the cursor stands at t, and the turns before are compared
-pub record Going (w : List ℕ) (p : Plan) (g : List ℕ) (r : Registers) (sums masks : List ℕ) (shape : Shape) (count : ℕ) (t : Turn) (x : Seen) : Type 0 where
+pub record Going (w : List ℕ) (p : Plan) (g : List ℕ) (r : Registers) (sums masks : List ℕ) (shape : Shape) (count : ℕ) (t : Turn) (x : Option ℕ) : Type 0 where
   pub given : Given w p g
   pub shared : Shared w p g r sums masks
   pub shape_is : shape ≡ shape_of p.cell p.frame
@@ -277,7 +278,7 @@ pub record Going (w : List ℕ) (p : Plan) (g : List ℕ) (r : Registers) (sums 
 module _ (w : List ℕ) (p : Plan) {g : List ℕ} (given : Given w p g) {r : Registers} {sums masks : List ℕ} {shape : Shape} {count : ℕ} {t : Turn} where
   pub going-first :
       r ≡ start_pair p Pcfich → SumsOf w p (payload_in w p g) sums → RowMasks p.cell p.frame p.cell.ports true 14 masks
-      → shape ≡ shape_of p.cell p.frame → count ≡ channel_count p → t ≡ first_turn p → Going w p g r sums masks shape count t (Weight 0)
+      → shape ≡ shape_of p.cell p.frame → count ≡ channel_count p → t ≡ first_turn p → Going w p g r sums masks shape count t (Some 0)
   unfolding first_turn
   going-first er units rows es ec et =
       record {
@@ -289,7 +290,7 @@ module _ (w : List ℕ) (p : Plan) {g : List ℕ} (given : Given w p g) {r : Reg
         compared = rw et (turn-none (comparing g) (element_due w p g) w p);
       }
 
-module _ {w : List ℕ} {p : Plan} {g : List ℕ} {r : Registers} {sums masks : List ℕ} {shape : Shape} {count : ℕ} {t : Turn} {x : Seen}
+module _ {w : List ℕ} {p : Plan} {g : List ℕ} {r : Registers} {sums masks : List ℕ} {shape : Shape} {count : ℕ} {t : Turn} {x : Option ℕ}
     (so : Going w p g r sums masks shape count t x) where
   module _ (more : t.number < count) where
     less : t.number < channel_count p
@@ -306,7 +307,7 @@ module _ {w : List ℕ} {p : Plan} {g : List ℕ} {r : Registers} {sums masks : 
       planned h = record { given = so.given; number = t.number; turn = turn_is; present = h }
 
       -- its comparison
-      module _ (h : present_in p ch ≡ true) (s : Seen) (c : ChannelSeen p ch sums g s) where
+      module _ (h : present_in p ch ≡ true) (s : Option ℕ) (c : ChannelSeen p ch sums g s) where
         channel-compared : Compared (sends_of p ch) (element_due w p g) g s
         channel-compared = channel-due w p so.given so.shared.units t.number ch turn_is h c
 
@@ -315,7 +316,7 @@ module _ {w : List ℕ} {p : Plan} {g : List ℕ} {r : Registers} {sums masks : 
 
       -- the next turn
       module _ (n : Turn) (en : TurnIn w p n × (n.number ≡ t.number + 1)) where
-        step : {y : Seen} (s : Seen) → y ≡ both_of x s → Compared (sends_of p ch) (element_due w p g) g s → Going w p g r sums masks shape count n y
+        step : {y : Option ℕ} (s : Option ℕ) → y ≡ both_of x s → Compared (sends_of p ch) (element_due w p g) g s → Going w p g r sums masks shape count n y
         step {y} s ey c =
             record {
               given = so.given;
@@ -329,11 +330,25 @@ module _ {w : List ℕ} {p : Plan} {g : List ℕ} {r : Registers} {sums masks : 
                   (also (subst (λ (d : Channel). Compared (sends_of p d) (element_due w p g) g s) is c) ey));
             }
 
-        pub going_more : {y : Seen} → present_in p ch ≡ true → (s : Seen) → ChannelSeen p ch sums g s → y ≡ both_of x s → Going w p g r sums masks shape count n y
+        pub going_more : {y : Option ℕ} → present_in p ch ≡ true → (s : Option ℕ) → ChannelSeen p ch sums g s → y ≡ both_of x s → Going w p g r sums masks shape count n y
         going_more h s c ey = step s ey (channel-compared h s c)
 
         pub going-pass : present_in p ch ≡ false → Going w p g r sums masks shape count n x
-        going-pass h = step (Weight 0) (both-none x) (same (λ e. sym (absent-sends p ch h e)) (λ e k. refl) (none (element_due w p g) g))
+        going-pass h = step (Some 0) (both-none x) (same (λ e. sym (absent-sends p ch h e)) (λ e k. refl) (none (element_due w p g) g))
+
+  -- the elements of a channel are among all
+  turn_part : t.number < count → (e : ℕ) → sends_of p (channel_at w p t.number) e ≡ true → all_send w p e ≡ true
+  unfolding all_send sent_below
+  turn_part more e k =
+      let F : ℕ → Bool = λ i. sends_of p (channel_at w p i) e in
+      by-test (some_below F (channel_count p)) (λ a. a) (λ a. clash k (none-at F (channel_count p) a t.number (omega (arith, so.count-is))))
+
+  -- a channel that differs
+  pub going_wrong :
+      t.number < count → {ch : Channel} → ch ≡ channel_at w p t.number → present_in p ch ≡ true → ChannelSeen p ch sums g None
+      → Compared (all_send w p) (element_due w p g) g None
+  going_wrong more {ch} is h c =
+      part-differs (λ e k. turn_part more e (subst (λ (d : Channel). sends_of p d e ≡ true) is k)) (λ e k. refl) (channel-compared more is h None c)
 
   pub going_end : count ≤ t.number → Compared (all_send w p) (element_due w p g) g x
   going_end l = turn-all (comparing g) (element_due w p g) w p t.number so.turn.most (omega (arith, so.count-is)) so.compared

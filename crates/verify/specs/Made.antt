@@ -1,15 +1,13 @@
 -- For the inner contracts and loops only: whether a grid is the one that the payload read from it makes. w is a plan's bytes, p the plan
 -- that the plan check answers with, g a grid.
-use Rattle.std.specs.Prelude.{ℕ, ◌≡◌, Bool, true, false, List, []}
+use Rattle.std.specs.Prelude.{ℕ, ◌≡◌, Bool, true, false, List, [], Option, Ok as accepted}
 use Rattle.base.specs.declared.Element.{Element}
 use Rattle.gold.specs.declared.Registers.{Registers}
 use Rattle.modulation.specs.Symbols.{unit_of}
 use Rattle.plan.specs.Check.{check_of}
 use Rattle.plan.specs.declared.Plan.{Plan}
-use Rattle.plan.specs.declared.Checked.TheVariants.{Plan as accepted}
 use Rattle.places.specs.Places.{places_of}
 use Rattle.grid.specs.Writing.{Room}
-use Rattle.compare.specs.declared.Seen.{Seen}
 use Rattle.compare.specs.Comparing.{Compared}
 use Rattle.areas.specs.Areas.{pbch_area, user_area}
 use Rattle.areas.specs.Tables.{RowMasks}
@@ -44,10 +42,10 @@ pub record Shared (w : List ℕ) (p : Plan) (g : List ℕ) (control : Registers)
   pub rows : RowMasks p.cell p.frame p.cell.ports true 14 masks
 
 -- what the comparison of a channel answers: with what it sends, or, for PBCH and a user, with the symbols that stand in the grid
-abbrev pub SentSeen : Plan → Channel → List ℕ → List ℕ → Seen → Type 0
+abbrev pub SentSeen : Plan → Channel → List ℕ → List ℕ → Option ℕ → Type 0
 SentSeen p ch sums g r = Compared (elements_of p ch) (sent_of p (lent_to ch sums []) (start_pair p ch) ch) g r
 
-unfoldable pub ChannelSeen : Plan → Channel → List ℕ → List ℕ → Seen → Type 0
+unfoldable pub ChannelSeen : Plan → Channel → List ℕ → List ℕ → Option ℕ → Type 0
 ChannelSeen p (Crs s) sums g r = SentSeen p (Crs s) sums g r
 ChannelSeen p (Sync m) sums g r = SentSeen p (Sync m) sums g r
 ChannelSeen p Pbch sums g r = AreaCompared (pbch_area p.cell p.frame) 2 2 g r

@@ -10,14 +10,13 @@ ghost use Rattle.schedule.specs.declared.Channel.TheVariants.{Pbch};
 ghost use Rattle.schedule.specs.Schedule.{all_send};
 ghost use Rattle.verify.specs.Made.{element_due, Given, Planned, Shared, ChannelSeen, Made};
 
-use compare::{Seen, together};
 use gold::Registers;
 use layout::Mark;
 use plan::Plan;
 use schedule::Channel;
 
 // PBCH. It leaves out the reference signals of four ports, whatever the cell has, so its masks are its own.
-fn compare_pbch(p: Plan, grid: &[u8]) -> Seen
+fn compare_pbch(p: Plan, grid: &[u8]) -> Option<usize>
     requires { (w : List ℕ) × Planned w p grid.now Pbch }
     ensures { AreaCompared (pbch_area p.cell p.frame) 2 2 grid.now result }
 {
@@ -36,38 +35,34 @@ fn compare_channel(
     sums: &[u8; 200],
     masks: &[u8; 14],
     grid: &[u8],
-) -> Seen
+) -> Option<usize>
     requires { (w : List ℕ) × Planned w p grid.now ch × Shared w p grid.now control sums.now masks.now }
     ensures { ChannelSeen p ch sums.now grid.now result }
 {
     match ch {
         Channel::Crs(s) => {
             let r = schedule::started(p, ch);
-            signals_compare::compare_crs(r, p.cell, base::wide(s), grid)
+            signals_compare::compare_crs(r, p.cell, usize::from(s), grid)
         }
-        Channel::Sync(mark) => match mark {
-            Mark::Primary => signals_compare::compare_pss(p.cell, grid),
-            Mark::Secondary => signals_compare::compare_sss(p.cell, p.frame, grid),
-        },
+        Channel::Sync(Mark::Primary) => signals_compare::compare_pss(p.cell, grid),
+        Channel::Sync(Mark::Secondary) => signals_compare::compare_sss(p.cell, p.frame, grid),
         Channel::Pbch => compare_pbch(p, grid),
         Channel::Pcfich => control_compare::compare_pcfich(control, p.cell, p.frame.cfi, grid),
         Channel::Phich(m) => {
-            let all = &sums[..];
-            let unit = base::wide(m);
-            let from = 8 * unit;
-            let to = 8 * unit + 8;
-            control_compare::compare_phich(control, p.cell, unit, &all[from..to], grid)
+            let unit = usize::from(m);
+            let part = &sums[8 * unit..8 * unit + 8];
+            control_compare::compare_phich(control, p.cell, unit, part, grid)
         }
         Channel::User(u) => {
             let area = areas::user_area(p.cell, p.frame, u);
-            let order = u.order as u32;
+            let order = u32::from(u.order);
             data_compare::compare_area(area, order, modulation::unit(order), masks, grid)
         }
     }
 }
 
 // Every channel, turn after turn. A PHICH unit is compared with the sums that the bits read from the grid make.
-fn compare_all(plan: &[u8], p: Plan, grid: &[u8]) -> Seen
+fn compare_all(plan: &[u8], p: Plan, grid: &[u8]) -> Option<usize>
     requires { Given plan.now p grid.now }
     ensures { Compared (all_send plan.now p) (element_due plan.now p grid.now) grid.now result }
 {
@@ -79,17 +74,18 @@ fn compare_all(plan: &[u8], p: Plan, grid: &[u8]) -> Seen
     let shape = counts::shape_of(p.cell, p.frame);
     let turns = schedule::count(p);
     let mut turn = schedule::first(p);
-    let mut seen = Seen::Weight(0);
+    let mut weight: usize = 0;
+    // A `while`, since a `for` is no plainer: the cursor counts the turns itself, and what comes next is the plan's.
     while turn.number < turns {
         let ch = schedule::channel_at(plan, p, turn);
         let section = schedule::section_of(p, shape, turn.start, ch);
         let end = section.end;
         if schedule::present(p, ch) {
-            seen = together(seen, compare_channel(p, ch, control, &sums, &masks, grid));
+            weight += compare_channel(p, ch, control, &sums, &masks, grid)?;
         }
         turn = schedule::next(plan, turn, ch, end);
     }
-    seen
+    Some(weight)
 }
 
 // Whether some accepted payload makes the grid. Whoever calls has the plan from the plan check, and has compared the grid's length.
@@ -97,8 +93,5 @@ pub fn has_payload(plan: &[u8], p: Plan, grid: &[u8]) -> bool
     requires { Given plan.now p grid.now }
     ensures { Made plan.now p grid.now result }
 {
-    match compare_all(plan, p, grid) {
-        Seen::Weight(n) => n == compare::weight(grid),
-        Seen::Differs => false,
-    }
+    compare_all(plan, p, grid).is_some_and(|n| n == compare::weight(grid))
 }

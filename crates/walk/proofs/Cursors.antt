@@ -9,20 +9,21 @@ use native.Mathlib.Decide.{dec_le}
 use native.Mathlib.Numerals.{add-one}
 use native.Mathlib.Omega.{arith}
 use lib.Dec.{leb, ltb}
-use lib.ListN.{get_or}
 use borrow.Author.Tests.{le-leb, lt-ltb, le-ltb, leb-true, ltb-true, ltb-false}
 use Rattle.base.proofs.Tests.{by-test, both, or_right}
 use Rattle.base.proofs.Rows.{at-div, at-mod, row_inside}
 use Rattle.base.specs.Counts.{cnt}
 use Rattle.base.proofs.Counts.{cnt-skip, cnt-none, cnt-le}
 use Rattle.walk.specs.declared.Cursor.{Cursor}
+use Rattle.walk.specs.declared.Row.{Row}
 use Rattle.walk.specs.declared.Run.{Run}
+use Rattle.walk.specs.declared.Span.{Span}
 use Rattle.walk.specs.Runs.{bit_of, open_count, run_count, Laid}
 use Rattle.walk.specs.Tables.{row_mask, row_first, row_end, span_from, span_to, in_spans, in_tables, Spans, cursor_start, cursor_run, cursor_next, cursor_at, CursorIn, AtIndex}
 use Rattle.walk.proofs.Runs.{halves-count, owned_at, index_at, within-at}
 
 -- ---- spans
-span-in : (spans : List ℕ) (i n b k : ℕ) → k < n → span_from spans (i + k) ≤ b → b < span_to spans (i + k) → in_spans spans i n b ≡ true
+span-in : (spans : List Span) (i n b k : ℕ) → k < n → span_from spans (i + k) ≤ b → b < span_to spans (i + k) → in_spans spans i n b ≡ true
 unfolding in_spans
 span-in spans i zero b k h l m = absurd (omega arith)
 span-in spans i (suc n) b k h l m = pick (dec_le (suc k) n) (λ d. span-in spans i n b k d l m)
@@ -34,7 +35,7 @@ span-in spans i (suc n) b k h l m = pick (dec_le (suc k) n) (λ d. span-in spans
         rw e (ap (λ (x : Bool). x || in_spans spans i k b) (both (le-leb (span_from spans (i + k)) b l) (lt-ltb b (span_to spans (i + k)) m)))
 
 span-out :
-    (spans : List ℕ) (i n b : ℕ) → ((k : ℕ) → i ≤ k → k < i + n → span_from spans k ≤ b → b < span_to spans k → ⊥) → in_spans spans i n b ≡ false
+    (spans : List Span) (i n b : ℕ) → ((k : ℕ) → i ≤ k → k < i + n → span_from spans k ≤ b → b < span_to spans k → ⊥) → in_spans spans i n b ≡ false
 unfolding in_spans
 span-out spans i zero b h = refl
 span-out spans i (suc n) b h =
@@ -48,7 +49,7 @@ span-out spans i (suc n) b h =
         (λ y. rw (x, y) refl))
         (λ x. rw x refl)
 
-module _ {W S : ℕ} {rows spans : List ℕ} (t : Spans W S rows spans) where
+module _ {W S : ℕ} {rows : List Row} {spans : List Span} (t : Spans W S rows spans) where
   abbrev own : ℕ → Bool
   own = in_tables W rows spans
 
@@ -184,7 +185,7 @@ module _ {W S : ℕ} {rows spans : List ℕ} (t : Spans W S rows spans) where
             pick (no y) = omega (arith, later k (omega arith) b)
 
 -- ---- the cursor
-module _ {W S : ℕ} {rows spans : List ℕ} (t : Spans W S rows spans) where
+module _ {W S : ℕ} {rows : List Row} {spans : List Span} (t : Spans W S rows spans) where
   pub starts : AtIndex W S rows spans (cursor_start rows) 0
   starts =
       let e : 0 * W ≡ 0 = zero-mul W in
@@ -222,16 +223,14 @@ module _ {W S : ℕ} {rows spans : List ℕ} (t : Spans W S rows spans) where
         nothing x h = omega (arith, zero-mul (open_count (row_mask rows c.s)))
 
     -- and the next cursor stands after them: where the row has no more, at the next row's first span
-    new_row : {n : ℕ} → c.s < S → cnt (in_tables W rows spans) (c.s * W + W) ≡ n → AtIndex W S rows spans (record { s = c.s + 1; i = get_or rows (3 * c.s + 4) 0 }) n
+    new_row : {n : ℕ} → c.s < S → cnt (in_tables W rows spans) (c.s * W + W) ≡ n → AtIndex W S rows spans (record { s = c.s + 1; i = row_first rows (c.s + 1) }) n
     new_row l e =
-        let d : 3 * c.s + 4 ≡ 3 * (c.s + 1) + 1 = omega arith in
         let f : (c.s + 1) * W ≡ c.s * W + W = ap (λ (x : ℕ). x * W) (add-one c.s) ∙ suc-mul c.s W in
-        rw d
-        (record {
+        record {
           row = omega arith;
           from = omega arith;
           index = enter t (c.s + 1) (omega arith) ∙ ap (cnt (in_tables W rows spans)) f ∙ e;
-        })
+        }
 
     pub goes_on : c.s < S → AtIndex W S rows spans (cursor_next rows c) (j + run_count (cursor_run W rows spans c))
     unfolding cursor_at run_count
@@ -262,7 +261,7 @@ module _ {W S : ℕ} {rows spans : List ℕ} (t : Spans W S rows spans) where
 abbrev pub measure : ℕ → Cursor → ℕ
 measure S c = (S - c.s) * 256 + (255 - c.i)
 
-pub less : (S : ℕ) (rows : List ℕ) (c : Cursor) {d : Cursor} → d ≡ cursor_next rows c → c.s < S → row_end rows c.s ≤ 255 → measure S d < measure S c
+pub less : (S : ℕ) (rows : List Row) (c : Cursor) {d : Cursor} → d ≡ cursor_next rows c → c.s < S → row_end rows c.s ≤ 255 → measure S d < measure S c
 less S rows c n h l =
     rw n
     (by-test (ltb (c.i + 1) (row_end rows c.s))
@@ -273,19 +272,19 @@ less S rows c n h l =
 pub row_fits : (s W x : ℕ) → s < 14 → W ≤ 1200 → x ≤ 255 → (s * W < 2 ^ 64) × (s * W + 6 * x < 2 ^ 64)
 row_fits s W x h w l = let a = row_inside s 14 W 0 h (omega arith) in (omega (arith, a), omega (arith, a))
 
-module _ (rows : List ℕ) (c : Cursor) {last : ℕ} (is : last ≡ row_end rows c.s) where
+module _ (rows : List Row) (c : Cursor) {last : ℕ} (is : last ≡ row_end rows c.s) where
   pub span_run :
-      (W : ℕ) (spans : List ℕ) {from to mask : ℕ} → c.i < last → mask ≡ row_mask rows c.s → from ≡ span_from spans c.i → to ≡ span_to spans c.i
+      (W : ℕ) (spans : List Span) {from to mask : ℕ} → c.i < last → mask ≡ row_mask rows c.s → from ≡ span_from spans c.i → to ≡ span_to spans c.i
       → ◌≡◌ {A = Run} (record { first = c.s * W + 6 * from; halves = to - from; mask = mask }) (cursor_run W rows spans c)
   span_run W spans l m f t = rw (lt-ltb c.i (row_end rows c.s) (omega arith), m, f, t) refl
 
   pub no_run :
-      (W : ℕ) (spans : List ℕ) {mask : ℕ} → last ≤ c.i → mask ≡ row_mask rows c.s
+      (W : ℕ) (spans : List Span) {mask : ℕ} → last ≤ c.i → mask ≡ row_mask rows c.s
       → ◌≡◌ {A = Run} (record { first = c.s * W; halves = 0; mask = mask }) (cursor_run W rows spans c)
   no_run W spans l m = let e : c.s * W + 0 ≡ c.s * W = omega arith in rw (le-ltb c.i (row_end rows c.s) (omega arith), m, e) refl
 
   pub span-steps : c.i + 1 < last → ◌≡◌ {A = Cursor} (record { s = c.s; i = c.i + 1 }) (cursor_next rows c)
   span-steps l = rw (lt-ltb (c.i + 1) (row_end rows c.s) (omega arith)) refl
 
-  pub row-steps : {x : ℕ} → last ≤ c.i + 1 → x ≡ get_or rows (3 * c.s + 4) 0 → ◌≡◌ {A = Cursor} (record { s = c.s + 1; i = x }) (cursor_next rows c)
+  pub row-steps : {x : ℕ} → last ≤ c.i + 1 → x ≡ row_first rows (c.s + 1) → ◌≡◌ {A = Cursor} (record { s = c.s + 1; i = x }) (cursor_next rows c)
   row-steps l e = rw (le-ltb (c.i + 1) (row_end rows c.s) (omega arith), e) refl

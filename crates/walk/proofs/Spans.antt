@@ -7,26 +7,31 @@ use mathlib.Core.List.{List}
 use native.Mathlib.Decide.{dec_le}
 use native.Mathlib.Omega.{arith}
 use lib.Dec.{leb, ltb}
-use lib.ListN.{length, get_or, set, length-set}
+use lib.ListN.{length, set, length-set}
 use lib.Seq.{get_or-set_same, get_or-set_other}
 use borrow.Author.Tests.{le-leb, lt-leb, le-ltb}
 use Rattle.base.proofs.Rows.{at-div, at-mod}
 use Rattle.walk.specs.Runs.{bit_of}
-use Rattle.walk.specs.Tables.{row_mask, row_first, row_end, span_from, span_to, in_spans, in_tables, Spans}
+use Rattle.walk.specs.declared.Row.{Row}
+use Rattle.walk.specs.declared.Span.{Span}
+use Rattle.walk.specs.Tables.{row_at, span_at, row_mask, row_first, row_end, span_from, span_to, in_spans, in_tables, Spans}
 use Rattle.walk.specs.Spans.{SpanPut, RowPut, SpanSet, RowSets}
 
 -- ---- a span, a row
-module _ (n from to : ℕ) (g : List ℕ) where
-  pub span-put : length g ≡ 512 → n < 256 → from < to → SpanPut n from to g (n + 1) (set (set g (2 * n) from) (2 * n + 1) to)
+module _ (n from to : ℕ) (g : List Span) where
+  abbrev put : Span
+  put = record { from = from; to = to }
+
+  pub span-put : length g ≡ 256 → n < 256 → from < to → SpanPut n from to g (n + 1) (set g n put)
   span-put size l h =
-      let one = set g (2 * n) from in
+      let here : span_at (set g n put) n ≡ put = get_or-set_same g n put _ (omega arith) in
       record {
-        size = length-set one (2 * n + 1) to ∙ length-set g (2 * n) from;
+        size = length-set g n put;
         none = λ e. absurd (omega arith);
         next = λ e. refl;
-        first = λ e. get_or-set_other one (2 * n + 1) (2 * n) to 0 (λ q. omega arith) ∙ get_or-set_same g (2 * n) from 0 (omega arith);
-        last = λ e. get_or-set_same one (2 * n + 1) to 0 (omega (arith, length-set g (2 * n) from));
-        early = λ m s. get_or-set_other one (2 * n + 1) m to 0 (λ q. omega arith) ∙ get_or-set_other g (2 * n) m from 0 (λ q. omega arith);
+        first = λ e t. (here t).from;
+        last = λ e t. (here t).to;
+        early = λ m s. get_or-set_other g n m put _ (λ q. omega arith);
       }
 
   pub span_none : to ≤ from → SpanPut n from to g n g
@@ -34,41 +39,29 @@ module _ (n from to : ℕ) (g : List ℕ) where
       record { size = refl; none = λ e. refl; next = λ e. absurd (omega arith); first = λ e. absurd (omega arith); last = λ e. absurd (omega arith); early = λ m s. refl }
 
 pub row_put :
-    (s mask first end : ℕ) (g : List ℕ) → length g ≡ 45 → s ≤ 14
-    → RowPut s mask first end g (set (set (set g (3 * s) mask) (3 * s + 1) first) (3 * s + 2) end)
+    (s mask first end : ℕ) (g : List Row) → length g ≡ 15 → s ≤ 14
+    → RowPut s mask first end g (set g s (record { mask = mask; first = first; end = end }))
 row_put s mask first end g size l =
-    let one = set g (3 * s) mask in
-    let two = set one (3 * s + 1) first in
-    let long : length two ≡ length g = length-set one (3 * s + 1) first ∙ length-set g (3 * s) mask in
+    let row : Row = record { mask = mask; first = first; end = end } in
+    let here : row_at (set g s row) s ≡ row = get_or-set_same g s row _ (omega arith) in
     record {
-      size = length-set two (3 * s + 2) end ∙ long;
-      has-mask =
-          get_or-set_other two (3 * s + 2) (3 * s) end 0 (λ q. omega arith) ∙ get_or-set_other one (3 * s + 1) (3 * s) first 0 (λ q. omega arith)
-          ∙ get_or-set_same g (3 * s) mask 0 (omega arith);
-      has_first =
-          get_or-set_other two (3 * s + 2) (3 * s + 1) end 0 (λ q. omega arith)
-          ∙ get_or-set_same one (3 * s + 1) first 0 (omega (arith, length-set g (3 * s) mask));
-      has_end = get_or-set_same two (3 * s + 2) end 0 (omega (arith, long));
-      early = λ m h. kept m (λ q. omega arith) (λ q. omega arith) (λ q. omega arith);
-      late = λ m h. kept m (λ q. omega arith) (λ q. omega arith) (λ q. omega arith);
+      size = length-set g s row;
+      has-mask = λ t. (here t).mask;
+      has_first = λ t. (here t).first;
+      has_end = λ t. (here t).end;
+      early = λ m h. get_or-set_other g s m row _ (λ q. omega arith);
+      late = λ m h. get_or-set_other g s m row _ (λ q. omega arith);
     }
-  where
-    kept :
-        (m : ℕ) → (m ≡ 3 * s → ⊥) → (m ≡ 3 * s + 1 → ⊥) → (m ≡ 3 * s + 2 → ⊥)
-        → get_or (set (set (set g (3 * s) mask) (3 * s + 1) first) (3 * s + 2) end) m 0 ≡ get_or g m 0
-    kept m x y z =
-        get_or-set_other (set (set g (3 * s) mask) (3 * s + 1) first) (3 * s + 2) m end 0 z ∙ get_or-set_other (set g (3 * s) mask) (3 * s + 1) m first 0 y
-        ∙ get_or-set_other g (3 * s) m mask 0 x
 
 -- whatever spans it puts end where it ends
-pub put-ends : {n from to r : ℕ} {before after : List ℕ} → SpanPut n from to before r after → (k : ℕ) → n ≤ k → k < r → span_to after k ≡ to
+pub put-ends : {n from to r : ℕ} {before after : List Span} → SpanPut n from to before r after → (k : ℕ) → n ≤ k → k < r → span_to after k ≡ to
 put-ends {n} {from} {to} {r} {before} {after} p k a c = pick (dec_le (suc from) to)
   where
     pick : Dec (suc from ≤ to) → span_to after k ≡ to
     pick (yes l) = let z : k ≡ n = omega (arith, p.next l) in ap (span_to after) z ∙ p.last l
     pick (no l) = absurd (omega (arith, p.none (omega arith)))
 
-pub put-few : {n from to r : ℕ} {before after : List ℕ} → SpanPut n from to before r after → (n ≤ r) × (r ≤ n + 1)
+pub put-few : {n from to r : ℕ} {before after : List Span} → SpanPut n from to before r after → (n ≤ r) × (r ≤ n + 1)
 put-few {n} {from} {to} {r} p = pick (dec_le (suc from) to)
   where
     pick : Dec (suc from ≤ to) → (n ≤ r) × (r ≤ n + 1)
@@ -76,13 +69,13 @@ put-few {n} {from} {to} {r} p = pick (dec_le (suc from) to)
     pick (no l) = (omega (arith, p.none (omega arith)), omega (arith, p.none (omega arith)))
 
 -- ---- spans one after another
-in-same : (a g : List ℕ) (i n b : ℕ) → ((m : ℕ) → m < 2 * (i + n) → get_or a m 0 ≡ get_or g m 0) → in_spans a i n b ≡ in_spans g i n b
+in-same : (a g : List Span) (i n b : ℕ) → ((m : ℕ) → m < i + n → span_at a m ≡ span_at g m) → in_spans a i n b ≡ in_spans g i n b
 unfolding in_spans
 in-same a g i zero b h = refl
 in-same a g i (suc n) b h =
-    rw (h (2 * (i + n)) (omega arith), h (2 * (i + n) + 1) (omega arith), in-same a g i n b (λ m l. h m (omega arith))) refl
+    ap₂ (λ (x : Span) (y : Bool). (leb x.from b && ltb b x.to) || y) (h (i + n) (omega arith)) (in-same a g i n b (λ m l. h m (omega arith)))
 
-pub set-none : (spans : List ℕ) (i most : ℕ) → SpanSet spans i i most (λ (b : ℕ). false)
+pub set-none : (spans : List Span) (i most : ℕ) → SpanSet spans i i most (λ (b : ℕ). false)
 unfolding in_spans
 set-none spans i most =
     record {
@@ -94,17 +87,17 @@ set-none spans i most =
     }
 
 pub set-as :
-    {spans : List ℕ} {i e most : ℕ} {has has' : ℕ → Bool} → SpanSet spans i e most has → ((b : ℕ) → b < most → has b ≡ has' b) → SpanSet spans i e most has'
+    {spans : List Span} {i e most : ℕ} {has has' : ℕ → Bool} → SpanSet spans i e most has → ((b : ℕ) → b < most → has b ≡ has' b) → SpanSet spans i e most has'
 set-as t h = record { ordered = t.ordered; some = t.some; inside = t.inside; apart = t.apart; same = λ b l. t.same b l ∙ h b l }
 
-module _ {spans after : List ℕ} {i e most n r from to : ℕ} {has : ℕ → Bool} (t : SpanSet spans i e most has) (p : SpanPut n from to spans r after) where
+module _ {spans after : List Span} {i e most n r from to : ℕ} {has : ℕ → Bool} (t : SpanSet spans i e most has) (p : SpanPut n from to spans r after) where
   -- a set of spans before it is kept
   module _ (l : e ≤ n) where
     same_from : (k : ℕ) → k < e → span_from after k ≡ span_from spans k
-    same_from k h = p.early (2 * k) (omega arith)
+    same_from k h = ap (λ (x : Span). x.from) (p.early k (omega arith))
 
     same-to : (k : ℕ) → k < e → span_to after k ≡ span_to spans k
-    same-to k h = p.early (2 * k + 1) (omega arith)
+    same-to k h = ap (λ (x : Span). x.to) (p.early k (omega arith))
 
     pub set-kept : SpanSet after i e most has
     set-kept =
@@ -170,7 +163,7 @@ module _ {spans after : List ℕ} {i e most n r from to : ℕ} {has : ℕ → Bo
             empty b (no d) = rw (lt-leb from b (omega arith)) refl
 
 -- ---- THE TABLES of such rows: their spans, and the places that they have
-module _ {rows spans : List ℕ} {S most : ℕ} {has : ℕ → ℕ → Bool} (t : RowSets rows spans S most has) (W : ℕ) (some : 0 < W) (is : W ≡ 6 * most) where
+module _ {rows : List Row} {spans : List Span} {S most : ℕ} {has : ℕ → ℕ → Bool} (t : RowSets rows spans S most has) (W : ℕ) (some : 0 < W) (is : W ≡ 6 * most) where
   pub sets-spans : Spans W S rows spans
   sets-spans =
       record {

@@ -23,89 +23,131 @@ pub struct Run {
     pub mask: usize,
 }
 
+// A byte of a table as a number: that it is below 256 a proof knows of an argument, and not of a field in an array.
 fn byte(x: u8) -> usize
     ensures { (result ≡ x) × (result ≤ 255) }
 {
-    x as usize
+    usize::from(x)
 }
 
-// Three bytes for each row, and one row more: its form, its first span, and the one after its last.
-pub fn start(rows: &[u8; 45]) -> Cursor
-    ensures { result ≡ cursor_start rows.now }
-{
-    Cursor {
-        s: 0,
-        i: byte(rows[1]),
-    }
+// A row: its form, its first span, and the one after its last.
+#[derive(Clone, Copy)]
+pub struct Row {
+    pub mask: u8,
+    pub first: u8,
+    pub end: u8,
 }
 
-// The run at a cursor; one of no half blocks in a row that has no spans.
-pub fn run_at(c: Cursor, carriers: usize, rows: &[u8; 45], spans: &[u8; 512]) -> Run
-    requires { CursorIn carriers rows.now spans.now c }
-    ensures { (result ≡ cursor_run carriers rows.now spans.now c) × (result.halves ≤ 255) }
-{
-    let s = c.s;
-    let i = c.i;
-    let row = s * carriers;
-    let mask = byte(rows[3 * s]);
-    let last = byte(rows[3 * s + 2]);
-    if i < last {
-        let from = byte(spans[2 * i]);
-        let to = byte(spans[2 * i + 1]);
-        return Run {
-            first: row + 6 * from,
-            halves: to - from,
-            mask: mask,
-        };
-    }
-    Run {
-        first: row,
-        halves: 0,
-        mask: mask,
-    }
+// The half blocks `from` to `to` - 1 of a row.
+#[derive(Clone, Copy)]
+pub struct Span {
+    pub from: u8,
+    pub to: u8,
 }
 
-// The cursor after its run: at the row's next span, or at the next row's first where that was the last.
-pub fn next(c: Cursor, rows: &[u8; 45]) -> Cursor
-    requires { c.s < 14 }
-    ensures { (result ≡ cursor_next rows.now c) × (row_end rows.now c.s ≤ 255) }
-{
-    let s = c.s;
-    let i = c.i;
-    let last = byte(rows[3 * s + 2]);
-    if i < last {
-        let after = i + 1;
-        if after < last {
-            return Cursor { s: s, i: after };
+// A channel's places: its rows and one row more, and their spans. It is lent: by value it would be copied.
+#[derive(Drop)]
+pub struct Tables {
+    pub rows: [Row; 15],
+    pub spans: [Span; 256],
+}
+
+impl Tables {
+    // Rows without places.
+    pub fn new() -> Self
+        ensures { (length result.rows ≡ 15) × (length result.spans ≡ 256) }
+    {
+        Self {
+            rows: [Row {
+                mask: 0,
+                first: 0,
+                end: 0,
+            }; 15],
+            spans: [Span { from: 0, to: 0 }; 256],
         }
     }
-    Cursor {
-        s: s + 1,
-        i: byte(rows[3 * s + 4]),
-    }
-}
 
-// Span n of a table, if it has half blocks; the number of the span after it.
-pub fn put_span(spans: &mut [u8; 512], n: usize, from: usize, to: usize) -> usize
-    requires { (length spans.old ≡ 512) × (n < 256) × (to ≤ 255) }
-    ensures { SpanPut n from to spans.old result spans.new }
-{
-    if from < to {
-        spans[2 * n] = from as u8;
-        spans[2 * n + 1] = to as u8;
-        return n + 1;
+    pub fn start(&self) -> Cursor
+        ensures { result ≡ cursor_start self.now.rows }
+    {
+        let row = self.rows[0];
+        Cursor {
+            s: 0,
+            i: byte(row.first),
+        }
     }
-    n
-}
 
-// Row s of a table: its form, its first span, and the one after its last.
-pub fn put_row(rows: &mut [u8; 45], s: usize, mask: u8, first: usize, end: usize)
-    requires { (length rows.old ≡ 45) × (s ≤ 14) × (first ≤ 255) × (end ≤ 255) }
-    ensures { RowPut s mask first end rows.old rows.new }
-{
-    rows[3 * s] = mask;
-    rows[3 * s + 1] = first as u8;
-    rows[3 * s + 2] = end as u8;
+    // The run at a cursor; one of no half blocks in a row that has no spans.
+    pub fn run_at(&self, c: Cursor, carriers: usize) -> Run
+        requires { CursorIn carriers self.now.rows self.now.spans c }
+        ensures { (result ≡ cursor_run carriers self.now.rows self.now.spans c) × (result.halves ≤ 255) }
+    {
+        let Cursor { s, i } = c;
+        let row = self.rows[s];
+        let start = s * carriers;
+        let mask = byte(row.mask);
+        let end = byte(row.end);
+        if i < end {
+            let span = self.spans[i];
+            let from = byte(span.from);
+            let to = byte(span.to);
+            return Run {
+                first: start + 6 * from,
+                halves: to - from,
+                mask,
+            };
+        }
+        Run {
+            first: start,
+            halves: 0,
+            mask,
+        }
+    }
+
+    // The cursor after its run: at the row's next span, or at the next row's first where that was the last.
+    pub fn next(&self, c: Cursor) -> Cursor
+        requires { c.s < 14 }
+        ensures { (result ≡ cursor_next self.now.rows c) × (row_end self.now.rows c.s ≤ 255) }
+    {
+        let Cursor { s, i } = c;
+        let row = self.rows[s];
+        let end = byte(row.end);
+        if i < end && i + 1 < end {
+            return Cursor { s, i: i + 1 };
+        }
+        let after = self.rows[s + 1];
+        Cursor {
+            s: s + 1,
+            i: byte(after.first),
+        }
+    }
+
+    // Span n, if it has half blocks; the number of the span after it.
+    pub fn put_span(&mut self, n: usize, from: usize, to: usize) -> usize
+        requires { (n < 256) × (to ≤ 255) }
+        ensures { SpanPut n from to self.old.spans result self.new.spans × (self.new.rows ≡ self.old.rows) }
+    {
+        if from < to {
+            self.spans[n] = Span {
+                from: from as u8,
+                to: to as u8,
+            };
+            return n + 1;
+        }
+        n
+    }
+
+    // Row s: its form, its first span, and the one after its last.
+    pub fn put_row(&mut self, s: usize, mask: u8, first: usize, end: usize)
+        requires { (s ≤ 14) × (first ≤ 255) × (end ≤ 255) }
+        ensures { RowPut s mask first end self.old.rows self.new.rows × (self.new.spans ≡ self.old.spans) }
+    {
+        self.rows[s] = Row {
+            mask,
+            first: first as u8,
+            end: end as u8,
+        };
+    }
 }
 
 // Where the own ports of a pair and of the next one begin, in elements, and how far the other port is.
@@ -122,9 +164,9 @@ pub fn port_offsets(ports: u8, places: usize, j: usize) -> PortOffsets
 {
     let pair = (j / 2 % 2) as u8;
     PortOffsets {
-        own: base::wide(precoding::own_port(ports, pair)) * places,
-        next: base::wide(precoding::own_port(ports, pair + 1)) * places,
-        across: base::wide(ports / 2) * places,
+        own: usize::from(precoding::own_port(ports, pair)) * places,
+        next: usize::from(precoding::own_port(ports, pair + 1)) * places,
+        across: usize::from(ports / 2) * places,
     }
 }
 
@@ -142,7 +184,7 @@ fn one_hole(lead: usize) -> Holes
     ensures { result ≡ holes_with lead 5 5 }
 {
     Holes {
-        lead: lead,
+        lead,
         each: 5,
         count: 5,
     }
@@ -152,7 +194,7 @@ fn two_holes(lead: usize) -> Holes
     ensures { result ≡ holes_with lead 2 4 }
 {
     Holes {
-        lead: lead,
+        lead,
         each: 2,
         count: 4,
     }
@@ -162,38 +204,22 @@ pub fn holes_of(mask: usize) -> Holes
     requires { SingleForm mask }
     ensures { HolesOf mask result }
 {
-    if mask == 63 {
-        return Holes {
+    match mask {
+        63 => Holes {
             lead: 0,
             each: 0,
             count: 6,
-        };
+        },
+        27 => two_holes(2),
+        54 => two_holes(0),
+        45 => two_holes(1),
+        62 => one_hole(0),
+        61 => one_hole(1),
+        59 => one_hole(2),
+        55 => one_hole(3),
+        47 => one_hole(4),
+        _ => one_hole(5),
     }
-    if mask == 27 {
-        return two_holes(2);
-    }
-    if mask == 54 {
-        return two_holes(0);
-    }
-    if mask == 45 {
-        return two_holes(1);
-    }
-    if mask == 62 {
-        return one_hole(0);
-    }
-    if mask == 61 {
-        return one_hole(1);
-    }
-    if mask == 59 {
-        return one_hole(2);
-    }
-    if mask == 55 {
-        return one_hole(3);
-    }
-    if mask == 47 {
-        return one_hole(4);
-    }
-    one_hole(5)
 }
 
 // The places before the first hole: where they begin, and how many they are.

@@ -15,7 +15,7 @@ pub type Place = (String, String);
 pub type Book = BTreeMap<String, Module>;
 
 /// Names that need no import.
-const BUILT_IN: [&str; 5] = ["Type", "Unit", "⊥", "×", "result"];
+const BUILT_IN: [&str; 7] = ["Type", "Unit", "⊥", "×", "result", "Result", "Option"];
 
 #[derive(Default)]
 pub struct Reached<'a> {

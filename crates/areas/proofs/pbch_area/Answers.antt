@@ -9,5 +9,5 @@ overflow_add-result c = omega (arith, c.slot_length-slot.ensures, slot-length c.
 
 pub returns : goal.returns
 returns c =
-    pbch-made c.args.cell c.args.frame c.slot_length-slot.result c.slot_length-slot.ensures c.wide-blocks.result
-    c.wide-blocks.ensures
+    pbch-made c.args.cell c.args.frame c.slot_length-slot.result c.slot_length-slot.ensures c.from-blocks.result
+    c.from-blocks.ensures

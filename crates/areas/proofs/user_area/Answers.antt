@@ -4,4 +4,4 @@ use Rattle.areas.proofs.user_area.Goals as goal
 
 pub returns : goal.returns
 returns c = let a = c.args in
-    user-made a.cell a.frame c.symbols.ensures.0 a.u _ _ _ c.control_symbols.ensures c.wide-first.ensures c.wide-count.ensures
+    user-made a.cell a.frame c.symbols.ensures.0 a.u _ _ _ c.control_symbols.ensures c.from-first.ensures c.from-count.ensures

@@ -17,35 +17,35 @@ pub channel_at-ch-requires : goal.channel_at-ch-requires
 channel_at-ch-requires c =
     going-due c.requires.0 (c.loop-turn.invariant.1 c.requires.0) c.count-turns.ensures c.loop-turn-test.true
 
-pub section_of-part-requires : goal.section_of-part-requires
-section_of-part-requires c =
+pub section_of-start-requires : goal.section_of-start-requires
+section_of-start-requires c =
     (c.shape_of-shape.ensures, going-few c.requires.0 (c.loop-turn.invariant.1 c.requires.0) c.count-turns.ensures c.loop-turn-test.true c.channel_at-ch.ensures)
 
 pub slice_bounds-fill_turn-count : goal.slice_bounds-fill_turn-count
 slice_bounds-fill_turn-count c =
-    (going-room c.requires.0 (c.loop-turn.invariant.1 c.requires.0) c.count-turns.ensures c.loop-turn-test.true c.channel_at-ch.ensures c.section_of-part.ensures
+    (going-room c.requires.0 (c.loop-turn.invariant.1 c.requires.0) c.count-turns.ensures c.loop-turn-test.true c.channel_at-ch.ensures c.section_of-start.ensures
     ).0
 
 pub slice_bounds-fill_turn-start : goal.slice_bounds-fill_turn-start
 slice_bounds-fill_turn-start c =
-    (going-room c.requires.0 (c.loop-turn.invariant.1 c.requires.0) c.count-turns.ensures c.loop-turn-test.true c.channel_at-ch.ensures c.section_of-part.ensures
+    (going-room c.requires.0 (c.loop-turn.invariant.1 c.requires.0) c.count-turns.ensures c.loop-turn-test.true c.channel_at-ch.ensures c.section_of-start.ensures
     ).0
 
 pub slice_bounds-fill_turn-end : goal.slice_bounds-fill_turn-end
 slice_bounds-fill_turn-end c =
-    (going-room c.requires.0 (c.loop-turn.invariant.1 c.requires.0) c.count-turns.ensures c.loop-turn-test.true c.channel_at-ch.ensures c.section_of-part.ensures
+    (going-room c.requires.0 (c.loop-turn.invariant.1 c.requires.0) c.count-turns.ensures c.loop-turn-test.true c.channel_at-ch.ensures c.section_of-start.ensures
     ).1
 
 pub fill_turn-have-requires : goal.fill_turn-have-requires
 fill_turn-have-requires c = (
-  going-in c.requires.0 (c.loop-turn.invariant.1 c.requires.0) c.count-turns.ensures c.loop-turn-test.true c.channel_at-ch.ensures c.section_of-part.ensures c.requires.1
+  going-in c.requires.0 (c.loop-turn.invariant.1 c.requires.0) c.count-turns.ensures c.loop-turn-test.true c.channel_at-ch.ensures c.section_of-start.ensures c.requires.1
       c.loop-turn.invariant.0,
   c.started-control.ensures,
 )
 
 pub next-turn-requires : goal.next-turn-requires
 next-turn-requires c =
-    (_, passing (going-due c.requires.0 (c.loop-turn.invariant.1 c.requires.0) c.count-turns.ensures c.loop-turn-test.true) c.channel_at-ch.ensures c.section_of-part.ensures)
+    (_, passing (going-due c.requires.0 (c.loop-turn.invariant.1 c.requires.0) c.count-turns.ensures c.loop-turn-test.true) c.channel_at-ch.ensures c.section_of-start.ensures)
 
 pub loop-turn-smaller : goal.loop-turn-smaller
 loop-turn-smaller c = omega (arith, c.loop-turn-test.true, c.next-turn.ensures.number)
@@ -55,8 +55,8 @@ loop-turn-preserved c = (
   c.fill_turn-have.ensures.1,
   λ r.
       let due = going-due r (c.loop-turn.invariant.1 r) c.count-turns.ensures c.loop-turn-test.true in
-      going_next r (c.loop-turn.invariant.1 r) c.count-turns.ensures c.loop-turn-test.true c.channel_at-ch.ensures c.section_of-part.ensures c.requires.1 c.fill_turn-have.ensures.0
-      (after c.next-turn.ensures (passing due c.channel_at-ch.ensures c.section_of-part.ensures)),
+      going_next r (c.loop-turn.invariant.1 r) c.count-turns.ensures c.loop-turn-test.true c.channel_at-ch.ensures c.section_of-start.ensures c.requires.1 c.fill_turn-have.ensures.0
+      (after c.next-turn.ensures (passing due c.channel_at-ch.ensures c.section_of-start.ensures)),
 )
 
 pub shape_of-grid : goal.shape_of-grid

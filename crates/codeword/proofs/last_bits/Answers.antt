@@ -9,20 +9,8 @@ loop-i-init c = read_none c.args.bits.now c.args.from
 pub overflow_mul-w : goal.overflow_mul-w
 overflow_mul-w c = omega (arith, read-lt c.loop-i.invariant c.loop-i-test.true)
 
-pub overflow_add-from : goal.overflow_add-from
-overflow_add-from c = omega arith
-
-pub overflow_cast-w : goal.overflow_cast-w
-overflow_cast-w c = omega arith
-
 pub overflow_add-w : goal.overflow_add-w
 overflow_add-w c = omega (arith, read-lt c.loop-i.invariant c.loop-i-test.true, c.byte_at.ensures.1)
-
-pub overflow_add-i : goal.overflow_add-i
-overflow_add-i c = omega arith
-
-pub loop-i-smaller : goal.loop-i-smaller
-loop-i-smaller c = omega arith
 
 pub loop-i-preserved : goal.loop-i-preserved
 loop-i-preserved c = read_more c.loop-i.invariant c.loop-i-test.true c.byte_at.ensures

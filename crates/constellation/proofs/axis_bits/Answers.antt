@@ -6,9 +6,6 @@ use Rattle.constellation.proofs.axis_bits.Goals as goal
 pub loop-k-init : goal.loop-k-init
 loop-k-init c = part-start c.args.n c.args.b c.requires.0 c.requires.1 c.requires.2
 
-pub overflow_sub-k : goal.overflow_sub-k
-overflow_sub-k c = omega arith
-
 pub overflow_mul-m : goal.overflow_mul-m
 overflow_mul-m c =
     omega (arith, part-few c.loop-k.invariant c.requires.0)
@@ -16,19 +13,6 @@ overflow_mul-m c =
 pub overflow_add-m : goal.overflow_add-m
 overflow_add-m c =
     omega (arith, part-few c.loop-k.invariant c.requires.0, c.loop-k.invariant.byte)
-
-pub power-requires : goal.power-requires
-power-requires c = omega (arith, c.loop-k.invariant.few)
-
-pub size-requires : goal.size-requires
-size-requires c =
-    c.loop-k.invariant.byte
-
-pub less-z-requires : goal.less-z-requires
-less-z-requires c = (c.power.ensures.1, omega (arith, c.size.ensures.1))
-
-pub loop-k-smaller : goal.loop-k-smaller
-loop-k-smaller c = omega arith
 
 pub loop-k-preserved : goal.loop-k-preserved
 loop-k-preserved c =

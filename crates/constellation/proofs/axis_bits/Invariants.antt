@@ -4,6 +4,3 @@ use Rattle.constellation.proofs.axis_bits.Given as goal
 
 abbrev pub invariant-loop-k : goal.invariant-loop-k
 invariant-loop-k l = AxisPart l.n l.b l.m l.z l.k
-
-abbrev pub decreases-loop-k : goal.decreases-loop-k
-decreases-loop-k l = l.k

@@ -18,6 +18,6 @@ set_four-requires c =
 pub returns : goal.returns
 returns c =
     widened-by c.requires.0 c.requires.1 c.requires.2 c.requires.3 c.ranges.byte.fits
-    c.word-u.ensures.0 c.power-n.ensures.0 c.power-h.ensures.0
+    c.from-u.ensures c.power-n.ensures.0 c.power-h.ensures.0
     c.less-i.ensures.0 c.less-j.ensures.0 c.less-minus_i.ensures.0 c.less-minus_j.ensures.0
     c.three-a.ensures c.three-b.ensures c.three-c.ensures c.three-d.ensures c.set_four.ensures

@@ -13,9 +13,6 @@ pub unit_group-g-requires : goal.unit_group-g-requires
 unit_group-g-requires c =
     group-asked c.requires.0 c.loop-n-test.true
 
-pub overflow_mul-n : goal.overflow_mul-n
-overflow_mul-n c = omega arith
-
 pub unit_pair-x-requires : goal.unit_pair-x-requires
 unit_pair-x-requires c =
     unit-asked c.requires.0 c.loop-n-test.true (2 * c.loop-n.n) (omega arith) c.quad_symbol-s.ensures c.unit_group-g.ensures
@@ -30,12 +27,6 @@ compare_pair-requires c = (
 pub together-one-requires : goal.together-one-requires
 together-one-requires c =
     both-few (widest c.requires.1) c.loop-n.invariant.done c.compare_pair.ensures
-
-pub overflow_mul-n-in-loop-n : goal.overflow_mul-n-in-loop-n
-overflow_mul-n-in-loop-n c = omega arith
-
-pub overflow_add-n : goal.overflow_add-n
-overflow_add-n c = omega arith
 
 pub unit_pair-y-requires : goal.unit_pair-y-requires
 unit_pair-y-requires c =
@@ -54,12 +45,6 @@ together-seen-requires c =
     both-few (widest c.requires.1) (half-next (comparing c.args.grid.now) c.requires.0 c.loop-n-test.true
     c.quad_symbol-s.ensures c.unit_group-g.ensures c.loop-n.invariant c.unit_pair-x.ensures
     (also c.compare_pair.ensures c.together-one.ensures)).done c.compare_pair-in-loop-n.ensures
-
-pub overflow_add-n-in-loop-n : goal.overflow_add-n-in-loop-n
-overflow_add-n-in-loop-n c = omega arith
-
-pub loop-n-smaller : goal.loop-n-smaller
-loop-n-smaller c = omega arith
 
 pub loop-n-preserved : goal.loop-n-preserved
 loop-n-preserved c =

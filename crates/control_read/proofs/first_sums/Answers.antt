@@ -1,6 +1,5 @@
 -- `control_read::first_sums` meets its contract: unit after unit. Assumes nothing.
 use native.Mathlib.Omega.{arith}
-use Rattle.plan.proofs.Counts.{units-most}
 use Rattle.control_read.proofs.Reading.{first-start, first_to, unit-read}
 use Rattle.control_read.proofs.first_sums.Goals as goal
 
@@ -10,19 +9,11 @@ loop-m-init c =
 
 pub read_quad-requires : goal.read_quad-requires
 read_quad-requires c =
-    (unit-read c.requires c.loop-m-test.true c.units-units.ensures, c.loop-m.invariant)
-
-pub overflow_add-m : goal.overflow_add-m
-overflow_add-m c =
-    omega (arith, c.loop-m-test.true, c.units-units.ensures, units-most c.args.cell c.requires.cell)
-
-pub loop-m-smaller : goal.loop-m-smaller
-loop-m-smaller c =
-    omega (arith, c.loop-m-test.true)
+    (unit-read c.requires c.loop-m-test.true c.units-m-end.ensures, c.loop-m.invariant)
 
 pub loop-m-preserved : goal.loop-m-preserved
 loop-m-preserved c = first_to _ (omega arith) c.read_quad.ensures
 
 pub returns : goal.returns
 returns c =
-    first_to _ (omega (arith, c.loop-m-test.false, c.units-units.ensures)) c.loop-m.invariant
+    first_to _ (omega (arith, c.loop-m-test.false, c.units-m-end.ensures)) c.loop-m.invariant

@@ -1,12 +1,9 @@
 -- `control_read::read_his` meets its contract: after n HIs the section's first n bits are written. Assumes nothing.
-use mathlib.Core.Path.{refl, sym, ◌∙◌}
+use mathlib.Core.Path.{refl}
 use native.Mathlib.Omega.{arith}
 use Rattle.control.proofs.Sums.{length_most, after-three}
 use Rattle.control_read.proofs.Reading.{quads-in, read-start, hi-read, push-in, read_next, read-finish}
 use Rattle.control_read.proofs.read_his.Goals as goal
-
-pub word-w-requires : goal.word-w-requires
-word-w-requires c = (omega arith, omega arith)
 
 pub first_sums-requires : goal.first_sums-requires
 first_sums-requires c =
@@ -25,30 +22,18 @@ push-requires c =
     push-in c.requires c.args.r c.loop-n.invariant c.loop-n-test.true c.first_sums.ensures c.word-w.ensures
     c.spread_length-l.ensures c.hi_at.ensures c.bit_of-bit.ensures
 
-pub overflow_add-n : goal.overflow_add-n
-overflow_add-n c =
-    omega (arith, c.loop-n-test.true, c.struct_known-1.given)
-
-pub loop-n-smaller : goal.loop-n-smaller
-loop-n-smaller c =
-    omega (arith, c.loop-n-test.true)
-
 pub loop-n-preserved : goal.loop-n-preserved
 loop-n-preserved c =
     read_next c.requires c.args.r c.loop-n.invariant c.loop-n-test.true c.first_sums.ensures c.word-w.ensures
     c.spread_length-l.ensures c.hi_at.ensures c.bit_of-bit.ensures c.push.ensures c.next_at-at.ensures
 
-pub overflow_mul-spread_length : goal.overflow_mul-spread_length
-overflow_mul-spread_length c =
-    omega (arith, length_most c.args.cell c.spread_length.ensures)
-
-pub shape_of-part : goal.shape_of-part
-shape_of-part c =
-    c.loop-n.invariant.size ∙ sym c.requires.size
+pub overflow_mul-l : goal.overflow_mul-l
+overflow_mul-l c =
+    omega (arith, length_most c.args.cell c.spread_length-l.ensures)
 
 pub returns : goal.returns
 returns c = (
   read-finish c.requires c.args.r c.loop-n.invariant c.loop-n-test.false,
   after-three c.args.cell c.args.r
-      c.spread_length.ensures c.skip.ensures,
+      c.spread_length-l.ensures c.skip.ensures,
 )

@@ -13,12 +13,9 @@ unit_group-g-requires c = (
   omega arith,
 )
 
-pub overflow_cast-m : goal.overflow_cast-m
-overflow_cast-m c = omega arith
-
 pub overflow_mul-own : goal.overflow_mul-own
 overflow_mul-own c = let f = element-fits c.requires.0 {i = 0} (omega arith) c.unit_group-g.ensures
-    refl c.own_port-port.ensures c.wide.ensures c.places.ensures in
+    refl c.own_port-port.ensures c.from.ensures c.places.ensures in
     omega (arith, f.0)
 
 pub loop-i-init : goal.loop-i-init
@@ -30,13 +27,13 @@ quad_place-requires c =
     (omega arith, group-in c.requires.0 {i = c.loop-i.i} c.loop-i-test.true c.unit_group-g.ensures, c.loop-i-test.true)
 
 pub overflow_add-own : goal.overflow_add-own
-overflow_add-own c = let f = element-fits c.requires.0 {i = c.loop-i.i} c.loop-i-test.true c.unit_group-g.ensures c.quad_place.ensures c.own_port-port.ensures c.wide.ensures c.places.ensures in
+overflow_add-own c = let f = element-fits c.requires.0 {i = c.loop-i.i} c.loop-i-test.true c.unit_group-g.ensures c.quad_place.ensures c.own_port-port.ensures c.from.ensures c.places.ensures in
     omega (arith, f.1)
 
 pub get-e-requires : goal.get-e-requires
 get-e-requires c =
     (element-fits c.requires.0 {i = c.loop-i.i} c.loop-i-test.true c.unit_group-g.ensures c.quad_place.ensures
-    c.own_port-port.ensures c.wide.ensures c.places.ensures).2
+    c.own_port-port.ensures c.from.ensures c.places.ensures).2
 
 pub overflow_mul-at : goal.overflow_mul-at
 overflow_mul-at c =
@@ -62,18 +59,10 @@ pub bounds-first-at-in-loop-i : goal.bounds-first-at-in-loop-i
 bounds-first-at-in-loop-i c =
     omega (arith, c.loop-i-test.true, c.loop-i.invariant.size, c.requires.0.unit, units-most c.args.cell c.requires.0.cell)
 
-pub overflow_add-i : goal.overflow_add-i
-overflow_add-i c =
-    omega (arith, c.loop-i-test.true)
-
-pub loop-i-smaller : goal.loop-i-smaller
-loop-i-smaller c =
-    omega (arith, c.loop-i-test.true)
-
 pub loop-i-preserved : goal.loop-i-preserved
 loop-i-preserved c =
     first_next c.requires.0 {i = c.loop-i.i} c.loop-i-test.true c.unit_group-g.ensures c.quad_place.ensures
-    c.own_port-port.ensures c.wide.ensures c.places.ensures c.loop-i.invariant c.get-e.ensures
+    c.own_port-port.ensures c.from.ensures c.places.ensures c.loop-i.invariant c.get-e.ensures
 
 pub returns : goal.returns
 returns c = first_to _ (omega (arith, c.loop-i-test.false, c.loop-i.invariant.size)) c.loop-i.invariant

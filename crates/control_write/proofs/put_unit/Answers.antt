@@ -13,9 +13,6 @@ pub unit_group-g-requires : goal.unit_group-g-requires
 unit_group-g-requires c =
     group-asked c.requires.0 c.loop-n-test.true
 
-pub overflow_mul-n : goal.overflow_mul-n
-overflow_mul-n c = omega arith
-
 pub unit_pair-requires : goal.unit_pair-requires
 unit_pair-requires c =
     unit-asked c.requires.0 c.loop-n-test.true (2 * c.loop-n.n) (omega arith) c.quad_symbol-s.ensures c.unit_group-g.ensures
@@ -26,12 +23,6 @@ put_pair-requires c = (
       c.unit_group-g.ensures c.unit_pair.ensures,
   room-kept c.requires.1 c.loop-n.invariant.done,
 )
-
-pub overflow_mul-n-in-loop-n : goal.overflow_mul-n-in-loop-n
-overflow_mul-n-in-loop-n c = omega arith
-
-pub overflow_add-n : goal.overflow_add-n
-overflow_add-n c = omega arith
 
 pub unit_pair-requires-in-loop-n : goal.unit_pair-requires-in-loop-n
 unit_pair-requires-in-loop-n c =
@@ -46,19 +37,10 @@ put_pair-requires-in-loop-n c = (
       c.put_pair.ensures,
 )
 
-pub overflow_add-n-in-loop-n : goal.overflow_add-n-in-loop-n
-overflow_add-n-in-loop-n c = omega arith
-
-pub loop-n-smaller : goal.loop-n-smaller
-loop-n-smaller c = omega arith
-
 pub loop-n-preserved : goal.loop-n-preserved
 loop-n-preserved c =
     quad-next (writing c.args.grid.now) c.requires.0 c.loop-n-test.true c.quad_symbol-s.ensures c.unit_group-g.ensures c.loop-n.invariant
     c.unit_pair.ensures c.put_pair.ensures c.unit_pair-in-loop-n.ensures c.put_pair-in-loop-n.ensures
-
-pub shape_of-grid : goal.shape_of-grid
-shape_of-grid c = c.loop-n.invariant.done.size
 
 pub returns : goal.returns
 returns c =

@@ -33,15 +33,6 @@ overflow_add-centre c = let a = c.args in
     let w = c.centre_places-centre in
     omega (arith, centre-room a.cell a.frame a.start l.invariant w.result w.ensures)
 
-pub overflow_add-l : goal.overflow_add-l
-overflow_add-l c = let a = c.args in
-    let L = c.slot_length-symbols in
-    let l = c.loop-l in
-    let z = slot-length a.cell in omega (arith, L.ensures, l.invariant.inside)
-
-pub loop-l-smaller : goal.loop-l-smaller
-loop-l-smaller c = omega arith
-
 pub loop-l-preserved : goal.loop-l-preserved
 loop-l-preserved c = let a = c.args in
     let L = c.slot_length-symbols in

@@ -5,6 +5,3 @@ use Rattle.counts.proofs.slot_shape.Given as goal
 
 abbrev pub invariant-loop-l : goal.invariant-loop-l
 invariant-loop-l l = Summed l.cell l.frame l.start l.whole l.centre l.l
-
-abbrev pub decreases-loop-l : goal.decreases-loop-l
-decreases-loop-l l = l.symbols - l.l

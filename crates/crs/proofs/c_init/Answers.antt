@@ -6,12 +6,6 @@ use Rattle.crs.specs.Crs.{crs_init}
 use Rattle.crs.proofs.Values.{init-fits, prefix-le}
 use Rattle.crs.proofs.c_init.Goals as goal
 
-pub overflow_mul-result-3 : goal.overflow_mul-result-3
-overflow_mul-result-3 c = record { fits = omega (arith, init-fits c.args.cell c.args.slot c.args.l c.requires.0 c.requires.1 c.requires.2) }
-
-pub overflow_add-result-5 : goal.overflow_add-result-5
-overflow_add-result-5 c = record { fits = omega (arith, init-fits c.args.cell c.args.slot c.args.l c.requires.0 c.requires.1 c.requires.2) }
-
 pub overflow_add-result-6 : goal.overflow_add-result-6
 overflow_add-result-6 c = record {
   fits = omega (

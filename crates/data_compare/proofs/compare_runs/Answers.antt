@@ -2,7 +2,7 @@
 use native.Mathlib.Omega.{arith}
 use Rattle.walk.proofs.Cursors.{less}
 use Rattle.areas.proofs.Runs.{cursor-in, area-open}
-use Rattle.data_compare.proofs.Areas.{area-begins, area_on, area-ends}
+use Rattle.data_compare.proofs.Areas.{area-begins, area_on, area-ends, runs-wrong}
 use Rattle.data_compare.proofs.compare_runs.Goals as goal
 
 pub loop-c-init : goal.loop-c-init
@@ -29,18 +29,21 @@ overflow_add-j c =
     c.run_at-run.ensures.1 in
     omega (arith, c.places_of-j.ensures, runs.index)
 
-pub next-c-requires : goal.next-c-requires
-next-c-requires c = omega (arith, c.symbols-symbols.ensures.1, c.loop-c-test.true)
-
 pub loop-c-smaller : goal.loop-c-smaller
 loop-c-smaller c =
-    less _ c.args.rows.now c.loop-c.c c.next-c.ensures.0 c.loop-c-test.true c.next-c.ensures.1
+    less _ c.args.tables.now.rows c.loop-c.c c.next-c.ensures.0 c.loop-c-test.true c.next-c.ensures.1
 
 pub loop-c-preserved : goal.loop-c-preserved
 loop-c-preserved c =
     area_on c.requires c.symbols-symbols.ensures.0 c.carriers-carriers.ensures c.places-places.ensures c.loop-c.invariant c.loop-c-test.true c.run_at-run.ensures.0
     c.next-c.ensures.0 c.places_of-j.ensures c.compare_run-bad.ensures
 
-pub returns : goal.returns
-returns c =
-    area-ends c.requires c.symbols-symbols.ensures.0 c.carriers-carriers.ensures c.places-places.ensures c.loop-c.invariant c.loop-c-test.false
+pub returns-then-bad-eq0 : goal.returns-then-bad-eq0
+returns-then-bad-eq0 c =
+    rw c.if-bad-eq0.true at
+    (area-ends c.requires c.symbols-symbols.ensures.0 c.carriers-carriers.ensures c.places-places.ensures c.loop-c.invariant c.loop-c-test.false)
+
+pub returns-else-bad-eq0 : goal.returns-else-bad-eq0
+returns-else-bad-eq0 c =
+    runs-wrong c.if-bad-eq0.false
+    (area-ends c.requires c.symbols-symbols.ensures.0 c.carriers-carriers.ensures c.places-places.ensures c.loop-c.invariant c.loop-c-test.false)

@@ -4,12 +4,6 @@ use Rattle.walk.proofs.Singles.{holes-total, holed-at, holes_in, six-at, six-tot
 use Rattle.data_compare.proofs.OnePort.{one_seen}
 use Rattle.data_compare.proofs.compare_single.Goals as goal
 
-pub holes_of-h-requires : goal.holes_of-h-requires
-holes_of-h-requires c = c.requires.single
-
-pub overflow_mul-halves : goal.overflow_mul-halves
-overflow_mul-halves c = omega (arith, c.requires.short)
-
 pub doubles-requires : goal.doubles-requires
 doubles-requires c = doubles-in c.requires c.holes_of-h.ensures
 

@@ -3,9 +3,6 @@ use native.Mathlib.Omega.{arith}
 use Rattle.walk.proofs.Singles.{holes-total}
 use Rattle.data_compare.proofs.places_of.Goals as goal
 
-pub holes_of-h-requires : goal.holes_of-h-requires
-holes_of-h-requires c = c.requires.0
-
 pub overflow_mul-result : goal.overflow_mul-result
 overflow_mul-result c = omega (arith, holes-total c.args.run c.holes_of-h.ensures c.requires.1)
 

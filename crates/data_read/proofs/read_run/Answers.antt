@@ -7,9 +7,6 @@ use Rattle.walk.proofs.Singles.{holes-total}
 use Rattle.walk.proofs.Addresses.{open-one, open-pairs}
 use Rattle.data_read.proofs.read_run.Goals as goal
 
-pub holes_of-h-requires : goal.holes_of-h-requires
-holes_of-h-requires c = c.requires.0.single
-
 pub overflow_mul-next : goal.overflow_mul-next
 overflow_mul-next c =
     omega (arith, (holes-total c.args.run c.holes_of-h.ensures c.requires.0.short).0, c.requires.0.index)

@@ -1,5 +1,4 @@
 -- `data_read::read_runs` meets its contract. Invariant: the runs before the cursor are read. Assumes nothing.
-use native.Mathlib.Omega.{arith}
 use Rattle.walk.proofs.Cursors.{less}
 use Rattle.areas.proofs.Runs.{cursor-in}
 use Rattle.data_read.proofs.Sections.{area-begins, area-run, area_on, area-ends}
@@ -17,21 +16,14 @@ read_run-j-requires c =
     area-run c.requires c.symbols-symbols.ensures.0 c.carriers-carriers.ensures c.places-places.ensures c.loop-c.invariant c.loop-c-test.true c.run_at-run.ensures.0
     c.run_at-run.ensures.1
 
-pub next-c-requires : goal.next-c-requires
-next-c-requires c =
-    omega (arith, c.symbols-symbols.ensures.1, c.loop-c-test.true)
-
 pub loop-c-smaller : goal.loop-c-smaller
 loop-c-smaller c =
-    less _ c.args.rows.now c.loop-c.c c.next-c.ensures.0 c.loop-c-test.true c.next-c.ensures.1
+    less _ c.args.tables.now.rows c.loop-c.c c.next-c.ensures.0 c.loop-c-test.true c.next-c.ensures.1
 
 pub loop-c-preserved : goal.loop-c-preserved
 loop-c-preserved c =
     area_on c.requires c.symbols-symbols.ensures.0 c.carriers-carriers.ensures c.places-places.ensures c.loop-c.invariant c.loop-c-test.true c.run_at-run.ensures.0
     c.next-c.ensures.0 c.read_run-j.ensures
-
-pub shape_of-part : goal.shape_of-part
-shape_of-part c = c.loop-c.invariant.read.size
 
 pub returns : goal.returns
 returns c =

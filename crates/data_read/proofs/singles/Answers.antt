@@ -5,36 +5,18 @@ use Rattle.data_read.proofs.Gatherings.{read_none}
 use Rattle.data_read.proofs.Places.{single-gives, single-on, all_read}
 use Rattle.data_read.proofs.singles.Goals as goal
 
-pub overflow_mul-at : goal.overflow_mul-at
-overflow_mul-at c = omega arith
-
 pub loop-i-init : goal.loop-i-init
-loop-i-init c = (omega arith, omega arith, read_none c.requires.1)
-
-pub three_at-x-requires : goal.three_at-x-requires
-three_at-x-requires c = omega arith
+loop-i-init c = (omega arith, read_none c.requires.1)
 
 pub give-requires : goal.give-requires
 give-requires c =
-    single-gives c.args.start c.requires.1 c.loop-i.invariant.2 c.loop-i.invariant.0 c.loop-i-test.true
+    single-gives c.args.start c.requires.1 c.loop-i.invariant.1 c.loop-i-test.true
     (omega (arith, c.symbol_of.ensures, word-few c.requires.1.table c.three_at-x.result))
-
-pub overflow_add-at : goal.overflow_add-at
-overflow_add-at c = omega arith
-
-pub overflow_add-i : goal.overflow_add-i
-overflow_add-i c = omega arith
-
-pub loop-i-smaller : goal.loop-i-smaller
-loop-i-smaller c = omega arith
 
 pub loop-i-preserved : goal.loop-i-preserved
 loop-i-preserved c =
-    let o = single-on c.args.start c.requires.1 c.loop-i.invariant.2 c.loop-i.invariant.0 c.loop-i-test.true c.three_at-x.ensures c.symbol_of.ensures c.give.ensures in
-    (omega (arith, c.loop-i.invariant.0), omega arith, o)
-
-pub shape_of-part : goal.shape_of-part
-shape_of-part c = c.loop-i.invariant.2.size
+    let o = single-on c.args.start c.requires.1 c.loop-i.invariant.1 c.loop-i-test.true c.three_at-x.ensures c.symbol_of.ensures c.give.ensures in
+    (omega arith, o)
 
 pub returns : goal.returns
-returns c = all_read c.loop-i.invariant.1 c.loop-i-test.false c.loop-i.invariant.2
+returns c = all_read c.loop-i.invariant.0 c.loop-i-test.false c.loop-i.invariant.1

@@ -6,58 +6,34 @@ use Rattle.walk.proofs.Forms.{form-last}
 use Rattle.data_write.proofs.fill_pairs.Goals as goal
 
 pub all_six-requires : goal.all_six-requires
-all_six-requires c = (run_in (six-run c.args.run c.if-mask-eq63.true) c.requires.0, c.requires.1)
+all_six-requires c = (run_in (six-run c.args.run c.in-63.is) c.requires.0, c.requires.1)
 
-pub overflow_mul-result : goal.overflow_mul-result
-overflow_mul-result c = omega (arith, run_small c.requires.0)
+pub returns-in-63 : goal.returns-in-63
+returns-in-63 c = run-done (six-run c.args.run c.in-63.is) (omega arith) c.all_six.ensures
 
-pub overflow_add-result : goal.overflow_add-result
-overflow_add-result c = omega (arith, run_small c.requires.0)
+pub pairs-requires : goal.pairs-requires
+pairs-requires c = (omega arith, run_in (left-run c.args.run c.in-27.is) c.requires.0, c.requires.1)
 
-pub returns-then-mask-eq63 : goal.returns-then-mask-eq63
-returns-then-mask-eq63 c =
-    run-done (six-run c.args.run c.if-mask-eq63.true) (omega arith) c.all_six.ensures
-
-pub quads-requires : goal.quads-requires
-quads-requires c = (run_in (left-run c.args.run c.if-mask-eq27.true) c.requires.0, c.requires.1)
-
-pub overflow_mul-result-then-mask-eq27 : goal.overflow_mul-result-then-mask-eq27
-overflow_mul-result-then-mask-eq27 c = omega (arith, run_small c.requires.0)
-
-pub overflow_add-result-then-mask-eq27 : goal.overflow_add-result-then-mask-eq27
-overflow_add-result-then-mask-eq27 c = omega (arith, run_small c.requires.0)
-
-pub returns-then-mask-eq27 : goal.returns-then-mask-eq27
-returns-then-mask-eq27 c =
-    run-done (left-run c.args.run c.if-mask-eq27.true) (omega arith) c.quads.ensures
+pub returns-in-27 : goal.returns-in-27
+returns-in-27 c = run-done (left-run c.args.run c.in-27.is) (omega arith) c.pairs.ensures
 
 pub overflow_add-first : goal.overflow_add-first
 overflow_add-first c = omega (arith, run_small c.requires.0)
 
-pub quads-requires-then-mask-eq54 : goal.quads-requires-then-mask-eq54
-quads-requires-then-mask-eq54 c = (run_in (right-run c.args.run c.if-mask-eq54.true) c.requires.0, c.requires.1)
+pub pairs-requires-in-54 : goal.pairs-requires-in-54
+pairs-requires-in-54 c = (omega arith, run_in (right-run c.args.run c.in-54.is) c.requires.0, c.requires.1)
 
-pub overflow_mul-result-then-mask-eq54 : goal.overflow_mul-result-then-mask-eq54
-overflow_mul-result-then-mask-eq54 c = omega (arith, run_small c.requires.0)
+pub returns-in-54 : goal.returns-in-54
+returns-in-54 c = run-done (right-run c.args.run c.in-54.is) (omega arith) c.pairs-in-54.ensures
 
-pub overflow_add-result-then-mask-eq54 : goal.overflow_add-result-then-mask-eq54
-overflow_add-result-then-mask-eq54 c = omega (arith, run_small c.requires.0)
+pub pairs-requires-in_default : goal.pairs-requires-in_default
+pairs-requires-in_default c = (
+  omega arith,
+  run_in (apart-run c.args.run (form-last c.requires.0.form (λ e. omega arith) (λ e. omega arith) (λ e. omega arith))) c.requires.0,
+  c.requires.1,
+)
 
-pub returns-then-mask-eq54 : goal.returns-then-mask-eq54
-returns-then-mask-eq54 c =
-    run-done (right-run c.args.run c.if-mask-eq54.true) (omega arith) c.quads-then-mask-eq54.ensures
-
-pub quads_apart-requires : goal.quads_apart-requires
-quads_apart-requires c =
-    (run_in (apart-run c.args.run (form-last c.requires.0.form c.if-mask-eq63.false c.if-mask-eq27.false c.if-mask-eq54.false)) c.requires.0, c.requires.1)
-
-pub overflow_mul-result-2 : goal.overflow_mul-result-2
-overflow_mul-result-2 c = omega (arith, run_small c.requires.0)
-
-pub overflow_add-result-2 : goal.overflow_add-result-2
-overflow_add-result-2 c = omega (arith, run_small c.requires.0)
-
-pub returns : goal.returns
-returns c =
-    run-done (apart-run c.args.run (form-last c.requires.0.form c.if-mask-eq63.false c.if-mask-eq27.false c.if-mask-eq54.false)) (omega arith)
-    c.quads_apart.ensures
+pub returns-in_default : goal.returns-in_default
+returns-in_default c =
+    run-done (apart-run c.args.run (form-last c.requires.0.form (λ e. omega arith) (λ e. omega arith) (λ e. omega arith))) (omega arith)
+    c.pairs-in_default.ensures

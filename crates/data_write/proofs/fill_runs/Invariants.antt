@@ -4,7 +4,7 @@ use Rattle.walk.proofs.Cursors.{measure}
 use Rattle.data_write.proofs.fill_runs.Given as goal
 
 abbrev pub invariant-loop-c : goal.invariant-loop-c
-invariant-loop-c l = Going l.a l.q l.rows l.spans l.t l.bits l.initial.st l.initial.grid l.c l.j l.st l.grid
+invariant-loop-c l = Going l.a l.q l.tables.rows l.tables.spans l.t l.bits l.initial.st l.initial.grid l.c l.j l.st l.grid
 
 abbrev pub decreases-loop-c : goal.decreases-loop-c
 decreases-loop-c l = measure l.symbols l.c

@@ -4,14 +4,8 @@ use Rattle.walk.proofs.Singles.{holes-total, holed-at, holes_in, six-at, six-tot
 use Rattle.data_write.proofs.OnePort.{single-filled}
 use Rattle.data_write.proofs.fill_single.Goals as goal
 
-pub holes_of-h-requires : goal.holes_of-h-requires
-holes_of-h-requires c = c.requires.0.single
-
 pub overflow_mul-total : goal.overflow_mul-total
 overflow_mul-total c = omega (arith, holes-total c.args.run c.holes_of-h.ensures c.requires.0.short)
-
-pub overflow_mul-halves : goal.overflow_mul-halves
-overflow_mul-halves c = omega (arith, c.requires.0.short)
 
 pub doubles-requires : goal.doubles-requires
 doubles-requires c = (

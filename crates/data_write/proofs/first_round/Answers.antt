@@ -4,9 +4,6 @@ use native.Mathlib.Omega.{arith}
 use Rattle.walk.proofs.Addresses.{offsets-small}
 use Rattle.data_write.proofs.first_round.Goals as goal
 
-pub port_offsets-p-requires : goal.port_offsets-p-requires
-port_offsets-p-requires c = c.requires.inside.room.fits
-
 pub overflow_add-result : goal.overflow_add-result
 overflow_add-result c = omega (arith, offsets-small c.requires.inside c.port_offsets-p.ensures)
 

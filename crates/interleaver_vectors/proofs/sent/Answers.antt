@@ -21,12 +21,6 @@ step-c-requires g c = walk-stands c.args.quads
     (omega arith) (omega arith) c.loop-n.c
     c.loop-n.invariant.1
 
-pub overflow_add-n : goal.overflow_add-n
-overflow_add-n g c = omega arith
-
-pub loop-n-smaller : goal.loop-n-smaller
-loop-n-smaller g c = omega arith
-
 pub loop-n-preserved : goal.loop-n-preserved
 loop-n-preserved g c = (
   omega arith,

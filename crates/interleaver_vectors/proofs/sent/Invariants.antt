@@ -6,6 +6,3 @@ use Rattle.interleaver_vectors.proofs.sent.Given as goal
 
 abbrev pub invariant-loop-n : goal.invariant-loop-n
 invariant-loop-n g l = (l.n ≤ l.quads) × (l.c ≡ cursor_at l.quads ((l.cell + l.n) % l.quads))
-
-abbrev pub decreases-loop-n : goal.decreases-loop-n
-decreases-loop-n g l = l.quads - l.n

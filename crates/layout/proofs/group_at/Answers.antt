@@ -3,25 +3,19 @@ use native.Mathlib.Omega.{arith}
 use mathlib.Core.Path.{◌∙◌}
 use Rattle.layout.proofs.Ways.{group-later, group-format, counted-le, group-unit}
 use Rattle.layout.proofs.group_at.Goals as goal
+use Rattle.layout.proofs.group_at.Goals.{then-t-a-via-then-t-a, then-t-a-via-else-t-a+then-t-b, then-t-a-via-else-t-a+else-t-b+then-t-c, then-t-a-via-else-t-a+else-t-b+else-t-c+then-t-d}
 
 pub returns-then-s-gt0 : goal.returns-then-s-gt0
 returns-then-s-gt0 c = group-later c.args.cell c.args.s c.args.t c.if-s-gt0.true _ c.number_at.ensures
 
 pub returns-then-t-a : goal.returns-then-t-a
 returns-then-t-a c =
-    group-format c.args.cell c.args.s c.args.t (omega arith) 0 (omega arith) (c.if-t-a.true ∙ c.format_group-a.ensures)
-
-pub returns-then-t-b : goal.returns-then-t-b
-returns-then-t-b c =
-    group-format c.args.cell c.args.s c.args.t (omega arith) 1 (omega arith) (c.if-t-b.true ∙ c.format_group-b.ensures)
-
-pub returns-then-t-c : goal.returns-then-t-c
-returns-then-t-c c =
-    group-format c.args.cell c.args.s c.args.t (omega arith) 2 (omega arith) (c.if-t-c.true ∙ c.format_group-c.ensures)
-
-pub returns-then-t-d : goal.returns-then-t-d
-returns-then-t-d c =
-    group-format c.args.cell c.args.s c.args.t (omega arith) 3 (omega arith) (c.if-t-d.true ∙ c.format_group-d.ensures)
+    elim c.then-t-a.branch [
+      | then-t-a-via-then-t-a w ↦ group-format c.args.cell c.args.s c.args.t (omega arith) 0 (omega arith) (w.if-t-a.true ∙ c.format_group-a.ensures)
+      | then-t-a-via-else-t-a+then-t-b w ↦ group-format c.args.cell c.args.s c.args.t (omega arith) 1 (omega arith) (w.if-t-b.true ∙ c.format_group-b.ensures)
+      | then-t-a-via-else-t-a+else-t-b+then-t-c w ↦ group-format c.args.cell c.args.s c.args.t (omega arith) 2 (omega arith) (w.if-t-c.true ∙ c.format_group-c.ensures)
+      | then-t-a-via-else-t-a+else-t-b+else-t-c+then-t-d w ↦ group-format c.args.cell c.args.s c.args.t (omega arith) 3 (omega arith) (w.if-t-d.true ∙ c.format_group-d.ensures)
+    ]
 
 pub overflow_sub-t : goal.overflow_sub-t
 overflow_sub-t c =

@@ -12,9 +12,6 @@ groups_left-h-requires c = (c.requires.0, c.requires.2)
 pub loop-i-init : goal.loop-i-init
 loop-i-init c = (omega arith, refl)
 
-pub overflow_sub-i : goal.overflow_sub-i
-overflow_sub-i c = omega arith
-
 pub quad_in-requires : goal.quad_in-requires
 quad_in-requires c = (c.requires.0, c.requires.2, omega (arith, c.loop-i.invariant.0))
 
@@ -40,9 +37,6 @@ pub returns-then-quad_in : goal.returns-then-quad_in
 returns-then-quad_in c =
     unit-found c.args.cell c.args.s c.args.d c.groups_left-h.ensures.0 c.loop-i.i c.loop-i-test.true
     c.quad_in.ensures c.if-quad_in.true ∙ c.loop-i.invariant.1
-
-pub loop-i-smaller : goal.loop-i-smaller
-loop-i-smaller c = omega arith
 
 pub loop-i-preserved : goal.loop-i-preserved
 loop-i-preserved c = (

@@ -6,6 +6,3 @@ use Rattle.layout.proofs.unit_in.Given as goal
 
 abbrev pub invariant-loop-i : goal.invariant-loop-i
 invariant-loop-i l = (l.i ≤ 3) × (unit_at l.cell l.s l.d l.i ≡ unit_at l.cell l.s l.d 3)
-
-abbrev pub decreases-loop-i : goal.decreases-loop-i
-decreases-loop-i l = l.i

@@ -27,10 +27,6 @@ vacant_below-sum-requires c =
     let fit = starts_fit c.args.cell c.loop-n.n c.args.k c.args.s c.group_size-size.ensures c.one_below.ensures.0
     (omega arith) c.requires.3 c.one_below.ensures.1 in (c.requires.0, c.requires.1, fit.0, fit.1)
 
-pub loop-n-smaller : goal.loop-n-smaller
-loop-n-smaller c =
-    omega (arith, c.loop-n-test.true)
-
 pub loop-n-preserved : goal.loop-n-preserved
 loop-n-preserved c = (
   before-next c.args.cell c.loop-n.n c.args.k c.args.s c.group_size-size.ensures c.one_below.ensures.0

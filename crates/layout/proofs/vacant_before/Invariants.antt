@@ -6,6 +6,3 @@ use Rattle.layout.proofs.vacant_before.Given as goal
 
 abbrev pub invariant-loop-n : goal.invariant-loop-n
 invariant-loop-n l = (l.sum ≡ vacant_before l.cell l.n l.k l.s) × (l.n ≤ l.symbols) × (l.sum ≤ 1023 * l.n)
-
-abbrev pub decreases-loop-n : goal.decreases-loop-n
-decreases-loop-n l = l.symbols - l.n

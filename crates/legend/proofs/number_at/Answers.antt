@@ -6,7 +6,7 @@ use Rattle.legend.proofs.number_at.Goals as goal
 pub returns-then-k-carriers : goal.returns-then-k-carriers
 returns-then-k-carriers c =
     shown-owner c.args.plan.now c.args.p c.requires c.args.s c.args.k (omega (arith, c.symbols.ensures, c.if-s-symbols.true))
-    (omega (arith, c.carriers.ensures, c.if-k-carriers.true)) _ _ c.owner_number.ensures c.owner_at.ensures
+    (omega (arith, c.carriers.ensures, c.if-k-carriers.true)) _ _ c.from.ensures c.owner_at.ensures
 
 pub returns-else-k-carriers : goal.returns-else-k-carriers
 returns-else-k-carriers c =

@@ -4,9 +4,9 @@ use mathlib.Core.Path.{sym, ap, ◌∙◌}
 use Rattle.mapper.specs.Calls.{checked_answer}
 use Rattle.mapper.proofs.mapper_check.Goals as goal
 
-pub returns-in-Plan : goal.returns-in-Plan
-returns-in-Plan c = plus-is 0 _ (sym (check-numbers c.args.plan.now _ c.check.ensures) ∙ ap checked_answer c.in-Plan.is)
+pub returns-in-Ok : goal.returns-in-Ok
+returns-in-Ok c = plus-is 0 _ (sym (check-numbers c.args.plan.now _ c.check.ensures) ∙ ap checked_answer c.in-Ok.is)
 
-pub returns-in-Refused : goal.returns-in-Refused
-returns-in-Refused c = minus-back _ _ c.minus.result c.minus.type_inv c.minus.ensures
-    (sym (check-numbers c.args.plan.now _ c.check.ensures) ∙ ap checked_answer c.in-Refused.is)
+pub returns-in-Err : goal.returns-in-Err
+returns-in-Err c = minus-back _ _ c.minus.result c.minus.type_inv c.minus.ensures
+    (sym (check-numbers c.args.plan.now _ c.check.ensures) ∙ ap checked_answer c.in-Err.is)

@@ -1,4 +1,5 @@
 -- `mapper::payload_length` meets its contract: by the plan check. Assumes nothing.
+use Rattle.std.proofs.Common.{rules}
 use Rattle.mapper.proofs.Numbers.{number_is, number-refused}
 use Rattle.mapper.specs.Calls.{payload_length_of}
 use Rattle.payload.specs.Payload.{payload_length}
@@ -6,14 +7,12 @@ use mathlib.Core.Path.{sym, ◌∙◌}
 use Rattle.mapper.proofs.payload_length.Goals as goal
 
 pub payload_length-requires : goal.payload_length-requires
-payload_length-requires c = sym c.check.ensures ∙ c.in-Plan.is
+payload_length-requires c = sym c.check.ensures ∙ c.in_ok-p.was
 
-pub returns-in-Plan : goal.returns-in-Plan
+pub returns-in_err-p : goal.returns-in_err-p
 unfolding payload_length_of
-returns-in-Plan c =
-    number_is c.args.plan.now _ c.check.ensures _ c.in-Plan.is (payload_length c.args.plan.now) _ c.payload_length.ensures
+returns-in_err-p c = rw (← number-refused c.args.plan.now _ c.check.ensures _ c.in_err-p.was (payload_length c.args.plan.now)) (search rules)
 
-pub returns-in-Refused : goal.returns-in-Refused
+pub returns : goal.returns
 unfolding payload_length_of
-returns-in-Refused c =
-    number-refused c.args.plan.now _ c.check.ensures _ c.in-Refused.is (payload_length c.args.plan.now)
+returns c = number_is c.args.plan.now _ c.check.ensures _ c.in_ok-p.was (payload_length c.args.plan.now) _ c.payload_length.ensures

@@ -5,31 +5,31 @@ use Rattle.mapper.proofs.sample_number.Goals as goal
 
 pub bits-requires : goal.bits-requires
 bits-requires c = let a = c.args in
-    first-no-nan a.byte a.i a.j _ c.sample_at.ensures _ c.in-Is.is _ c.in-At.is
+    let s = c.in-Some-At in
+    first-no-nan a.byte a.i a.j _ c.sample_at.ensures _ s.is _ s.field-0-is
 
-pub bits-requires-in-At : goal.bits-requires-in-At
-bits-requires-in-At c = let a = c.args in
-    second-no-nan a.byte a.i a.j _ c.sample_at.ensures _
-    c.in-Is.is _ c.in-At.is
+pub bits-requires-in-Some-At : goal.bits-requires-in-Some-At
+bits-requires-in-Some-At c = let a = c.args in
+    let s = c.in-Some-At in
+    second-no-nan a.byte a.i a.j _ c.sample_at.ensures _ s.is _ s.field-0-is
 
-pub returns-in-Silence : goal.returns-in-Silence
-returns-in-Silence c = let a = c.args in
-    plus-is 0 _ (is-silence a.byte a.i a.j _ c.sample_at.ensures _ c.in-Is.is a.n c.in-Silence.is)
+pub returns-in-Some-Silence : goal.returns-in-Some-Silence
+returns-in-Some-Silence c = let a = c.args in
+    let s = c.in-Some-Silence in
+    plus-is 0 _ (is-silence a.byte a.i a.j _ c.sample_at.ensures _ s.is a.n s.field-0-is)
 
-pub returns-in-Phase : goal.returns-in-Phase
-returns-in-Phase c = let a = c.args in
+pub returns-in-Some-Phase : goal.returns-in-Some-Phase
+returns-in-Some-Phase c = let a = c.args in
+    let s = c.in-Some-Phase in
     plus-back _ _ c.plus.result c.plus.type_inv c.plus.ensures
-    (is-phase a.byte a.i a.j _ c.sample_at.ensures _
-    c.in-Is.is a.n _ _ c.in-Phase.is c.nth.ensures)
+    (is-phase a.byte a.i a.j _ c.sample_at.ensures _ s.is a.n _ _ s.field-0-is c.nth.ensures)
 
-pub returns-in-At : goal.returns-in-At
-returns-in-At c = let a = c.args in
-    plus-back _ _ c.plus-in-At.result c.plus-in-At.type_inv c.plus-in-At.ensures
-    (is-pair a.byte a.i a.j _ c.sample_at.ensures _
-    c.in-Is.is
-    _ c.in-At.is a.n _ _ _ c.bits.ensures c.bits-in-At.ensures c.nth-in-At.ensures)
+pub returns-in-Some-At : goal.returns-in-Some-At
+returns-in-Some-At c = let a = c.args in
+    let s = c.in-Some-At in
+    plus-back _ _ c.plus-in-Some-At.result c.plus-in-Some-At.type_inv c.plus-in-Some-At.ensures
+    (is-pair a.byte a.i a.j _ c.sample_at.ensures _ s.is _ s.field-0-is a.n _ _ _ c.bits.ensures c.bits-in-Some-At.ensures c.nth-in-Some-At.ensures)
 
-pub returns-in-Refused : goal.returns-in-Refused
-returns-in-Refused c = let a = c.args in
-    minus-back _ _ c.minus.result c.minus.type_inv c.minus.ensures
-    (is-refused a.byte a.i a.j _ c.sample_at.ensures a.n c.in-Refused.is)
+pub returns-in-None : goal.returns-in-None
+returns-in-None c = let a = c.args in
+    minus-back _ _ c.minus.result c.minus.type_inv c.minus.ensures (is-refused a.byte a.i a.j _ c.sample_at.ensures a.n c.in-None.is)

@@ -1,9 +1,7 @@
 -- `payload::users_length` meets its contract. The loop: the bytes so far and those of the users left are the whole. Assumes nothing.
+use Prim.Native.Nat.{◌-◌}
 use Rattle.payload.proofs.Lengths.{Going}
 use Rattle.payload.proofs.users_length.Given as goal
 
-abbrev pub invariant-loop-left : goal.invariant-loop-left
-invariant-loop-left l = Going l.plan l.p.cell l.p.frame l.p.users.at l.p.users.count l.bytes l.at l.left
-
-abbrev pub decreases-loop-left : goal.decreases-loop-left
-decreases-loop-left l = l.left
+abbrev pub invariant-sections : goal.invariant-sections
+invariant-sections l = Going l.plan l.p.cell l.p.frame l.p.users.at l.p.users.count l.bytes l.at (l.p.users.count - l.counter)

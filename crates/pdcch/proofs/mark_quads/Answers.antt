@@ -1,7 +1,7 @@
 -- Unit by unit around the ring. The loop's invariant: the groups of the units so far are marked, and n is the next one's number.
 use native.Mathlib.Omega.{arith}
 use mathlib.Core.Path.{sym, ◌∙◌}
-use Rattle.plan.proofs.Counts.{blocks-least, blocks-most, units-most}
+use Rattle.plan.proofs.Counts.{blocks-least, blocks-most}
 use Rattle.layout.proofs.GroupShape.{quad-low, quad-product}
 use Rattle.pdcch.proofs.Taken.{RingOf, ring-few, ring-next, ring-start, ring-below, ring-here, ring-spot, ring-small, rows-small, marked-none, marked_more, marked-as}
 use Rattle.pdcch.proofs.mark_quads.Goals as goal
@@ -10,46 +10,30 @@ use Rattle.pdcch.proofs.mark_quads.Goals.{After-start_number}
 -- what is worked out before the loop
 ring :
     (c : After-start_number) →
-    RingOf c.args.cell c.args.i c.quad_symbol-s.result c.format_group-a.result c.format_group-b.result
-    c.format_group-d.result c.format_group-e.result c.wide.result c.group_size-pairs.result
+    RingOf c.args.cell c.args.i c.quad_symbol-s.result c.of-format.result.first c.of-format.result.second
+    c.of-format.result.third c.of-format.result.fourth c.from.result c.group_size-pairs.result
     c.groups_left-h.result c.start_number.result
 ring c =
     record {
       cell = c.requires.0;
       symbol = c.quad_symbol-s.ensures;
-      first = c.format_group-a.ensures;
-      second = c.format_group-b.ensures;
-      third = c.format_group-d.ensures;
-      fourth = c.format_group-e.ensures;
-      width = c.wide.ensures;
+      first = c.of-format.ensures.0;
+      second = c.of-format.ensures.1;
+      third = c.of-format.ensures.2;
+      fourth = c.of-format.ensures.3;
+      width = c.from.ensures;
       size = c.group_size-pairs.ensures;
       left = c.groups_left-h.ensures.0;
       start = c.start_number.ensures.0;
     }
 
-pub format_group-a-requires : goal.format_group-a-requires
-format_group-a-requires c =
-    (blocks-least c.args.cell c.requires.0, omega arith)
-
-pub format_group-b-requires : goal.format_group-b-requires
-format_group-b-requires c =
-    (blocks-least c.args.cell c.requires.0, omega arith)
-
-pub format_group-d-requires : goal.format_group-d-requires
-format_group-d-requires c =
-    (blocks-least c.args.cell c.requires.0, omega arith)
-
-pub format_group-e-requires : goal.format_group-e-requires
-format_group-e-requires c =
-    (blocks-least c.args.cell c.requires.0, omega arith)
-
 pub overflow_mul-first : goal.overflow_mul-first
 overflow_mul-first c =
-    omega (arith, c.wide.ensures, blocks-most c.args.cell c.requires.0)
+    omega (arith, c.from.ensures, blocks-most c.args.cell c.requires.0)
 
 pub overflow_mul-first-2 : goal.overflow_mul-first-2
 overflow_mul-first-2 c =
-    omega (arith, rows-small c.args.cell c.requires.0 c.args.i c.requires.1 c.quad_symbol-s.ensures c.wide.ensures)
+    omega (arith, rows-small c.args.cell c.requires.0 c.args.i c.requires.1 c.quad_symbol-s.ensures c.from.ensures)
 
 pub group_size-pairs-requires : goal.group_size-pairs-requires
 group_size-pairs-requires c =
@@ -75,15 +59,15 @@ pub loop-m-init : goal.loop-m-init
 loop-m-init c =
     (marked-none c.args.taken.now c.requires.2, ring-start (ring (goal.at.loop-m-init c).After-start_number), omega arith)
 
-pub group_of-requires : goal.group_of-requires
-group_of-requires c =
-    omega (arith, ring-below (ring (goal.at.group_of-requires c).After-start_number) c.loop-m.m c.loop-m.invariant.1, ring-few (ring (goal.at.group_of-requires c).After-start_number))
+pub left-requires : goal.left-requires
+left-requires c =
+    omega (arith, ring-below (ring (goal.at.left-requires c).After-start_number) c.loop-m.m c.loop-m.invariant.1, ring-few (ring (goal.at.left-requires c).After-start_number))
 
 pub overflow_mul-pairs : goal.overflow_mul-pairs
 overflow_mul-pairs c =
     omega (
       arith,
-      ring-here (ring (goal.at.overflow_mul-pairs c).After-start_number) c.loop-m.m c.loop-m.invariant.1 c.group_of.ensures,
+      ring-here (ring (goal.at.overflow_mul-pairs c).After-start_number) c.loop-m.m c.loop-m.invariant.1 c.left.ensures,
       ring-small
           (ring (goal.at.overflow_mul-pairs c).After-start_number) c.requires.1 c.loop-m.m,
     )
@@ -92,7 +76,7 @@ pub overflow_add-first : goal.overflow_add-first
 overflow_add-first c =
     omega (
       arith,
-      ring-here (ring (goal.at.overflow_add-first c).After-start_number) c.loop-m.m c.loop-m.invariant.1 c.group_of.ensures,
+      ring-here (ring (goal.at.overflow_add-first c).After-start_number) c.loop-m.m c.loop-m.invariant.1 c.left.ensures,
       ring-small
           (ring (goal.at.overflow_add-first c).After-start_number) c.requires.1 c.loop-m.m,
     )
@@ -101,7 +85,7 @@ pub add-requires : goal.add-requires
 add-requires c =
     omega (
       arith,
-      ring-here (ring (goal.at.add-requires c).After-start_number) c.loop-m.m c.loop-m.invariant.1 c.group_of.ensures,
+      ring-here (ring (goal.at.add-requires c).After-start_number) c.loop-m.m c.loop-m.invariant.1 c.left.ensures,
       ring-small (ring (goal.at.add-requires c).After-start_number) c.requires.1
           c.loop-m.m,
       c.loop-m.invariant.0.size,
@@ -111,24 +95,16 @@ pub around-n-requires : goal.around-n-requires
 around-n-requires c =
     ring-below (ring (goal.at.around-n-requires c).After-start_number) c.loop-m.m c.loop-m.invariant.1
 
-pub overflow_add-m : goal.overflow_add-m
-overflow_add-m c =
-    omega (arith, c.loop-m-test.true, c.units-units.ensures, units-most c.args.cell c.requires.0)
-
-pub loop-m-smaller : goal.loop-m-smaller
-loop-m-smaller c =
-    omega (arith, c.loop-m-test.true)
-
 pub loop-m-preserved : goal.loop-m-preserved
 loop-m-preserved c = (
   marked_more c.args.taken.now c.loop-m.taken _ c.loop-m.invariant.0
       (omega (
         arith,
-        ring-here (ring (goal.at.loop-m-preserved c).After-start_number) c.loop-m.m c.loop-m.invariant.1 c.group_of.ensures,
+        ring-here (ring (goal.at.loop-m-preserved c).After-start_number) c.loop-m.m c.loop-m.invariant.1 c.left.ensures,
         ring-small (ring (goal.at.loop-m-preserved c).After-start_number)
             c.requires.1 c.loop-m.m,
       ))
-      (ring-here (ring (goal.at.loop-m-preserved c).After-start_number) c.loop-m.m c.loop-m.invariant.1 c.group_of.ensures) c.add.ensures,
+      (ring-here (ring (goal.at.loop-m-preserved c).After-start_number) c.loop-m.m c.loop-m.invariant.1 c.left.ensures) c.add.ensures,
   ring-next _ c.loop-m.m
       _ c.loop-m.invariant.1 c.around-n.ensures,
   omega (arith, c.loop-m-test.true),

@@ -3,43 +3,22 @@ use native.Mathlib.Omega.{arith}
 use Rattle.pdcch.proofs.Walk.{block_none, block-put, block_more, block-all}
 use Rattle.pdcch.proofs.put_block.Goals as goal
 
-pub loop-i-init : goal.loop-i-init
-loop-i-init c =
-    (block_none c.args.taken.now c.args.starts.now c.args.base c.args.c c.args.groups.now, omega arith)
+pub loop-v-init : goal.loop-v-init
+loop-v-init c = block_none c.args.taken.now c.args.starts.now c.args.base c.args.c c.args.groups.now
 
-pub offset_bounds-starts-i : goal.offset_bounds-starts-i
-offset_bounds-starts-i c =
-    omega (arith, c.requires.room, c.loop-i-test.true)
-
-pub bounds-starts-i : goal.bounds-starts-i
-bounds-starts-i c =
-    omega (arith, c.requires.room, c.loop-i-test.true)
-
-pub overflow_add-starts : goal.overflow_add-starts
-overflow_add-starts c =
-    omega (arith, (c.requires.group c.loop-i.i c.loop-i-test.true).small)
+pub overflow_add-v : goal.overflow_add-v
+overflow_add-v c = omega (arith, (c.requires.group c.loop-v.v-index c.loop-v-test.true).small)
 
 pub put_group-cursor-requires : goal.put_group-cursor-requires
 put_group-cursor-requires c =
-    block-put c.args.taken.now c.args.starts.now c.args.base c.args.c c.args.groups.now c.requires c.loop-i.invariant.0
-    c.loop-i-test.true
+    block-put c.args.taken.now c.args.starts.now c.args.base c.args.c c.args.groups.now c.requires c.loop-v.invariant
+    (omega arith)
 
-pub overflow_add-i : goal.overflow_add-i
-overflow_add-i c =
-    omega (arith, c.requires.room, c.loop-i-test.true)
-
-pub loop-i-smaller : goal.loop-i-smaller
-loop-i-smaller c =
-    omega (arith, c.loop-i-test.true)
-
-pub loop-i-preserved : goal.loop-i-preserved
-loop-i-preserved c = (
-  block_more c.args.taken.now c.args.starts.now c.args.base c.args.c c.args.groups.now c.loop-i.invariant.0
-      c.put_group-cursor.ensures.0 c.put_group-cursor.ensures.1,
-  omega (arith, c.loop-i-test.true),
-)
+pub loop-v-preserved : goal.loop-v-preserved
+loop-v-preserved c =
+    block_more c.args.taken.now c.args.starts.now c.args.base c.args.c c.args.groups.now c.loop-v.invariant
+    c.put_group-cursor.ensures.0 c.put_group-cursor.ensures.1
 
 pub returns : goal.returns
 returns c =
-    block-all c.args.taken.now c.args.starts.now c.args.base c.args.c c.args.groups.now c.loop-i.invariant.0
-    (omega (arith, c.loop-i.invariant.1, c.loop-i-test.false))
+    block-all c.args.taken.now c.args.starts.now c.args.base c.args.c c.args.groups.now c.loop-v.invariant (omega arith)

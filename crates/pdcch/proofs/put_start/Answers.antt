@@ -4,9 +4,6 @@ use Prim.Native.Nat.{◌/◌}
 use Rattle.pdcch.proofs.Starts.{place-few, group-of-four, group-of-six, none_of_four, one-of-four, none-of-six, one-of-six}
 use Rattle.pdcch.proofs.put_start.Goals as goal
 
-pub group_size-requires : goal.group_size-requires
-group_size-requires c = c.requires.2
-
 pub returns-then-k-ne0 : goal.returns-then-k-ne0
 returns-then-k-ne0 c =
     none_of_four c.args.cell c.args.k c.args.s c.args.n c.args.starts.now c.group_size.ensures c.if-group_size-eq4.true c.if-k-ne0.true

@@ -1,10 +1,7 @@
 -- Block by block. The loop's invariant: the vacant groups of the blocks so far are in the table, and the cursor stands at the next one's quad.
-use Prim.Native.Nat.{◌-◌}
+use Prim.Native.Nat.{◌*◌}
 use Rattle.pdcch.specs.Walk.{WalkAt}
 use Rattle.pdcch.proofs.set_groups.Given as goal
 
 abbrev pub invariant-loop-block : goal.invariant-loop-block
-invariant-loop-block l = WalkAt l.cell l.symbols l.quads l.count l.block l.base l.cursor l.groups
-
-abbrev pub decreases-loop-block : goal.decreases-loop-block
-decreases-loop-block l = l.cell.blocks - l.block
+invariant-loop-block l = WalkAt l.fn.cell l.symbols l.quads l.count l.block (24 * l.block) l.cursor l.groups

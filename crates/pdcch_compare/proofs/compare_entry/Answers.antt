@@ -1,10 +1,6 @@
 -- `pdcch_compare::compare_entry` meets its contract. Assumes nothing.
-use native.Mathlib.Omega.{arith}
 use Rattle.pdcch_compare.proofs.Pairs.{entry-quad, entry_seen}
 use Rattle.pdcch_compare.proofs.compare_entry.Goals as goal
-
-pub overflow_sub-four : goal.overflow_sub-four
-overflow_sub-four c = omega arith
 
 pub compare_quad-requires : goal.compare_quad-requires
 compare_quad-requires c =

@@ -25,6 +25,3 @@ returns-then-ports-eq1 c =
 
 pub two_pairs-requires : goal.two_pairs-requires
 two_pairs-requires c = pairs-in c.requires c.if-ports-eq1.false
-
-pub returns : goal.returns
-returns c = c.two_pairs.ensures

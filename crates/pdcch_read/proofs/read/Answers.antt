@@ -5,9 +5,6 @@ use Rattle.pdcch_read.proofs.read.Goals as goal
 pub read_given-requires : goal.read_given-requires
 read_given-requires c = given-in c.requires
 
-pub shape_of-part : goal.shape_of-part
-shape_of-part c = c.read_given.ensures.size
-
 pub returns : goal.returns
 returns c =
     block_read c.requires c.read_given.ensures

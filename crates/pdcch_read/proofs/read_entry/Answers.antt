@@ -1,5 +1,4 @@
 -- `pdcch_read::read_entry` meets its contract. Assumes nothing.
-use mathlib.Core.Path.{refl}
 use native.Mathlib.Omega.{arith}
 use Rattle.pdcch_read.proofs.Bytes.{entry-places, entry-small, entry-fits, entry_read}
 use Rattle.pdcch_read.proofs.read_entry.Goals as goal
@@ -19,9 +18,6 @@ pub pair_at-first-requires : goal.pair_at-first-requires
 pair_at-first-requires c =
     (entry-fits c.requires.0 c.requires.1 c.gap_of-gap.ensures c.port_offsets-p.ensures).0
 
-pub overflow_sub-small : goal.overflow_sub-small
-overflow_sub-small c = omega arith
-
 pub overflow_add-start : goal.overflow_add-start
 overflow_add-start c =
     omega (arith, entry-small c.requires.0 c.requires.1 c.gap_of-gap.ensures c.port_offsets-p.ensures)
@@ -37,10 +33,6 @@ overflow_mul-p-2 c =
 pub pair_at-second-requires : goal.pair_at-second-requires
 pair_at-second-requires c =
     (entry-fits c.requires.0 c.requires.1 c.gap_of-gap.ensures c.port_offsets-p.ensures).1
-
-pub four-requires : goal.four-requires
-four-requires c =
-    record { order = (refl, omega arith, omega arith); axis = c.requires.2 }
 
 pub returns : goal.returns
 returns c =

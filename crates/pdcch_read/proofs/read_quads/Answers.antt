@@ -7,26 +7,9 @@ use Rattle.pdcch_read.proofs.read_quads.Goals as goal
 pub loop-i-init : goal.loop-i-init
 loop-i-init c = quads-start
 
-pub overflow_mul-e : goal.overflow_mul-e
-overflow_mul-e c = omega (arith, c.requires.0.table-in.few)
-
-pub overflow_add-e : goal.overflow_add-e
-overflow_add-e c =
-    omega (arith, c.requires.0.table-in.few, c.loop-i-test.true)
-
-pub offset_bounds-groups-e : goal.offset_bounds-groups-e
-offset_bounds-groups-e c = omega (arith, c.requires.0.table-in.few)
-
-pub bounds-groups-e : goal.bounds-groups-e
-bounds-groups-e c =
-    omega (arith, c.requires.0.table-in.few, c.loop-i-test.true)
-
 pub read_entry-w-requires : goal.read_entry-w-requires
 read_entry-w-requires c =
-    (table-entry c.args.e c.loop-i.i c.requires.0.table-in c.loop-i-test.true c.wide.ensures, c.places-places.ensures, c.requires.0.axis)
-
-pub unscrambled-requires : goal.unscrambled-requires
-unscrambled-requires c = c.read_entry-w.ensures.few
+    (table-entry c.args.e c.loop-i.i c.requires.0.table-in c.loop-i-test.true c.from.ensures, c.places-places.ensures, c.requires.0.axis)
 
 pub overflow_add-part : goal.overflow_add-part
 overflow_add-part c = omega (
@@ -39,21 +22,9 @@ pub bounds-part-at : goal.bounds-part-at
 bounds-part-at c =
     quads-room c.loop-i.invariant c.requires.1 c.loop-i-test.true
 
-pub advance-s-requires : goal.advance-s-requires
-advance-s-requires c = (omega arith, omega arith)
-
-pub overflow_add-i : goal.overflow_add-i
-overflow_add-i c = omega (arith, c.loop-i-test.true)
-
-pub loop-i-smaller : goal.loop-i-smaller
-loop-i-smaller c = omega (arith, c.loop-i-test.true)
-
 pub loop-i-preserved : goal.loop-i-preserved
 loop-i-preserved c =
-    quads-on c.loop-i.invariant c.requires.1 c.loop-i-test.true c.wide.ensures c.read_entry-w.ensures c.unscrambled.ensures c.advance-s.ensures
-
-pub shape_of-part : goal.shape_of-part
-shape_of-part c = c.loop-i.invariant.done.size
+    quads-on c.loop-i.invariant c.requires.1 c.loop-i-test.true c.from.ensures c.read_entry-w.ensures c.unscrambled.ensures c.advance-s.ensures
 
 pub returns : goal.returns
 returns c = quads-end c.loop-i.invariant c.loop-i-test.false

@@ -1,22 +1,17 @@
 -- `pdcch_write::put_given` meets its contract. Assumes nothing.
-use native.Mathlib.Omega.{arith}
+use mathlib.Core.Path.{◌∙◌}
 use Rattle.pdcch_write.proofs.Elements.{nine-long, given-put, given-passed}
 use Rattle.pdcch_write.proofs.put_given.Goals as goal
 
-pub returns-then-end-eq0 : goal.returns-then-end-eq0
-returns-then-end-eq0 c = given-passed c.byte-end.ensures.0 c.if-end-eq0.true c.skip.ensures
-
-pub overflow_sub-at : goal.overflow_sub-at
-overflow_sub-at c = omega (arith, c.if-end-eq0.false)
-
-pub slice_bounds-put_element-end : goal.slice_bounds-put_element-end
-slice_bounds-put_element-end c =
-    omega (arith, c.byte-end.ensures.0, c.requires.1)
+pub returns-in_default : goal.returns-in_default
+returns-in_default c = given-passed c.in_default.ensures c.skip.ensures
 
 pub put_element-requires : goal.put_element-requires
 put_element-requires c =
-    (c.requires.0, nine-long c.args.bits.now c.byte-end.ensures.0 c.requires.1 c.if-end-eq0.false)
+    let some = c.in-Some.ensures in
+    (c.requires.0, nine-long c.args.bits.now some.0 (c.from-at.ensures ∙ some.1) c.requires.1)
 
 pub returns : goal.returns
 returns c =
-    given-put c.args.bits.now c.byte-end.ensures.0 c.requires.1 c.if-end-eq0.false c.put_element.ensures
+    let some = c.in-Some.ensures in
+    given-put c.args.bits.now some.0 (c.from-at.ensures ∙ some.1) c.requires.1 c.put_element.ensures

@@ -11,9 +11,6 @@ pub returns-then-ports-eq1 : goal.returns-then-ports-eq1
 returns-then-ports-eq1 c =
     quad-single c.if-ports-eq1.true c.requires c.put_single.ensures
 
-pub port_offsets-o-requires : goal.port_offsets-o-requires
-port_offsets-o-requires c = c.requires.room.fits
-
 pub overflow_add-at : goal.overflow_add-at
 overflow_add-at c =
     omega (arith, offsets-few c.requires c.port_offsets-o.ensures)
@@ -34,18 +31,18 @@ pub overflow_mul-across : goal.overflow_mul-across
 overflow_mul-across c =
     omega (arith, offsets-few c.requires c.port_offsets-o.ensures)
 
-pub round_apart-requires : goal.round_apart-requires
-round_apart-requires c =
-    round-in c.requires c.port_offsets-o.ensures c.if-x-eq2.true
+pub round-requires : goal.round-requires
+round-requires c =
+    (omega arith, round-in c.requires c.port_offsets-o.ensures c.if-x-eq2.true)
 
 pub returns-then-x-eq2 : goal.returns-then-x-eq2
 returns-then-x-eq2 c =
-    quad-round c.requires c.port_offsets-o.ensures c.if-ports-eq1.false c.if-x-eq2.true c.round_apart.ensures
+    quad-round c.requires c.port_offsets-o.ensures c.if-ports-eq1.false c.if-x-eq2.true c.round.ensures
 
-pub round-requires : goal.round-requires
-round-requires c =
-    round-in c.requires c.port_offsets-o.ensures (gap-one c.requires c.if-x-eq2.false)
+pub round-requires-2 : goal.round-requires-2
+round-requires-2 c =
+    (omega arith, round-in c.requires c.port_offsets-o.ensures (gap-one c.requires c.if-x-eq2.false))
 
 pub returns : goal.returns
 returns c =
-    quad-round c.requires c.port_offsets-o.ensures c.if-ports-eq1.false (gap-one c.requires c.if-x-eq2.false) c.round.ensures
+    quad-round c.requires c.port_offsets-o.ensures c.if-ports-eq1.false (gap-one c.requires c.if-x-eq2.false) c.round-2.ensures

@@ -5,7 +5,7 @@ use Rattle.phich.proofs.Own.{place-fits, flipped-chip, add_start, add-next, add-
 use Rattle.phich.proofs.add_hi.Goals as goal
 
 pub sequence-row-requires : goal.sequence-row-requires
-sequence-row-requires c = (c.requires.1.spread, omega (arith, c.requires.1.known, c.wide.ensures))
+sequence-row-requires c = (c.requires.1.spread, omega (arith, c.requires.1.known, c.from.ensures))
 
 pub loop-n-init : goal.loop-n-init
 loop-n-init c =
@@ -20,13 +20,13 @@ bounds-row-n c = omega (arith, c.loop-n-test.true, c.requires.1.spread.1)
 pub plain_chip-chip-requires : goal.plain_chip-chip-requires
 plain_chip-chip-requires c = row-entry c.sequence-row.ensures c.loop-n-test.true
 
-pub overflow_mul-wide : goal.overflow_mul-wide
-overflow_mul-wide c =
-    omega (arith, (place-fits c.requires.1 c.wide-in-loop-n.ensures c.loop-n-test.true).0)
+pub overflow_mul-from : goal.overflow_mul-from
+overflow_mul-from c =
+    omega (arith, (place-fits c.requires.1 c.from-in-loop-n.ensures c.loop-n-test.true).0)
 
-pub overflow_add-wide : goal.overflow_add-wide
-overflow_add-wide c =
-    omega (arith, (place-fits c.requires.1 c.wide-in-loop-n.ensures c.loop-n-test.true).1)
+pub overflow_add-from : goal.overflow_add-from
+overflow_add-from c =
+    omega (arith, (place-fits c.requires.1 c.from-in-loop-n.ensures c.loop-n-test.true).1)
 
 pub flipped-requires : goal.flipped-requires
 flipped-requires c =
@@ -35,21 +35,14 @@ flipped-requires c =
 pub add_at-requires : goal.add_at-requires
 add_at-requires c = (
   c.loop-n.invariant.added.size ∙ c.loop-n.invariant.size,
-  (place-fits c.requires.1 c.wide-in-loop-n.ensures c.loop-n-test.true).2,
+  (place-fits c.requires.1 c.from-in-loop-n.ensures c.loop-n-test.true).2,
   flipped-chip _ _ _ c.args.b (row-chip c.sequence-row.ensures c.loop-n-test.true c.plain_chip-chip.ensures) c.flipped.ensures,
 )
 
-pub overflow_add-n : goal.overflow_add-n
-overflow_add-n c =
-    omega (arith, c.loop-n-test.true, c.requires.1.spread.1)
-
-pub loop-n-smaller : goal.loop-n-smaller
-loop-n-smaller c = omega (arith, c.loop-n-test.true)
-
 pub loop-n-preserved : goal.loop-n-preserved
 loop-n-preserved c =
-    add-next c.args.l c.requires.1.spread c.args.h c.args.b c.loop-n.invariant c.loop-n-test.true c.wide.ensures
-    (row-chip c.sequence-row.ensures c.loop-n-test.true c.plain_chip-chip.ensures) c.flipped.ensures c.wide-in-loop-n.ensures
+    add-next c.args.l c.requires.1.spread c.args.h c.args.b c.loop-n.invariant c.loop-n-test.true c.from.ensures
+    (row-chip c.sequence-row.ensures c.loop-n-test.true c.plain_chip-chip.ensures) c.flipped.ensures c.from-in-loop-n.ensures
     c.add_at.ensures
 
 pub returns : goal.returns

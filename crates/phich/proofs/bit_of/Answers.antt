@@ -7,7 +7,7 @@ use Rattle.phich.proofs.Quad.{start, next_fits, next, finish-one, finish-zero}
 use Rattle.phich.proofs.bit_of.Goals as goal
 
 pub sequence-row-requires : goal.sequence-row-requires
-sequence-row-requires c = (c.requires.spread, omega (arith, c.requires.known, c.wide.ensures))
+sequence-row-requires c = (c.requires.spread, omega (arith, c.requires.known, c.from.ensures))
 
 pub loop-n-init : goal.loop-n-init
 loop-n-init c = start
@@ -21,17 +21,17 @@ bounds-row-n c = omega (arith, c.loop-n-test.true, c.requires.spread.1)
 pub plain_chip-chip-requires : goal.plain_chip-chip-requires
 plain_chip-chip-requires c = row-entry c.sequence-row.ensures c.loop-n-test.true
 
-pub overflow_mul-wide : goal.overflow_mul-wide
-overflow_mul-wide c =
-    omega (arith, (place-fits c.requires c.wide-in-loop-n.ensures c.loop-n-test.true).0)
+pub overflow_mul-from : goal.overflow_mul-from
+overflow_mul-from c =
+    omega (arith, (place-fits c.requires c.from-in-loop-n.ensures c.loop-n-test.true).0)
 
-pub overflow_add-wide : goal.overflow_add-wide
-overflow_add-wide c =
-    omega (arith, (place-fits c.requires c.wide-in-loop-n.ensures c.loop-n-test.true).1)
+pub overflow_add-from : goal.overflow_add-from
+overflow_add-from c =
+    omega (arith, (place-fits c.requires c.from-in-loop-n.ensures c.loop-n-test.true).1)
 
 pub levels_at-p-requires : goal.levels_at-p-requires
 levels_at-p-requires c =
-    omega (arith, (place-fits c.requires c.wide-in-loop-n.ensures c.loop-n-test.true).2)
+    omega (arith, (place-fits c.requires c.from-in-loop-n.ensures c.loop-n-test.true).2)
 
 pub scrambling-requires : goal.scrambling-requires
 scrambling-requires c =
@@ -44,17 +44,10 @@ pub overflow_add-t : goal.overflow_add-t
 overflow_add-t c =
     next_fits c.loop-n.invariant c.flipped_by-d.result c.loop-n-test.true c.requires.spread.1 c.flipped_by-d.ensures.1
 
-pub overflow_add-n : goal.overflow_add-n
-overflow_add-n c =
-    omega (arith, c.loop-n-test.true, c.requires.spread.1)
-
-pub loop-n-smaller : goal.loop-n-smaller
-loop-n-smaller c = omega (arith, c.loop-n-test.true)
-
 pub loop-n-preserved : goal.loop-n-preserved
 loop-n-preserved c =
-    next c.loop-n.invariant c.flipped_by-d.result c.loop-n-test.true c.requires.spread.1 c.flipped_by-d.ensures.1 c.wide.ensures
-    (row-chip c.sequence-row.ensures c.loop-n-test.true c.plain_chip-chip.ensures) c.wide-in-loop-n.ensures c.levels_at-p.ensures
+    next c.loop-n.invariant c.flipped_by-d.result c.loop-n-test.true c.requires.spread.1 c.flipped_by-d.ensures.1 c.from.ensures
+    (row-chip c.sequence-row.ensures c.loop-n-test.true c.plain_chip-chip.ensures) c.from-in-loop-n.ensures c.levels_at-p.ensures
     ((product-held c.dot.result c.dot.ensures.1).0 ∙ c.dot.ensures.0) c.scrambling.ensures
     c.flipped_by-d.ensures.0
 

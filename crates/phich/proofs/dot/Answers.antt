@@ -16,8 +16,8 @@ returns c = let x = c.by in
     let s : Pair = c.args.s in
     let p : Pair = c.args.p in
     let sre = to_z-of_z {w = w8} {z = s.re} (record { sfits = c.struct_told-1.given.0.1 }) in
-    let sim = to_z-of_z {w = w8} {z = s.im} (record { sfits = c.struct_told-2-1.given.1.0.1 }) in
-    let pre = to_z-of_z {w = w8} {z = p.re} (record { sfits = c.struct_told-3-1.given.0.1 }) in
+    let sim = to_z-of_z {w = w8} {z = s.im} (record { sfits = c.struct_told-3-1.given.1.0.1 }) in
+    let pre = to_z-of_z {w = w8} {z = p.re} (record { sfits = c.struct_told-2-1.given.0.1 }) in
     let pim = to_z-of_z {w = w8} {z = p.im} (record { sfits = c.struct_told-4-1.given.1.0.1 }) in
     let e : x.result +ℤ y.result ≡ dot_of s p = ap₂ (λ (u v : ℤ). u +ℤ v) (x.ensures.0 ∙ ap₂ by_sign sre pre) (y.ensures.0 ∙ ap₂ by_sign sim pim) in
     bounded 256 {x = dot_of s p}

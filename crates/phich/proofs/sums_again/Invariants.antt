@@ -1,13 +1,9 @@
--- `phich::sums_again` meets its contract: what is summed and what is left make the whole sums. Assumes nothing.
-use Rattle.std.proofs.Common.{◌-◌, drop}
+-- `phich::sums_again` sums with the bits that the first quads' sums give. Assumes nothing.
+use Rattle.std.proofs.Common.{drop}
 use Rattle.plan.specs.CommandLists.{his_from}
 use Rattle.phich.specs.Spreading.{word_bit}
 use Rattle.phich.specs.Loops.{bits_from}
-use Rattle.phich.proofs.HisLeft.{Summed}
 use Rattle.phich.proofs.sums_again.Given as goal
 
-abbrev pub invariant-loop-k : goal.invariant-loop-k
-invariant-loop-k l = Summed l.l l.plan l.at l.count (bits_from l.l (word_bit l.w) (his_from (drop l.at l.plan) l.count) l.first) l.sums l.from l.k
-
-abbrev pub decreases-loop-k : goal.decreases-loop-k
-decreases-loop-k l = l.count - l.k
+abbrev pub ghost-sum_his : goal.ghost-sum_his
+ghost-sum_his a = bits_from a.l (word_bit a.bit.1.now) (his_from (drop a.at a.plan.now) a.count) a.bit.2.now

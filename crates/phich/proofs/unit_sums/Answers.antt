@@ -24,12 +24,6 @@ offset_bounds-sums-i c = omega (arith, c.loop-i-test.true)
 pub bounds-sums-i : goal.bounds-sums-i
 bounds-sums-i c = omega (arith, c.loop-i-test.true)
 
-pub overflow_add-i : goal.overflow_add-i
-overflow_add-i c = omega (arith, c.loop-i-test.true)
-
-pub loop-i-smaller : goal.loop-i-smaller
-loop-i-smaller c = omega (arith, c.loop-i-test.true)
-
 pub loop-i-preserved : goal.loop-i-preserved
 loop-i-preserved c = next c.loop-i.invariant c.loop-i-test.true c.chip_of.ensures.0 c.scrambling-s.ensures c.levels_at-d.ensures c.flipped.ensures
 

@@ -18,12 +18,6 @@ bounds-part-i c = omega (arith, c.loop-i-test.true, c.loop-i.invariant.size)
 pub returns-then-part-i : goal.returns-then-part-i
 returns-then-part-i c = λ e. absurd (subst (λ (b : Bool). T (cond b false true)) e tt)
 
-pub overflow_add-i : goal.overflow_add-i
-overflow_add-i c = omega (arith, c.loop-i-test.true)
-
-pub loop-i-smaller : goal.loop-i-smaller
-loop-i-smaller c = omega (arith, c.loop-i-test.true)
-
 pub loop-i-preserved : goal.loop-i-preserved
 loop-i-preserved c = flips-more c.loop-i.invariant c.loop-i-test.true (omega arith) c.if-part-i.false
 

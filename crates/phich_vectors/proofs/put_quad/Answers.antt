@@ -29,11 +29,5 @@ overflow_add-first c = omega (arith, c.loop-i-test.true, c.requires)
 pub bounds-first-at-in-loop-i : goal.bounds-first-at-in-loop-i
 bounds-first-at-in-loop-i c = omega (arith, c.loop-i-test.true, c.requires)
 
-pub overflow_add-i : goal.overflow_add-i
-overflow_add-i c = omega (arith, c.loop-i-test.true, c.requires)
-
-pub loop-i-smaller : goal.loop-i-smaller
-loop-i-smaller c = omega (arith, c.loop-i-test.true, c.requires)
-
 pub loop-i-preserved : goal.loop-i-preserved
 loop-i-preserved c = omega (arith, c.loop-i-test.true, c.requires)

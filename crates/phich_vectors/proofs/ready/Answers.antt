@@ -15,12 +15,6 @@ known-requires c = c.requires
 pub returns-then-not-known : goal.returns-then-not-known
 returns-then-not-known c = λ e. absurd (subst (λ (b : Bool). T (cond b false true)) e tt)
 
-pub overflow_add-k : goal.overflow_add-k
-overflow_add-k c = omega (arith, c.loop-k-test.true, c.ranges.count)
-
-pub loop-k-smaller : goal.loop-k-smaller
-loop-k-smaller c = omega (arith, c.loop-k-test.true)
-
 pub loop-k-preserved : goal.loop-k-preserved
 loop-k-preserved c = next c.loop-k.invariant c.loop-k-test.true c.hi_at.ensures (c.known.ensures c.if-not-known.false) c.next_at-from.ensures
 

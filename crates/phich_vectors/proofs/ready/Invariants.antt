@@ -5,6 +5,3 @@ use Rattle.phich_vectors.proofs.ready.Given as goal
 
 abbrev pub invariant-loop-k : goal.invariant-loop-k
 invariant-loop-k l = Known l.l l.plan l.count l.from l.k
-
-abbrev pub decreases-loop-k : goal.decreases-loop-k
-decreases-loop-k l = l.count - l.k

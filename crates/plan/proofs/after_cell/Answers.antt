@@ -13,17 +13,17 @@ pub body-requires : goal.body-requires
 body-requires c =
     (frame-room c.args.plan.now c.args.c c.args.at _ (sym c.command_at.ensures ∙ c.in-Frame.is), c.requires)
 
-pub returns-in-Nothing : goal.returns-in-Nothing
-returns-in-Nothing c =
+pub returns-in-Ok : goal.returns-in-Ok
+returns-in-Ok c =
     let a = c.args in
     let e = sym c.command_at.ensures ∙ c.in-Frame.is in
-    c.body.ensures ∙ frame_step a.plan.now a.c a.at _ e c.frame_cause.ensures c.in-Nothing.is
+    c.body.ensures ∙ frame_step a.plan.now a.c a.at _ e c.frame_cause.ensures c.in-Ok.is
 
-pub returns-in-Is : goal.returns-in-Is
-returns-in-Is c =
+pub returns-in-Err : goal.returns-in-Err
+returns-in-Err c =
     let a = c.args in
     let e = sym c.command_at.ensures ∙ c.in-Frame.is in
-    frame_refused a.plan.now a.c a.at _ e c.frame_cause.ensures c.in-Is.is c.found.ensures
+    frame_refused a.plan.now a.c a.at _ e c.frame_cause.ensures c.in-Err.is c.found.ensures
 
 pub returns-in_default : goal.returns-in_default
 returns-in_default c =

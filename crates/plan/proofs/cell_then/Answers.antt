@@ -5,14 +5,14 @@ use Rattle.plan.proofs.Opening.{cell-refused, cell-step}
 use Rattle.plan.proofs.cell_then.Goals as goal
 
 pub after_cell-requires : goal.after_cell-requires
-after_cell-requires c = cell_in _ (sym c.in-Nothing.is ∙ c.cell_cause.ensures)
+after_cell-requires c = cell_in _ (sym c.in-Ok.is ∙ c.cell_cause.ensures)
 
-pub returns-in-Nothing : goal.returns-in-Nothing
-returns-in-Nothing c =
+pub returns-in-Ok : goal.returns-in-Ok
+returns-in-Ok c =
     let a = c.args in
-    c.after_cell.ensures ∙ cell-step a.plan.now a.c a.at c.cell_cause.ensures c.in-Nothing.is
+    c.after_cell.ensures ∙ cell-step a.plan.now a.c a.at c.cell_cause.ensures c.in-Ok.is
 
-pub returns-in-Is : goal.returns-in-Is
-returns-in-Is c =
+pub returns-in-Err : goal.returns-in-Err
+returns-in-Err c =
     let a = c.args in
-    cell-refused a.plan.now a.c a.at c.cell_cause.ensures c.in-Is.is c.found.ensures
+    cell-refused a.plan.now a.c a.at c.cell_cause.ensures c.in-Err.is c.found.ensures

@@ -1,7 +1,6 @@
 -- `plan::earlier_of` meets its contract: none where nothing is in common, else the loop over the commands before. The invariant: the first from here on is the one
 -- asked for. The measure is how many are left. Assumes nothing.
 use mathlib.Core.Path.{refl}
-use native.Mathlib.Omega.{arith}
 use lib.ListN.{drop}
 use Rattle.plan.specs.Finding.{earlier_of}
 use Rattle.plan.proofs.Clashes.{clash-nothing, clash-test, clash-none, clash-here, clash-later}
@@ -23,12 +22,6 @@ returns-then-byte_at-code c =
     let b = c.loop-number.before in
     let test = clash-test (drop a.at w) (drop b w) a.s c.byte_at-code.ensures c.byte_at.ensures c.in_common.ensures in
     clash-here w a.n a.at a.s m b c.loop-number-test.true c.loop-number.invariant test c.if-byte_at-code.true
-
-pub overflow_add-number : goal.overflow_add-number
-overflow_add-number c = omega arith
-
-pub loop-number-smaller : goal.loop-number-smaller
-loop-number-smaller c = omega arith
 
 pub loop-number-preserved : goal.loop-number-preserved
 loop-number-preserved c =

@@ -1,17 +1,17 @@
 -- `plan::explain` meets its contract: what the walk gives, in full. Assumes nothing.
 use mathlib.Core.Path.{sym, ap, ◌∙◌}
+use Rattle.std.specs.declared.result.Result.TheVariants.{Err as refused}
 use Rattle.plan.specs.Finding.{explained_by, finding_of}
-use Rattle.plan.specs.declared.Explained.TheVariants.{Refused}
 use Rattle.plan.proofs.explain.Goals as goal
 
-pub returns-in-Accepted : goal.returns-in-Accepted
+pub returns-in-Ok : goal.returns-in-Ok
 unfolding finding_of
-returns-in-Accepted c =
+returns-in-Ok c =
     let explained = explained_by c.args.plan.now in
-    ap explained (sym c.in-Accepted.is ∙ c.walk.ensures)
+    ap explained (sym c.in-Ok.is ∙ c.walk.ensures)
 
-pub returns-in-Refused : goal.returns-in-Refused
+pub returns-in-Err : goal.returns-in-Err
 unfolding finding_of
-returns-in-Refused c =
+returns-in-Err c =
     let explained = explained_by c.args.plan.now in
-    ap Refused c.finding_at.ensures ∙ ap explained (sym c.in-Refused.is ∙ c.walk.ensures)
+    ap refused c.finding_at.ensures ∙ ap explained (sym c.in-Err.is ∙ c.walk.ensures)

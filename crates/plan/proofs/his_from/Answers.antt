@@ -33,7 +33,7 @@ pub slice_bounds-add-end : goal.slice_bounds-add-end
 slice_bounds-add-end c = sym c.loop-cell.invariant.words
 
 pub add-requires : goal.add-requires
-add-requires c = his-word (step (goal.at.add-requires c).After-hi_cause) c.in-Nothing.is c.pair_of.ensures
+add-requires c = his-word (step (goal.at.add-requires c).After-hi_cause) c.in-Ok.is c.pair_of.ensures
 
 pub overflow_add-count : goal.overflow_add-count
 overflow_add-count c = omega arith
@@ -43,13 +43,13 @@ loop-cell-smaller c = his-less (step (goal.at.loop-cell-smaller c).After-hi_caus
 
 pub loop-cell-preserved : goal.loop-cell-preserved
 loop-cell-preserved c =
-    his-again (step (goal.at.loop-cell-preserved c).After-hi_cause) c.in-Nothing.is c.pair_of.ensures c.add.ensures c.next_at-at.ensures
+    his-again (step (goal.at.loop-cell-preserved c).After-hi_cause) c.in-Ok.is c.pair_of.ensures c.add.ensures c.next_at-at.ensures
 
-pub overflow_add-count-in-Is : goal.overflow_add-count-in-Is
-overflow_add-count-in-Is c = omega arith
+pub overflow_add-count-in-Err : goal.overflow_add-count-in-Err
+overflow_add-count-in-Err c = omega arith
 
-pub returns-in-Is : goal.returns-in-Is
-returns-in-Is c = his-refused (step (goal.at.returns-in-Is c).After-hi_cause) c.in-Is.is c.found.ensures
+pub returns-in-Err : goal.returns-in-Err
+returns-in-Err c = his-refused (step (goal.at.returns-in-Err c).After-hi_cause) c.in-Err.is c.found.ensures
 
 pub returns : goal.returns
 returns c = his-done c.loop-cell.invariant c.stands.ensures c.loop-cell-test.false

@@ -29,14 +29,6 @@ overflow_add-all c =
           )),
     )
 
-pub overflow_add-s : goal.overflow_add-s
-overflow_add-s c =
-    omega
-    (arith, c.control_symbols-symbols.ensures, region-symbols c.args.cell c.args.frame c.requires.0 c.requires.1, c.loop-s-test.true)
-
-pub loop-s-smaller : goal.loop-s-smaller
-loop-s-smaller c = omega (arith, c.loop-s-test.true)
-
 pub loop-s-preserved : goal.loop-s-preserved
 loop-s-preserved c =
     (omega (arith, c.loop-s.invariant.0, c.symbol_groups-all.ensures.0, below_next c.args.cell c.loop-s.s), omega (arith, c.loop-s-test.true))

@@ -50,18 +50,18 @@ loop-rntis-smaller c = users-less (step (goal.at.loop-rntis-smaller c).After-use
 
 pub loop-rntis-preserved : goal.loop-rntis-preserved
 loop-rntis-preserved c =
-    users-again (step (goal.at.loop-rntis-preserved c).After-user_cause) c.in-Nothing.is c.blocks_of-own.ensures c.join-blocks.ensures c.next_at-at.ensures
+    users-again (step (goal.at.loop-rntis-preserved c).After-user_cause) c.in-Ok.is c.blocks_of.ensures c.join-blocks.ensures c.next_at-at.ensures
 
 pub overflow_add-his : goal.overflow_add-his
 overflow_add-his c =
     omega (arith, c.requires.0.room, c.loop-rntis.invariant.few)
 
-pub overflow_add-his-in-Is : goal.overflow_add-his-in-Is
-overflow_add-his-in-Is c =
+pub overflow_add-his-in-Err : goal.overflow_add-his-in-Err
+overflow_add-his-in-Err c =
     omega (arith, c.requires.0.room, c.loop-rntis.invariant.few)
 
-pub returns-in-Is : goal.returns-in-Is
-returns-in-Is c = users-refused (step (goal.at.returns-in-Is c).After-user_cause) c.in-Is.is c.found.ensures
+pub returns-in-Err : goal.returns-in-Err
+returns-in-Err c = users-refused (step (goal.at.returns-in-Err c).After-user_cause) c.in-Err.is c.found.ensures
 
 pub finish-requires : goal.finish-requires
 finish-requires c =

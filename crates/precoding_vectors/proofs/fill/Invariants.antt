@@ -5,6 +5,3 @@ use Rattle.precoding_vectors.proofs.fill.Given as goal
 
 abbrev pub invariant-loop-j : goal.invariant-loop-j
 invariant-loop-j l = Room l.ports l.places l.grid × (l.j ≤ l.places)
-
-abbrev pub decreases-loop-j : goal.decreases-loop-j
-decreases-loop-j l = l.places - l.j

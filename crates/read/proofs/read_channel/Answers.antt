@@ -1,8 +1,11 @@
 -- `read::read_channel` meets its contract: PBCH, a user, or a channel with nothing to read. Assumes nothing.
 use borrow.Enum.Refused.{opened}
-use mathlib.Core.Path.{ap}
+use mathlib.Core.Path.{ap, subst}
 use mathlib.Core.Bool.{not}
 use native.Mathlib.Omega.{arith}
+use Prim.Native.Nat.{ℕ}
+use Rattle.constellation.specs.Axis.{Axis}
+use Rattle.build.proofs.Orders.{some-same}
 use Rattle.read.proofs.Channels.{absent-after, pbch-needs, pbch-after, user-needs, user-reads, user-after, kept-after}
 use Rattle.read.proofs.read_channel.Goals as goal
 
@@ -17,7 +20,7 @@ read_pbch-requires c =
 pub axis_for-requires : goal.axis_for-requires
 axis_for-requires c =
     let o = (user-needs c.requires c.present.ensures (ap not c.if-not-present.false) c.in-User.is).section.area.order in
-    (c.requires.axis, omega (arith, o), omega (arith, o))
+    (c.requires.axis, omega (arith, o))
 
 pub started-requires : goal.started-requires
 started-requires c =
@@ -33,7 +36,7 @@ returns-in-Pbch c =
 
 pub returns-in-User : goal.returns-in-User
 returns-in-User c = (
-  (c.axis_for.ensures.size, λ z. c.axis_for.ensures),
+  (c.axis_for.ensures.size, λ q e. subst (λ (k : ℕ). Axis k c.axis_for.new.d) (some-same e) c.axis_for.ensures),
   user-after c.requires c.present.ensures (ap not c.if-not-present.false) c.in-User.is
       _ c.user_area-area.ensures _ c.started.ensures c.read_area.ensures,
 )

@@ -1,19 +1,15 @@
 -- `sample::sample_at` meets its contract. Assumes nothing.
-use borrow.Author.Tests.{eq-eqb, ne_eqb}
+use mathlib.Core.Path.{◌≡◌}
+use native.Mathlib.Omega.{arith}
+use borrow.Author.Tests.{ne_eqb}
 use Rattle.sample.proofs.Answers.{sampled}
 use Rattle.sample.proofs.sample_at.Goals as goal
 
-pub returns-then-byte-eq0 : goal.returns-then-byte-eq0
-returns-then-byte-eq0 c = sampled _ _ _ _ (simp (eq-eqb _ _ c.if-byte-eq0.true, c.silent.ensures))
+pub returns-in-63 : goal.returns-in-63
+returns-in-63 c = sampled _ _ _ _ (simp (c.in-63.is, c.phase.ensures))
 
-pub returns-then-byte-eq63 : goal.returns-then-byte-eq63
-returns-then-byte-eq63 c = sampled _ _ _ _ (simp (ne_eqb _ _ c.if-byte-eq0.false, eq-eqb _ _ c.if-byte-eq63.true, c.phase.ensures))
-
-pub returns : goal.returns
-returns c = sampled _ _ _ _
-    (simp (
-      ne_eqb _ _ c.if-byte-eq0.false,
-      ne_eqb _ _ c.if-byte-eq63.false,
-      c.scaled.ensures,
-      c.scale_of.ensures,
-    ))
+pub returns-in_default : goal.returns-in_default
+returns-in_default c =
+    let a : c.args.byte ≡ 0 → ⊥ = λ e. omega arith in
+    let b : c.args.byte ≡ 63 → ⊥ = λ e. omega arith in
+    sampled _ _ _ _ (simp (ne_eqb _ _ a, ne_eqb _ _ b, c.scaled.ensures, c.scale_of.ensures))

@@ -13,7 +13,7 @@ pub row_at-requires : goal.row_at-requires
 row_at-requires c = omega (arith, c.slot_length.ensures, slot-length c.args.cell)
 
 pub overflow_sub-result : goal.overflow_sub-result
-overflow_sub-result c = omega (arith, blocks-least c.args.cell c.requires.0, c.wide.ensures)
+overflow_sub-result c = omega (arith, blocks-least c.args.cell c.requires.0, c.from.ensures)
 
 pub overflow_add-result : goal.overflow_add-result
 overflow_add-result c =
@@ -25,4 +25,4 @@ overflow_add-result c =
     )
 
 pub returns : goal.returns
-returns c = mark-first c.args.cell c.args.y c.slot_length.ensures c.row_at.ensures c.wide.ensures
+returns c = mark-first c.args.cell c.args.y c.slot_length.ensures c.row_at.ensures c.from.ensures

@@ -3,4 +3,4 @@ use Rattle.signals.proofs.Values.{phase-made}
 use Rattle.signals.proofs.phase_element.Goals as goal
 
 pub returns : goal.returns
-returns c = phase-made c.args.identity c.args.i c.pss_phase-phase.ensures
+returns c = phase-made c.args.identity c.args.i c.pss_phase.ensures

@@ -10,11 +10,11 @@ crs_at-first-requires c =
 
 pub compare_values-requires : goal.compare_values-requires
 compare_values-requires c =
-    one_inside c.requires c.crs_port-port.ensures c.crs_at-first.ensures c.wide-n.ensures
+    (omega arith, one_inside c.requires c.crs_port-port.ensures c.crs_at-first.ensures c.from-n.ensures)
 
 pub returns-then-cell-eq1 : goal.returns-then-cell-eq1
 returns-then-cell-eq1 c =
-    one-done c.requires c.crs_port-port.ensures c.crs_at-first.ensures c.wide-n.ensures (comparing c.args.grid.now) c.args.r c.if-cell-eq1.true
+    one-done c.requires c.crs_port-port.ensures c.crs_at-first.ensures c.from-n.ensures (comparing c.args.grid.now) c.args.r c.if-cell-eq1.true
     c.compare_values.ensures
 
 pub overflow_add-port : goal.overflow_add-port
@@ -25,11 +25,11 @@ pub crs_at-second-requires : goal.crs_at-second-requires
 crs_at-second-requires c =
     second-port c.requires c.crs_port-port.ensures c.if-cell-eq1.false
 
-pub compare_values_on_both-requires : goal.compare_values_on_both-requires
-compare_values_on_both-requires c =
-    both-inside c.requires c.crs_port-port.ensures c.crs_at-first.ensures c.wide-n.ensures c.if-cell-eq1.false c.crs_at-second.ensures
+pub compare_values-requires-2 : goal.compare_values-requires-2
+compare_values-requires-2 c =
+    (omega arith, both-inside c.requires c.crs_port-port.ensures c.crs_at-first.ensures c.from-n.ensures c.if-cell-eq1.false c.crs_at-second.ensures)
 
 pub returns : goal.returns
 returns c =
-    both-done c.requires c.crs_port-port.ensures c.crs_at-first.ensures c.wide-n.ensures c.if-cell-eq1.false c.crs_at-second.ensures
-    (comparing c.args.grid.now) c.args.r c.compare_values_on_both.ensures
+    both-done c.requires c.crs_port-port.ensures c.crs_at-first.ensures c.from-n.ensures c.if-cell-eq1.false c.crs_at-second.ensures
+    (comparing c.args.grid.now) c.args.r c.compare_values-2.ensures

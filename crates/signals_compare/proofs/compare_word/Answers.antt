@@ -1,52 +1,18 @@
--- `signals_compare::compare_word` meets its contract. The loop: the first i values are compared. Assumes nothing.
+-- `signals_compare::compare_word` meets its contract. The loop: the first i values are compared on each port. Assumes nothing.
 use Prim.Native.Nat.{◌+◌, ◌*◌}
+use mathlib.Core.Path.{◌≡◌, refl}
 use native.Mathlib.Omega.{arith}
-use mathlib.Core.Path.{refl}
-use Rattle.signals.proofs.ValueByValue.{word_first, word-step, word-last}
-use Rattle.signals_compare.proofs.Differing.{differing, also-differing, numbered}
+use Rattle.signals.specs.Rows.{first_of}
+use Rattle.signals.proofs.ValueByValue.{on_each_lem, word_first, word-step}
+use Rattle.signals_compare.proofs.Differing.{differing, also-differing}
 use Rattle.signals_compare.proofs.compare_word.Goals as goal
 
 pub loop-i-init : goal.loop-i-init
-loop-i-init c = word_first (differing c.args.grid.now) c.args.word c.args.n c.args.first
-
-pub overflow_sub-low : goal.overflow_sub-low
-overflow_sub-low c = omega arith
-
-pub overflow_sub-low-in-loop-i : goal.overflow_sub-low-in-loop-i
-overflow_sub-low-in-loop-i c = omega arith
-
-pub overflow_mul-low : goal.overflow_mul-low
-overflow_mul-low c = omega arith
-
-pub overflow_mul-i : goal.overflow_mul-i
-overflow_mul-i c = omega arith
-
-pub overflow_add-first : goal.overflow_add-first
-overflow_add-first c = omega arith
-
-pub overflow_mul-first : goal.overflow_mul-first
-overflow_mul-first c = omega arith
-
-pub three_at-x-requires : goal.three_at-x-requires
-three_at-x-requires c = omega arith
-
-pub overflow_cast-low : goal.overflow_cast-low
-overflow_cast-low c = omega arith
-
-pub overflow_shr-word : goal.overflow_shr-word
-overflow_shr-word c = omega arith
-
-pub overflow_add-i : goal.overflow_add-i
-overflow_add-i c = omega arith
-
-pub loop-i-smaller : goal.loop-i-smaller
-loop-i-smaller c = omega arith
+loop-i-init g c = word_first (on_each_lem c.args.firsts (differing c.args.grid.now)) c.args.word c.args.n (first_of c.args.firsts + 6 * c.args.m)
 
 pub loop-i-preserved : goal.loop-i-preserved
-loop-i-preserved c =
-    word-step (differing c.args.grid.now) c.loop-i.invariant c.loop-i-test.true refl c.number_of.ensures.0 (also-differing
-    (numbered (c.args.first + 6 * c.loop-i.i) c.three_at-x.ensures c.number_of.ensures.1))
-
-pub returns : goal.returns
-returns c =
-    word-last (differing c.args.grid.now) c.loop-i.invariant (omega arith)
+loop-i-preserved g c =
+    let first = first_of c.args.firsts in
+    let e : first + 6 * (c.args.m + c.loop-i.i) ≡ first + 6 * c.args.m + 6 * c.loop-i.i = omega arith in
+    word-step (on_each_lem c.args.firsts (differing c.args.grid.now)) c.loop-i.invariant c.loop-i-test.true refl c.number_of.ensures.0
+    (also-differing (rw e at c.differ_each-differ.ensures))

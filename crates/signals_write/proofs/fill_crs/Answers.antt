@@ -11,13 +11,13 @@ crs_at-first-requires c =
 
 pub fill_values-requires : goal.fill_values-requires
 fill_values-requires c =
-    one_inside c.requires c.crs_port-port.ensures c.crs_at-first.ensures c.wide-n.ensures
+    (omega arith, one_inside c.requires c.crs_port-port.ensures c.crs_at-first.ensures c.from-n.ensures)
 
 pub returns-then-cell-eq1 : goal.returns-then-cell-eq1
 returns-then-cell-eq1 c = (
-  one-done c.requires c.crs_port-port.ensures c.crs_at-first.ensures c.wide-n.ensures (writing c.args.grid.now) c.args.r c.if-cell-eq1.true
+  one-done c.requires c.crs_port-port.ensures c.crs_at-first.ensures c.from-n.ensures (writing c.args.grid.now) c.args.r c.if-cell-eq1.true
       c.fill_values.ensures.0,
-  crs-given c.wide-n.ensures c.args.r c.fill_values.ensures.1,
+  crs-given c.from-n.ensures c.args.r c.fill_values.ensures.1,
 )
 
 pub overflow_add-port : goal.overflow_add-port
@@ -28,13 +28,13 @@ pub crs_at-second-requires : goal.crs_at-second-requires
 crs_at-second-requires c =
     second-port c.requires c.crs_port-port.ensures c.if-cell-eq1.false
 
-pub fill_values_on_both-requires : goal.fill_values_on_both-requires
-fill_values_on_both-requires c =
-    both-inside c.requires c.crs_port-port.ensures c.crs_at-first.ensures c.wide-n.ensures c.if-cell-eq1.false c.crs_at-second.ensures
+pub fill_values-requires-2 : goal.fill_values-requires-2
+fill_values-requires-2 c =
+    (omega arith, both-inside c.requires c.crs_port-port.ensures c.crs_at-first.ensures c.from-n.ensures c.if-cell-eq1.false c.crs_at-second.ensures)
 
 pub returns : goal.returns
 returns c = (
-  both-done c.requires c.crs_port-port.ensures c.crs_at-first.ensures c.wide-n.ensures c.if-cell-eq1.false c.crs_at-second.ensures
-      (writing c.args.grid.now) c.args.r c.fill_values_on_both.ensures.0,
-  crs-given c.wide-n.ensures c.args.r c.fill_values_on_both.ensures.1,
+  both-done c.requires c.crs_port-port.ensures c.crs_at-first.ensures c.from-n.ensures c.if-cell-eq1.false c.crs_at-second.ensures
+      (writing c.args.grid.now) c.args.r c.fill_values-2.ensures.0,
+  crs-given c.from-n.ensures c.args.r c.fill_values-2.ensures.1,
 )

@@ -1,18 +1,18 @@
--- `sync::root` meets its contract: its three branches. Assumes nothing.
+-- `sync::root` meets its contract: its three arms. Assumes nothing.
 use Prim.Native.Nat.{◌%◌}
 use mathlib.Core.Path.{◌≡◌, sym, ap}
 use native.Mathlib.Omega.{arith}
 use Rattle.sync.specs.Pss.{pss_root}
 use Rattle.sync.proofs.root.Goals as goal
 
-pub returns-then-r-eq0 : goal.returns-then-r-eq0
+pub returns-in-0 : goal.returns-in-0
 unfolding pss_root
-returns-then-r-eq0 c = sym (ap pss_root c.if-r-eq0.true)
+returns-in-0 c = sym (ap pss_root c.in-0.is)
 
-pub returns-then-r-eq1 : goal.returns-then-r-eq1
+pub returns-in-1 : goal.returns-in-1
 unfolding pss_root
-returns-then-r-eq1 c = sym (ap pss_root c.if-r-eq1.true)
+returns-in-1 c = sym (ap pss_root c.in-1.is)
 
-pub returns-else-r-eq1 : goal.returns-else-r-eq1
+pub returns-in_default : goal.returns-in_default
 unfolding pss_root
-returns-else-r-eq1 c = let e : c.args.cell % 3 ≡ 2 = omega (arith, c.if-r-eq0.false, c.if-r-eq1.false) in sym (ap pss_root e)
+returns-in_default c = let e : c.args.cell % 3 ≡ 2 = omega arith in sym (ap pss_root e)

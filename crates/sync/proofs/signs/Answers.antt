@@ -1,22 +1,6 @@
 -- `sync::signs` meets its contract. Assumes nothing.
 use Rattle.sync.proofs.Signals.{signs-are}
-use native.Mathlib.Omega.{arith}
 use Rattle.sync.proofs.signs.Goals as goal
-
-pub around-requires : goal.around-requires
-around-requires c = (c.sequences-x.ensures.s-bits.small, omega arith)
-
-pub around-requires-2 : goal.around-requires-2
-around-requires-2 c = (c.sequences-x.ensures.c-bits.small, omega arith)
-
-pub around-requires-3 : goal.around-requires-3
-around-requires-3 c = (c.sequences-x.ensures.s-bits.small, omega arith)
-
-pub around-requires-4 : goal.around-requires-4
-around-requires-4 c = (c.sequences-x.ensures.c-bits.small, omega arith)
-
-pub around-requires-5 : goal.around-requires-5
-around-requires-5 c = (c.sequences-x.ensures.z-bits.small, omega arith)
 
 pub returns : goal.returns
 returns c =

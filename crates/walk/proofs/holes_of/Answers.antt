@@ -5,45 +5,45 @@ use Rattle.walk.specs.Runs.{bit_of, open_count}
 use Rattle.walk.proofs.Forms.{no-hole, holes-two, holes-one, single-last}
 use Rattle.walk.proofs.holes_of.Goals as goal
 
-pub returns-then-mask-eq63 : goal.returns-then-mask-eq63
-returns-then-mask-eq63 c = no-hole c.if-mask-eq63.true
+pub returns-in-63 : goal.returns-in-63
+returns-in-63 c = no-hole c.in-63.is
 
-pub returns-then-mask-eq27 : goal.returns-then-mask-eq27
+pub returns-in-27 : goal.returns-in-27
 unfolding open_count nth cnt bit_of
-returns-then-mask-eq27 c = holes-two 27 2 (omega arith) tt c.if-mask-eq27.true c.two_holes.ensures
+returns-in-27 c = holes-two 27 2 (omega arith) tt c.in-27.is c.two_holes.ensures
 
-pub returns-then-mask-eq54 : goal.returns-then-mask-eq54
+pub returns-in-54 : goal.returns-in-54
 unfolding open_count nth cnt bit_of
-returns-then-mask-eq54 c = holes-two 54 0 (omega arith) tt c.if-mask-eq54.true c.two_holes-then-mask-eq54.ensures
+returns-in-54 c = holes-two 54 0 (omega arith) tt c.in-54.is c.two_holes-in-54.ensures
 
-pub returns-then-mask-eq45 : goal.returns-then-mask-eq45
+pub returns-in-45 : goal.returns-in-45
 unfolding open_count nth cnt bit_of
-returns-then-mask-eq45 c = holes-two 45 1 (omega arith) tt c.if-mask-eq45.true c.two_holes-then-mask-eq45.ensures
+returns-in-45 c = holes-two 45 1 (omega arith) tt c.in-45.is c.two_holes-in-45.ensures
 
-pub returns-then-mask-eq62 : goal.returns-then-mask-eq62
+pub returns-in-62 : goal.returns-in-62
 unfolding open_count nth cnt bit_of
-returns-then-mask-eq62 c = holes-one 62 0 (omega arith) tt c.if-mask-eq62.true c.one_hole.ensures
+returns-in-62 c = holes-one 62 0 (omega arith) tt c.in-62.is c.one_hole.ensures
 
-pub returns-then-mask-eq61 : goal.returns-then-mask-eq61
+pub returns-in-61 : goal.returns-in-61
 unfolding open_count nth cnt bit_of
-returns-then-mask-eq61 c = holes-one 61 1 (omega arith) tt c.if-mask-eq61.true c.one_hole-then-mask-eq61.ensures
+returns-in-61 c = holes-one 61 1 (omega arith) tt c.in-61.is c.one_hole-in-61.ensures
 
-pub returns-then-mask-eq59 : goal.returns-then-mask-eq59
+pub returns-in-59 : goal.returns-in-59
 unfolding open_count nth cnt bit_of
-returns-then-mask-eq59 c = holes-one 59 2 (omega arith) tt c.if-mask-eq59.true c.one_hole-then-mask-eq59.ensures
+returns-in-59 c = holes-one 59 2 (omega arith) tt c.in-59.is c.one_hole-in-59.ensures
 
-pub returns-then-mask-eq55 : goal.returns-then-mask-eq55
+pub returns-in-55 : goal.returns-in-55
 unfolding open_count nth cnt bit_of
-returns-then-mask-eq55 c = holes-one 55 3 (omega arith) tt c.if-mask-eq55.true c.one_hole-then-mask-eq55.ensures
+returns-in-55 c = holes-one 55 3 (omega arith) tt c.in-55.is c.one_hole-in-55.ensures
 
-pub returns-then-mask-eq47 : goal.returns-then-mask-eq47
+pub returns-in-47 : goal.returns-in-47
 unfolding open_count nth cnt bit_of
-returns-then-mask-eq47 c = holes-one 47 4 (omega arith) tt c.if-mask-eq47.true c.one_hole-then-mask-eq47.ensures
+returns-in-47 c = holes-one 47 4 (omega arith) tt c.in-47.is c.one_hole-in-47.ensures
 
-pub returns : goal.returns
+pub returns-in_default : goal.returns-in_default
 unfolding open_count nth cnt bit_of
-returns c =
+returns-in_default c =
     holes-one 31 5 (omega arith) tt
-    (single-last c.requires c.if-mask-eq63.false c.if-mask-eq27.false c.if-mask-eq54.false c.if-mask-eq45.false c.if-mask-eq62.false c.if-mask-eq61.false
-    c.if-mask-eq59.false c.if-mask-eq55.false c.if-mask-eq47.false)
-    c.one_hole-2.ensures
+    (single-last c.requires (λ e. omega arith) (λ e. omega arith) (λ e. omega arith) (λ e. omega arith) (λ e. omega arith) (λ e. omega arith)
+    (λ e. omega arith) (λ e. omega arith) (λ e. omega arith))
+    c.one_hole-in_default.ensures

@@ -1,9 +1,0 @@
--- `sample_vectors::tally` ends, and makes bytes of numbers below 256. Assumes nothing.
-use Rattle.std.proofs.Common.{◌-◌, ◌≤◌}
-use Rattle.sample_vectors.proofs.tally.Given as goal
-
-abbrev pub invariant-loop-n : goal.invariant-loop-n
-invariant-loop-n l = l.n ≤ 65536
-
-abbrev pub decreases-loop-n : goal.decreases-loop-n
-decreases-loop-n l = 65536 - l.n
