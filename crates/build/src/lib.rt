@@ -140,7 +140,7 @@ pub fn build(plan: &[u8], payload: &[u8], grid: &mut [u8]) -> Result<usize, Refu
 {
     let checked = plan::check(plan);
     let Ok(p) = checked else {
-        return Err(checked.unwrap_err());
+        return Err(plan::refusal_in(checked));
     };
     if grid.len() != payload::grid_length(p) {
         return Err(Refusal::GridLength);

@@ -3,18 +3,28 @@
 -- number: the plan's, 11 or 12; an input without both length bytes, or with a plan shorter than they say, is 1 before any other check."
 use Rattle.std.specs.Prelude.{if◌then◌else◌, ℕ, ◌+◌, ◌-◌, ◌*◌, ◌||◌, List, eqb, ltb, length, get_or, take, drop, Result, Ok, Err}
 use Rattle.base.specs.Tables.{table}
-use Rattle.plan.specs.Check.{check_of, unless_refused}
+use Rattle.plan.specs.Check.{refusal_number, check_of, unless_refused}
 use Rattle.plan.specs.declared.Plan.{Plan}
 use Rattle.plan.specs.declared.Refusal.{Refusal}
 use Rattle.plan.specs.declared.Refusal.TheVariants.{Unreadable, PayloadLength, SpareBit}
 use Rattle.counts.specs.Counts.{kinds, kind_count}
 use Rattle.payload.specs.Payload.{payload_length, spare_clear}
 
+-- ---- the answer in numbers: "refused" and the number, or the lines' counts; refusal 0 says that it is not refused, no refusal has this number
+pub record Numbers : Type 0 where
+  pub refusal : ℕ
+  pub counts : List ℕ
+
+abbrev pub numbers_of : Result (List ℕ) Refusal → Numbers
+numbers_of (Ok counts) = record { refusal = 0; counts = counts }
+numbers_of (Err r) = record { refusal = refusal_number r; counts = table kinds (λ (j : ℕ). 0) }
+
+-- ---- the answer by the input
 -- the lines' counts, in their order
 abbrev pub lines_of : List ℕ → Plan → Result (List ℕ) Refusal
 lines_of w p = Ok (table kinds (kind_count w p))
 
--- "refused" and the number (`refusal_number`): 11 and 12, of the payload
+-- 11 and 12, of the payload
 unfoldable pub accepted_with : List ℕ → Plan → List ℕ → Result (List ℕ) Refusal
 accepted_with w p payload =
     if eqb (length payload) (payload_length w p)
@@ -33,3 +43,6 @@ unfoldable pub gridcount_of : List ℕ → Result (List ℕ) Refusal
 gridcount_of input =
     if ltb (length input) 2 || ltb (length input) (plan_end input) then Err Unreadable
     else counted_of (take (plan_end input - 2) (drop 2 input)) (drop (plan_end input) input)
+
+abbrev pub numbers_by : List ℕ → Numbers
+numbers_by input = numbers_of (gridcount_of input)

@@ -519,7 +519,7 @@ pub fn owner_query(plan: &[u8], s: usize, k: usize, port: usize) -> Result<Owner
 {
     let checked = plan::check(plan);
     let Ok(p) = checked else {
-        return Err(checked.unwrap_err());
+        return Err(plan::refusal_in(checked));
     };
     if in_grid(p.cell, s, k, port) {
         Ok(owner_at(plan, p, s, k))

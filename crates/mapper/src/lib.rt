@@ -10,7 +10,7 @@ ghost use Rattle.std.specs.Float.Ieee.{is_nan, to_bits};
 ghost use Rattle.plan.specs.Check.{refusal_number, check_of, number_answer};
 ghost use Rattle.layout.specs.Query.{owner_query_of, owner_answer};
 ghost use Rattle.sample.specs.Promise.{Sampled};
-ghost use Rattle.counted.specs.Gridcount.{gridcount_of};
+ghost use Rattle.counted.specs.Gridcount.{gridcount_of, numbers_of, numbers_by};
 ghost use Rattle.build.specs.Build.{built_of, grid_after};
 ghost use Rattle.read.specs.Read.{Reads};
 ghost use Rattle.read.specs.Equation.{read_of, payload_after};
@@ -67,7 +67,7 @@ pub fn count(plan: &[u8], kind: usize) -> Result<usize, Refusal>
 
 // GRIDCOUNT: the counts of all kinds for an input of plan length, plan and payload.
 pub fn gridcount(input: &[u8]) -> Result<[usize; 9], Refusal>
-    ensures { result ≡ gridcount_of input.now }
+    ensures { (result ≡ gridcount_of input.now) × (numbers_of result ≡ numbers_by input.now) }
 {
     counted::gridcount(input)
 }

@@ -1,4 +1,4 @@
--- Laws that the proofs cite. For the crates above: Verdict, Earliest, Valid, Counts, ControlRegion, ControlElements, CommandLists, Entries, Reading, Answers. About lists alone: OneOf, Listed, Few.
+-- Laws that the proofs cite. For the crates above: Verdict, Earliest, Valid, Counts, ControlRegion, ControlElements, CommandLists, Entries, Reading, Answers, Refused. About lists alone: OneOf, Listed, Few.
 pub mod OneOf
 pub mod Listed
 pub mod Few
@@ -21,3 +21,4 @@ mod Clashes
 pub mod Earliest
 pub mod Known
 pub mod Answers
+pub mod Refused

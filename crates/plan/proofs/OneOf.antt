@@ -41,7 +41,7 @@ at_place : (x : ℕ) (ks : List ℕ) (i : ℕ) → i < length ks → one_of x (d
 unfolding one_of
 at_place x ks i l = rw (drop-cons ks i 0 l, add-one i) refl
 
-one_left : (x : ℕ) (ks : List ℕ) (i : ℕ) → length ks ≤ i → one_of x (drop i ks) ≡ false
+pub one_left : (x : ℕ) (ks : List ℕ) (i : ℕ) → length ks ≤ i → one_of x (drop i ks) ≡ false
 unfolding one_of
 one_left x ks i l = rw (drop_of_length-le ks l) refl
 

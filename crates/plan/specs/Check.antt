@@ -121,6 +121,11 @@ abbrev pub unless_refused : {A : Type 0} → (Refusal → A) → (Plan → A) �
 unless_refused refusal answer (accepted p) = answer p
 unless_refused refusal answer (refused r) = refusal r
 
+-- a check's refusal; a plan has none, and nobody asks for it
+abbrev pub refusal_of : Result Plan Refusal → Refusal
+refusal_of (accepted p) = Unreadable
+refusal_of (refused r) = r
+
 -- the answer as a number: 0, or the refusal's
 abbrev pub verdict_of : Result Plan Refusal → ℕ
 verdict_of (accepted p) = 0

@@ -7,7 +7,7 @@ ghost use Rattle.std.specs.Prelude.{◌≡◌, ◌+◌, ◌*◌, ◌≤◌, ◌<
 ghost use Rattle.plan.specs.Lists.{one_of};
 ghost use Rattle.plan.specs.Commands.{byte, cell_with, cell_of, cellx_of, frame_of, hi_of, user_of, entry_for, command_of};
 ghost use Rattle.plan.specs.Fields.{mapping_units, phich_groups, sequences_of, same_pair, control_symbols, phich_fits, group_size, symbol_groups, region_groups};
-ghost use Rattle.plan.specs.Check.{refusal_number, check_of};
+ghost use Rattle.plan.specs.Check.{refusal_number, check_of, refusal_of};
 ghost use Rattle.plan.specs.CommandLists.{next_of};
 ghost use Rattle.plan.specs.Valid.{CellIn, FrameIn};
 ghost use Rattle.plan.specs.Finding.{cause_refusal, demand as demand_of, cell_cause, frame_cause, hi_cause, user_cause, found_at, walk_of};
@@ -729,6 +729,16 @@ pub fn check(plan: &[u8]) -> Result<Plan, Refusal>
     match walk(plan) {
         Ok(p) => Ok(p),
         Err(s) => Err(Refusal::from(s.cause)),
+    }
+}
+
+// The refusal of a check that has no plan; nobody asks for that of a plan.
+pub fn refusal_in(checked: Result<Plan, Refusal>) -> Refusal
+    ensures { result ≡ refusal_of checked }
+{
+    match checked {
+        Ok(_) => Refusal::Unreadable,
+        Err(r) => r,
     }
 }
 

@@ -106,7 +106,7 @@ pub fn read(plan: &[u8], grid: &[u8], payload: &mut [u8]) -> Result<usize, Refus
 {
     let checked = plan::check(plan);
     let Ok(p) = checked else {
-        return Err(checked.unwrap_err());
+        return Err(plan::refusal_in(checked));
     };
     if grid.len() != payload::grid_length(p) {
         return Err(Refusal::GridLength);

@@ -1,7 +1,7 @@
 // What the test programs of plan, build and read share: the records of their input, the lengths that they lend, and what they print of a call.
 #![tactic(auto)]
 
-ghost use Rattle.std.specs.Prelude.{◌≡◌, ◌++◌, ◌<◌, drop, IfSome};
+ghost use Rattle.std.specs.Prelude.{◌≡◌, ◌++◌, ◌≤◌, ◌<◌, length, drop, IfSome};
 
 use plan::Refusal;
 use std::{fmt, io};
@@ -9,8 +9,8 @@ use std::{fmt, io};
 // Two numbers that depend on every byte and its position.
 #[derive(Clone, Copy, PartialEq, Eq)]
 pub struct Digest {
-    a: u64,
-    b: u64,
+    pub a: u64,
+    pub b: u64,
 }
 
 impl Digest {
@@ -85,6 +85,17 @@ pub fn lent(n: usize, difference: u8) -> usize {
     }
 }
 
+// Where the record after the one at `at` stands, of which `used` bytes are known; the input's end after one that is cut off.
+pub fn next_at(input: &[u8], at: usize, used: usize) -> usize
+    requires { at < length input.now }
+    ensures { (at < result) × (result ≤ length input.now) }
+{
+    if used == 0 || input.len() - at < used {
+        return input.len();
+    }
+    at + used
+}
+
 // Hands each record of the input on with its number, from 1, and all that follows it. `each` answers with what is behind it, or with none for
 // one that is cut off, which ends the walk. A record has a byte at least.
 pub fn walk<F: Fn(usize, &[u8]) -> io::Result<Option<&[u8]>>>(
@@ -93,12 +104,16 @@ pub fn walk<F: Fn(usize, &[u8]) -> io::Result<Option<&[u8]>>>(
 ) -> io::Result<()>
     requires { F.IsAlwaysCallable each }
 {
-    let mut rest = input;
+    let mut at = 0;
     for number in 1..=input.len() {
-        let Some(next) = each(number, rest)? else {
+        if at == input.len() {
+            return Ok(());
+        }
+        let record = &input[at..];
+        let Some(rest) = each(number, record)? else {
             return Ok(());
         };
-        rest = next;
+        at = next_at(input, at, record.len().saturating_sub(rest.len()));
     }
     Ok(())
 }

@@ -22,7 +22,7 @@ pub fn build_both(
 {
     let checked = plan::check(plan);
     let Ok(p) = checked else {
-        return Err(checked.unwrap_err());
+        return Err(plan::refusal_in(checked));
     };
     let room = payload::grid_length(p);
     if grid_a.len() != room {

@@ -1,13 +1,14 @@
 -- `build::build` meets its contract: the plan's refusal, 10, 11, 12, or the grid. Assumes nothing.
 use mathlib.Core.Path.{sym, ap, ◌∙◌}
 use lib.ListN.{length}
+use Rattle.plan.proofs.Refused.{refused-is}
 use Rattle.subframe.proofs.Bytes.{grid-size}
 use Rattle.build.proofs.Answers.{way-refused, way-grid, way-payload, way-spare, way-ready, way-built}
 use Rattle.build.proofs.build.Goals as goal
 
 pub returns-in_default : goal.returns-in_default
 returns-in_default c =
-    way-refused c.args.plan.now c.args.payload.now c.args.grid.now c.check-checked.ensures c.unwrap_err.ensures
+    way-refused c.args.plan.now c.args.payload.now c.args.grid.now c.check-checked.ensures (refused-is c.in_default.in_default-own.keys2 c.refusal_in.ensures)
 
 pub returns-then-grid-grid_length : goal.returns-then-grid-grid_length
 returns-then-grid-grid_length c =

@@ -1,10 +1,12 @@
 -- The plan check, the grid, and the owner, in turn.
 use mathlib.Core.Path.{sym, ◌∙◌}
+use Rattle.plan.proofs.Refused.{refused-is}
 use Rattle.layout.proofs.Asked.{way-refused, way-place, way-owner, way-outside}
 use Rattle.layout.proofs.owner_query.Goals as goal
 
 pub returns-in_default : goal.returns-in_default
-returns-in_default c = way-refused c.args.plan.now c.args.s c.args.k c.args.port c.check-checked.ensures c.unwrap_err.ensures
+returns-in_default c =
+    way-refused c.args.plan.now c.args.s c.args.k c.args.port c.check-checked.ensures (refused-is c.in_default.in_default-own.keys2 c.refusal_in.ensures)
 
 pub owner_at-requires : goal.owner_at-requires
 owner_at-requires c = (

@@ -1,11 +1,12 @@
 -- `read::read` meets its contract: the plan's refusal, 10, 11, 13, or the payload. Assumes nothing.
 use mathlib.Core.Path.{sym, ◌∙◌}
+use Rattle.plan.proofs.Refused.{refused-is}
 use Rattle.read.proofs.Answers.{way-refused, way-grid, way-payload, way-given, way-none, way-readable, way-read}
 use Rattle.read.proofs.read.Goals as goal
 
 pub returns-in_default : goal.returns-in_default
 returns-in_default c =
-    way-refused c.args.plan.now c.args.grid.now c.args.payload.now c.check-checked.ensures c.unwrap_err.ensures
+    way-refused c.args.plan.now c.args.grid.now c.args.payload.now c.check-checked.ensures (refused-is c.in_default.in_default-own.keys2 c.refusal_in.ensures)
 
 pub returns-then-grid-grid_length : goal.returns-then-grid-grid_length
 returns-then-grid-grid_length c =

@@ -1,13 +1,14 @@
 -- `two_builds::build_both` meets its contract: the plan's refusal, 10, 11, 12 of either, or both grids. Assumes nothing.
 use mathlib.Core.Path.{sym, ap, ◌∙◌}
 use lib.ListN.{length}
+use Rattle.plan.proofs.Refused.{refused-is}
 use Rattle.subframe.proofs.Bytes.{grid-size}
 use Rattle.two_builds.proofs.Both.{way-refused, way-first-grid, way-second-grid, way-first-payload, way-second-payload, way-first-spare, way-second-spare, way-first-ready, way-second-ready, way-both}
 use Rattle.two_builds.proofs.build_both.Goals as goal
 
 pub returns-in_default : goal.returns-in_default
 returns-in_default c =
-    way-refused c.args.plan.now c.args.a.now c.args.b.now c.args.grid_a.now c.args.grid_b.now c.check-checked.ensures c.unwrap_err.ensures
+    way-refused c.args.plan.now c.args.a.now c.args.b.now c.args.grid_a.now c.args.grid_b.now c.check-checked.ensures (refused-is c.in_default.in_default-own.keys2 c.refusal_in.ensures)
 
 pub returns-then-grid_a-room : goal.returns-then-grid_a-room
 returns-then-grid_a-room c =
