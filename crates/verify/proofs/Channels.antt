@@ -2,12 +2,11 @@
 -- turn after turn. Assumes nothing beyond the plan check's answer.
 use Prim.Native.Nat.{ℕ, ◌+◌, ◌-◌, ◌*◌, ◌%◌, ◌≤◌, ◌<◌}
 use mathlib.Core.Path.{◌≡◌, refl, sym, ap, subst, ◌∙◌}
-use mathlib.Core.Bool.{Bool, true, false}
+use mathlib.Core.Bool.{true, false}
 use mathlib.Core.List.{List, []}
 use native.Mathlib.Omega.{arith}
 use borrow.Author.Tests.{eqb-true}
 use lib.ListN.{length, take, drop}
-use Rattle.base.proofs.Tests.{by-test, clash}
 use Rattle.gold.specs.declared.Registers.{Registers}
 use Rattle.modulation.specs.Symbols.{Order, unit_of}
 use Rattle.modulation.proofs.Orders.{unit-some}
@@ -28,7 +27,7 @@ use Rattle.layout.specs.declared.Mark.TheVariants.{Primary, Secondary}
 use Rattle.std.specs.Prelude.{Option, Some, None, Ok as accepted}
 use Rattle.compare.specs.Comparing.{Compared, both_of, Few}
 use Rattle.compare.proofs.Accumulating.{also, comparing}
-use Rattle.compare.proofs.Comparing.{none, same, few, part-differs}
+use Rattle.compare.proofs.Comparing.{none, same, few}
 use Rattle.subframe.proofs.OwnerBits.{user-order}
 use Rattle.recovery.specs.Recovery.{payload_in}
 use Rattle.recovery.proofs.Payload.{hi-bit}
@@ -71,8 +70,6 @@ use Rattle.schedule.proofs.Turns.{turn-of, begins, first-in}
 use Rattle.schedule.proofs.Senders.{present-sends, absent-sends, pbch-sends, user-sends}
 use Rattle.schedule.proofs.Owners.{user-in}
 use Rattle.schedule.proofs.Values.{value}
-use Rattle.schedule.specs.Senders.{some_below}
-use Rattle.schedule.proofs.Some.{none-at}
 use Rattle.schedule.proofs.TurnByTurn.{turn-none, turn_more, turn-all}
 use Rattle.verify.specs.Made.{element_due, Given, Planned, Shared, SentSeen, ChannelSeen}
 use Rattle.verify.proofs.Areas.{pbch-seen, user-seen}
@@ -335,20 +332,6 @@ module _ {w : List ℕ} {p : Plan} {g : List ℕ} {r : Registers} {sums masks : 
 
         pub going-pass : present_in p ch ≡ false → Going w p g r sums masks shape count n x
         going-pass h = step (Some 0) (both-none x) (same (λ e. sym (absent-sends p ch h e)) (λ e k. refl) (none (element_due w p g) g))
-
-  -- the elements of a channel are among all
-  turn_part : t.number < count → (e : ℕ) → sends_of p (channel_at w p t.number) e ≡ true → all_send w p e ≡ true
-  unfolding all_send sent_below
-  turn_part more e k =
-      let F : ℕ → Bool = λ i. sends_of p (channel_at w p i) e in
-      by-test (some_below F (channel_count p)) (λ a. a) (λ a. clash k (none-at F (channel_count p) a t.number (omega (arith, so.count-is))))
-
-  -- a channel that differs
-  pub going_wrong :
-      t.number < count → {ch : Channel} → ch ≡ channel_at w p t.number → present_in p ch ≡ true → ChannelSeen p ch sums g None
-      → Compared (all_send w p) (element_due w p g) g None
-  going_wrong more {ch} is h c =
-      part-differs (λ e k. turn_part more e (subst (λ (d : Channel). sends_of p d e ≡ true) is k)) (λ e k. refl) (channel-compared more is h None c)
 
   pub going_end : count ≤ t.number → Compared (all_send w p) (element_due w p g) g x
   going_end l = turn-all (comparing g) (element_due w p g) w p t.number so.turn.most (omega (arith, so.count-is)) so.compared

@@ -55,7 +55,7 @@ module _ (w : List ℕ) (p : Plan) (g : List ℕ) (given : Given w p g) where
   differs-made c m = c.found (made_holds m)
 
   -- ---- the answer, by what was seen
-  answer-weight :
+  pub answer-weight :
       {s : Option ℕ} {n m : ℕ} → s ≡ Some n → m ≡ nonzeros g → Compared (all_send w p) (element_due w p g) g s → Made w p g (eqb n m)
   answer-weight {n = n} {m = m} es em c =
       let k : Compared (all_send w p) (element_due w p g) g (Some n) = subst (Compared (all_send w p) (element_due w p g) g) es c in
@@ -64,7 +64,7 @@ module _ (w : List ℕ) (p : Plan) (g : List ℕ) (given : Given w p g) where
         not_made = λ e h. clash (eq-eqb n m (made-weight k h ∙ sym em)) e;
       }
 
-  answer-differs : {s : Option ℕ} → s ≡ None → Compared (all_send w p) (element_due w p g) g s → Made w p g false
+  pub answer-differs : {s : Option ℕ} → s ≡ None → Compared (all_send w p) (element_due w p g) g s → Made w p g false
   answer-differs es c =
       record { made = λ e. clash e refl; not_made = λ e. differs-made (subst (Compared (all_send w p) (element_due w p g) g) es c) }
 

@@ -74,18 +74,19 @@ fn compare_all(plan: &[u8], p: Plan, grid: &[u8]) -> Option<usize>
     let shape = counts::shape_of(p.cell, p.frame);
     let turns = schedule::count(p);
     let mut turn = schedule::first(p);
-    let mut weight: usize = 0;
-    // A `while`, since a `for` is no plainer: the cursor counts the turns itself, and what comes next is the plan's.
+    let mut seen: Option<usize> = Some(0);
+    // A `while`, since a `for` is no plainer: the cursor counts the turns itself, and what comes next is the plan's. No `?`: with it no edit of one
+    // value leaves out what a channel's comparison found (must-fail/channel_unseen).
     while turn.number < turns {
         let ch = schedule::channel_at(plan, p, turn);
         let section = schedule::section_of(p, shape, turn.start, ch);
         let end = section.end;
         if schedule::present(p, ch) {
-            weight += compare_channel(p, ch, control, &sums, &masks, grid)?;
+            seen = compare::together(seen, compare_channel(p, ch, control, &sums, &masks, grid));
         }
         turn = schedule::next(plan, turn, ch, end);
     }
-    Some(weight)
+    seen
 }
 
 // Whether some accepted payload makes the grid. Whoever calls has the plan from the plan check, and has compared the grid's length.

@@ -2,7 +2,8 @@
 // a bit for each of six subcarriers that is open, and a list of spans of half blocks: any set, one for each row.
 #![tactic(auto)]
 
-ghost use Rattle.std.specs.Prelude.{◌≡◌, ◌+◌, ◌*◌, ◌≤◌, ◌<◌, length};
+ghost use Rattle.std.specs.Prelude.{◌≡◌, ℕ, ◌+◌, ◌*◌, ◌≤◌, ◌<◌, length};
+ghost use Rattle.base.specs.Tables.{table};
 ghost use Rattle.walk.specs.Forms.{SingleForm, HolesOf, holes_with, Stretch};
 ghost use Rattle.walk.specs.Addresses.{OffsetsAt};
 ghost use Rattle.walk.specs.Tables.{cursor_start, cursor_run, cursor_next, row_end, CursorIn};
@@ -55,7 +56,8 @@ pub struct Tables {
 impl Tables {
     // Rows without places.
     pub fn new() -> Self
-        ensures { (length result.rows ≡ 15) × (length result.spans ≡ 256) }
+        ensures rows { result.rows ≡ table 15 (λ (i : ℕ). record { mask = 0; first = 0; end = 0 }) }
+        ensures spans { result.spans ≡ table 256 (λ (i : ℕ). record { from = 0; to = 0 }) }
     {
         Self {
             rows: [Row {

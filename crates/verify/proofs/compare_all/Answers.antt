@@ -3,9 +3,9 @@ use mathlib.Core.Path.{refl, sym, ◌∙◌}
 use native.Mathlib.Omega.{arith}
 use Rattle.base.specs.Tables.{table}
 use Rattle.schedule.proofs.Steps.{start-few, passing, after}
-use Rattle.verify.proofs.Channels.{control-starts, units-read, count-ready, sums-due, going-first, due, planned, few-both, going_more, going-pass, going_wrong, going_end}
+use Rattle.verify.proofs.Channels.{control-starts, units-read, count-ready, sums-due, going-first, due, planned, few-both, going_more, going-pass, going_end}
 use Rattle.verify.proofs.compare_all.Goals as goal
-use Rattle.verify.proofs.compare_all.Goals.{then-present+in_ok-weight, else-present}
+use Rattle.verify.proofs.compare_all.Goals.{then-present, else-present}
 
 pub started-control-requires : goal.started-control-requires
 started-control-requires c = control-starts c.args.plan.now c.args.p c.requires
@@ -35,15 +35,9 @@ pub compare_channel-requires : goal.compare_channel-requires
 compare_channel-requires c =
     (_, planned c.loop-turn.invariant c.loop-turn-test.true c.channel_at-ch.ensures (sym c.present.ensures ∙ c.if-present.true), c.loop-turn.invariant.shared)
 
-pub overflow_add-weight : goal.overflow_add-weight
-overflow_add-weight c =
-    let few = few-both c.loop-turn.invariant c.loop-turn-test.true c.channel_at-ch.ensures (sym c.present.ensures ∙ c.if-present.true) _ c.in_ok-weight.ensures in
-    omega (arith, few.0, few.1)
-
-pub returns-in_err-weight : goal.returns-in_err-weight
-returns-in_err-weight c =
-    rw c.from_residual.ensures
-    (going_wrong c.loop-turn.invariant c.loop-turn-test.true c.channel_at-ch.ensures (sym c.present.ensures ∙ c.if-present.true) c.in_err-weight.ensures)
+pub together-seen-requires : goal.together-seen-requires
+together-seen-requires c =
+    few-both c.loop-turn.invariant c.loop-turn-test.true c.channel_at-ch.ensures (sym c.present.ensures ∙ c.if-present.true) _ c.compare_channel.ensures
 
 pub next-turn-requires : goal.next-turn-requires
 next-turn-requires c =
@@ -54,9 +48,9 @@ loop-turn-preserved c =
     let so = c.loop-turn.invariant in let is = c.channel_at-ch.ensures in let has = c.present.ensures in
     let next = after c.next-turn.ensures (passing (due so c.loop-turn-test.true) is c.section_of-section.ensures) in
     elim c.if-present.branch [
-      | then-present+in_ok-weight w ↦
-          rw w.weight-is (going_more so c.loop-turn-test.true is _ next (sym has ∙ w.if-present.true) _ w.in_ok-weight.ensures refl)
-      | else-present w ↦ rw w.weight-is (going-pass so c.loop-turn-test.true is _ next (sym has ∙ w.if-present.false))
+      | then-present w ↦
+          rw w.seen-is (going_more so c.loop-turn-test.true is _ next (sym has ∙ w.if-present.true) _ w.compare_channel.ensures w.together-seen.ensures)
+      | else-present w ↦ rw w.seen-is (going-pass so c.loop-turn-test.true is _ next (sym has ∙ w.if-present.false))
     ]
 
 pub returns : goal.returns
