@@ -85,11 +85,11 @@ one_at r k l m n = eqb→eq 1 (get_or (get_or codewords r []) k 0) (test (eqb k 
 
 -- so the code's bit is the specification's
 module _ (cfi i : ℕ) (some : 1 ≤ cfi) (most : cfi ≤ 3) where
-  codeword-zero : i % 3 + 1 ≡ cfi → 0 ≡ cfi_bit cfi i
+  pub codeword-zero : i % 3 + 1 ≡ cfi → 0 ≡ cfi_bit cfi i
   unfolding cfi_bit
   codeword-zero e = let r : cfi - 1 ≡ i % 3 = omega arith in rw r (zero-at (i % 3) (omega arith))
 
-  codeword-one : (i % 3 + 1 ≡ cfi → ⊥) → 1 ≡ cfi_bit cfi i
+  pub codeword-one : (i % 3 + 1 ≡ cfi → ⊥) → 1 ≡ cfi_bit cfi i
   unfolding cfi_bit
   codeword-one n = one_at (cfi - 1) (i % 3) (omega arith) (omega arith) (λ e. n (omega arith))
 

@@ -1,2 +1,2 @@
--- The law that the proof of `lend` cites.
+-- The law that the proof of `grid_in` cites.
 pub mod Largest

@@ -38,6 +38,19 @@ impl fmt::Display for Sign {
     }
 }
 
+// The signs of places side by side. A row is written as a whole: sign by sign each would have a buffer of its own.
+#[derive(Clone, Copy)]
+struct Signs<'a>(&'a [u16]);
+
+impl<'a> fmt::Display for Signs<'a> {
+    fn fmt<W: fmt::Write>(&self, f: &mut fmt::Formatter<W>) -> fmt::Result {
+        for n in self.0 {
+            Sign(*n).fmt(f)?;
+        }
+        Ok(())
+    }
+}
+
 // Symbol s of a band.
 fn symbol_line(
     rt: &impl Print,
@@ -50,11 +63,7 @@ fn symbol_line(
 {
     let mut row = [513u16; 36];
     legend::owner_row(plan, s, first, &mut row);
-    print!(rt; "{s:>2} |")?;
-    for n in &row[..places] {
-        print!(rt; "{}", Sign(*n))?;
-    }
-    println!(rt)
+    println!(rt; "{s:>2} |{}", Signs(&row[..places]))
 }
 
 // The numbers of the subcarriers that the band's blocks start with, each above the 24 columns of its block.

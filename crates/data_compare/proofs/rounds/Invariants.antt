@@ -1,4 +1,4 @@
--- `data_compare::sides` meets its contract. Invariant: the sums tell of the pairs before i. Assumes nothing.
+-- `data_compare::rounds` meets its contract. Invariant: the sums tell of the pairs before i. Assumes nothing.
 use Rattle.data_compare.specs.Places.{Pairs}
 use Rattle.data_compare.proofs.rounds.Given as goal
 

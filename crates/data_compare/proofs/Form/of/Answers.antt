@@ -1,4 +1,4 @@
--- `data_compare::form_of` meets its contract. Assumes nothing.
+-- `data_compare::Form::of` meets its contract. Assumes nothing.
 use Prim.Native.Nat.{◌^◌, ◌/◌, ◌≤◌}
 use native.Mathlib.Omega.{arith}
 use lib.Pow.{pow_mono}

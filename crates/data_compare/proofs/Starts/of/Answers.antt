@@ -1,4 +1,4 @@
--- `data_compare::starts_of` meets its contract. Assumes nothing.
+-- `data_compare::Starts::of` meets its contract. Assumes nothing.
 use native.Mathlib.Omega.{arith}
 use Rattle.walk.proofs.Addresses.{offsets-small}
 use Rattle.data_compare.proofs.Pairs.{starting}
