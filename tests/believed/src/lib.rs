@@ -15,7 +15,10 @@ pub type Place = (String, String);
 pub type Book = BTreeMap<String, Module>;
 
 /// Names that need no import.
-const BUILT_IN: [&str; 7] = ["Type", "Unit", "⊥", "×", "result", "Result", "Option"];
+const BUILT_IN: [&str; 5] = ["Type", "Unit", "⊥", "×", "result"];
+
+/// Types of the kit that a source names with no import. Where a file imports the name, or has its own, it is followed like any other.
+const IN_SOURCES: [&str; 2] = ["Result", "Option"];
 
 #[derive(Default)]
 pub struct Reached<'a> {
@@ -61,7 +64,7 @@ fn follow<'a>(book: &'a Book, statements: BTreeMap<Place, &'a Text>, out: &[Plac
     while let Some((place, text)) = todo.pop() {
         for word in text.names.iter().filter(|word| !BUILT_IN.contains(&word.as_str())) {
             let found = resolve(book, &place.0, word);
-            if found.is_empty() && !text.bound.contains(word) {
+            if found.is_empty() && !text.bound.contains(word) && !IN_SOURCES.contains(&word.as_str()) {
                 reached.unknown.insert((place.clone(), word.clone()));
             }
             for found in found.into_iter().filter(|found| !out.contains(found)) {
