@@ -54,6 +54,22 @@ thrice n = twice n + n
 }
 
 #[test]
+fn types_of_the_kit_are_listed_where_a_file_imports_them() {
+    let calls = "ghost use Rattle.low.specs.Low.{answer};\n
+pub fn f(x: &[u8]) -> Result<usize, u8>\n    ensures told { answer result }\n{\n    other(x)\n}\n";
+    let low = "
+use Rattle.std.specs.Prelude.{ℕ, Result}
+
+abbrev pub answer : Result ℕ ℕ → Type 0
+answer r = Unit
+";
+    let book = book(&[(CALLS, calls), (SPECS, low)]);
+    let reached = reach(&book, &[place(CALLS, "f")], &[]).unwrap();
+    assert!(reached.unknown.is_empty(), "{:?}", reached.unknown);
+    assert!(reached.kit.contains(&place("Rattle.std.specs.Prelude", "Result")), "{:?}", reached.kit);
+}
+
+#[test]
 fn operators_and_escaped_names() {
     let calls = calls("Rattle.low.specs.Low.{choice}", "result ≡ choice x.now");
     let low = "
